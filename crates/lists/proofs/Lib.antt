@@ -1,0 +1,5 @@
+-- Laws of tests and lists.
+--     Tests      by whether a test is true; what a test of two parts says
+--     Lists      tests over a list, how many pass, the first number that passes
+pub mod Tests
+pub mod Lists

@@ -1,0 +1,2 @@
+-- Laws of the numbers given back.
+pub mod Numbers

@@ -1,0 +1,11 @@
+-- The theory of rounds on a graph whose named nodes all exist (`Closed`).
+--     Reasons    why a node is at most k in a round: the only place that looks into the definition of a round
+--     Order      rounds fall; a settled round is the largest assignment that obeys the rules, and there is one such only
+--     Size       how large a finite value can be
+--     Chain      a change comes from a change one round earlier
+--     Count      the count is the first unchanged round, there is one such only, and it is at most n (c + 1)
+pub mod Reasons
+pub mod Order
+pub mod Size
+pub mod Chain
+pub mod Count

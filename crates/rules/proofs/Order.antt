@@ -1,0 +1,70 @@
+-- Rounds keep the order of assignments and fall; a round that is settled is the largest assignment that obeys the rules.
+-- Assumes nothing.
+use mathlib.Core.Path.{sym, _∙_}
+use Prim.Native.Nat.{ℕ, zero, suc, _≤_}
+use native.Mathlib.Nat.{le-suc, le-trans}
+use native.Mathlib.Decide.{le-ind}
+use native.Mathlib.Omega.{arith}
+use Rattle.value.specs.Value.{Value, plus, _≼_, _⊑_}
+use Rattle.rules.specs.Graph.{Graph, Closed}
+use Rattle.rules.specs.Rounds.{Assignment, round, rounds, Agree, Obeys, Settled, Below, Largest}
+use Rattle.value.proofs.Values.{plus-≼, ≼-plus, ⊑-refl, ⊑-trans, ⊑-of-eq, ⊑-inf, ⊑-antisym, meets-mono}
+use Rattle.rules.proofs.Reasons.{Reason, by-cover, by-hyper, reason, at-most}
+
+-- a target's sum falls with its value
+pub plus-mono : (w : ℕ) {a b : Value} {k : ℕ} → a ⊑ b → plus w b ≼ k → plus w a ≼ k
+plus-mono w {a} {b} h p = let q = ≼-plus w b p in plus-≼ w a (h .carries (q .1)) (omega arith)
+
+module _ (g : Graph) (closed : Closed g) where
+  -- a reason under y is a reason under any x below y
+  pub reason-mono : {x y : Assignment} {v k : ℕ} → Below g x y → Reason g y v k → Reason g x v k
+  reason-mono h (by-cover c m s e) = by-cover c m s (meets-mono (c .bound) (h (c .target) (closed .cover m)) e)
+  reason-mono h (by-hyper e m s f) = by-hyper e m s (λ t n. plus-mono (t .weight) (h (t .node) (closed .hyper m n)) (f t n))
+
+  -- a smaller assignment has a smaller round
+  pub round-mono : {x y : Assignment} → Below g x y → Below g (round g x) (round g y)
+  round-mono {x} {y} h v l = record { carries = λ p. at-most g x v (reason-mono h (reason g y v p)) }
+
+  -- a round depends on the values of the nodes alone
+  pub round-agree : {x y : Assignment} → Agree g x y → Agree g (round g x) (round g y)
+  round-agree e v l = ⊑-antisym (round-mono (λ u k. ⊑-of-eq (e u k)) v l) (round-mono (λ u k. ⊑-of-eq (sym (e u k))) v l)
+
+  -- so an assignment that holds round i gives round i + 1
+  pub rounds-next : {x : Assignment} (i : ℕ) → Agree g x (rounds g i) → Agree g (round g x) (rounds g (suc i))
+  unfolding rounds
+  rounds-next i e v l = round-agree e v l
+
+  -- a round is at most the one before it, and any one before it
+  pub rounds-fall : (i : ℕ) → Below g (rounds g (suc i)) (rounds g i)
+  unfolding rounds
+  rounds-fall zero v l = ⊑-inf
+  rounds-fall (suc i) v l = round-mono (rounds-fall i) v l
+
+  pub rounds-antitone : {i j : ℕ} → i ≤ j → Below g (rounds g j) (rounds g i)
+  rounds-antitone {i} {j} h v l =
+      le-ind (λ (m : ℕ). rounds g m v ⊑ rounds g i v) ⊑-refl (λ m k e. ⊑-trans (rounds-fall m v l) e) j h
+
+  -- an assignment that obeys the rules is below every round
+  pub obeys-below : {a : Assignment} → Obeys g a → (i : ℕ) → Below g a (rounds g i)
+  unfolding rounds
+  obeys-below o zero v l = ⊑-inf
+  obeys-below o (suc i) v l = ⊑-trans (⊑-of-eq (sym (o v l))) (round-mono (obeys-below o i) v l)
+
+  -- a settled round obeys the rules, and is the largest that does
+  pub settled-obeys : (i : ℕ) → Settled g i → Obeys g (rounds g i)
+  unfolding rounds
+  settled-obeys i s v l = s v l
+
+  pub settled-largest : (i : ℕ) → Settled g i → Largest g (rounds g i)
+  settled-largest i s = record { obeys = settled-obeys i s; largest = λ y o. obeys-below o i }
+
+  -- and every later round equals it
+  pub settled-stays : {i j : ℕ} → Settled g i → i ≤ j → Agree g (rounds g j) (rounds g i)
+  settled-stays {i} {j} s h v l = ⊑-antisym (rounds-antitone h v l) (obeys-below (settled-obeys i s) j v l)
+
+  pub settled-later : {i j : ℕ} → Settled g i → i ≤ j → Settled g j
+  settled-later {i} {j} s h v l = settled-stays s (le-trans h (le-suc j)) v l ∙ sym (settled-stays s h v l)
+
+-- there is one largest assignment only
+pub largest-unique : (g : Graph) (x y : Assignment) → Largest g x → Largest g y → Agree g x y
+largest-unique g x y p q v l = ⊑-antisym (q .largest x (p .obeys) v l) (p .largest y (q .obeys) v l)

@@ -1,0 +1,3 @@
+pub mod Graph
+pub mod Rounds
+pub mod Count

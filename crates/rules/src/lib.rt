@@ -1,0 +1,1 @@
+// The rules of a graph: definitions and laws, no code.

@@ -1,0 +1,50 @@
+// The value of a node, and the bound of a cover edge.
+ghost use mathlib.Core.Path.{_≡_};
+ghost use Rattle.value.specs.Value.{plus, greatest, least, meets};
+ghost use Rattle.value.specs.Stored.{meaning, stored};
+
+// How large a value may be: at most a number, or anything finite.
+pub enum Bound {
+    Within(u32),
+    Unbounded,
+}
+
+// A whole number or infinity, as it is stored.
+pub struct Value(pub u64);
+
+impl Value {
+    pub const INFINITE: Value = Value(18446744073709551615);
+
+    // This and a weight: one test serves infinity and a sum that no 64 bits hold.
+    pub fn add(self, weight: u32) -> Value
+        ensures { λ r. ⌜ r .0 ≡ stored (plus weight (meaning (self .0))) ⌝ }
+    {
+        let wide = weight as u64;
+        if Value::INFINITE.0 - wide <= self.0 {
+            return Value::INFINITE;
+        }
+        Value(wide + self.0)
+    }
+
+    pub fn greatest(self, other: Value) -> Value
+        ensures { λ r. ⌜ r .0 ≡ stored (greatest (meaning (self .0)) (meaning (other .0))) ⌝ }
+    {
+        if self.0 < other.0 { other } else { self }
+    }
+
+    pub fn least(self, other: Value) -> Value
+        ensures { λ r. ⌜ r .0 ≡ stored (least (meaning (self .0)) (meaning (other .0))) ⌝ }
+    {
+        if self.0 < other.0 { self } else { other }
+    }
+
+    // Whether this is within a bound.
+    pub fn within(self, bound: Bound) -> bool
+        ensures { λ r. ⌜ r ≡ meets bound (meaning (self .0)) ⌝ }
+    {
+        match bound {
+            Bound::Within(k) => self.0 <= k as u64,
+            Bound::Unbounded => self.0 < Value::INFINITE.0,
+        }
+    }
+}
