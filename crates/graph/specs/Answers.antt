@@ -1,0 +1,34 @@
+-- What the checking functions answer, from what the reading gives.
+use Prim.Native.Nat.{ℕ}
+use mathlib.Core.List.{List}
+use mathlib.Core.Path.{_≡_}
+use lib.ListN.{length}
+use Rattle.refusal.specs.Number.{ok, numberOf}
+use Rattle.wire.specs.Read.{Read, good, bad}
+use Rattle.rules.specs.Graph.{Graph}
+use Rattle.graph.specs.Message.{Counts}
+use Rattle.graph.specs.Write.{writeGraph}
+use Rattle.graph.specs.WellFormed.{WellFormed}
+use Rattle.graph.specs.declared.State.{State}
+use Rattle.graph.specs.declared.Step.{Step}
+use Rattle.graph.specs.declared.Step.the-variants as Step
+use Rattle.graph.specs.declared.Checked.{Checked}
+use Rattle.graph.specs.declared.Checked.the-variants as Checked
+
+unfoldable pub step : Read State → Step
+step (good st) = Step.Next st
+step (bad e) = Step.Refused e
+
+unfoldable pub counted : Read Counts → Checked
+counted (good k) = Checked.Graph (k .n) (k .h) (k .c)
+counted (bad e) = Checked.Refused e
+
+-- an accepted graph with its counts, or the first fault
+unfoldable pub checked : Read Graph → Checked
+checked (good g) = Checked.Graph (g .nodes) (length (g .hypers)) (length (g .covers))
+checked (bad e) = Checked.Refused e
+
+-- the paper's number of an answer
+abbrev pub checkedNumber : Checked → ℕ
+checkedNumber (Checked.Graph n h c) = ok
+checkedNumber (Checked.Refused e) = numberOf e

@@ -1,0 +1,6 @@
+pub mod Bound
+pub mod Message
+pub mod Write
+pub mod WellFormed
+pub mod Answers
+pub mod Layouts

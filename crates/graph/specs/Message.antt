@@ -1,0 +1,117 @@
+-- The reading of a graph message s: its first fault in the paper's order, or the graph.
+-- A state's `at` is a position in s, `prev` the source before, and `total` the targets so far.
+use Prim.Native.Nat.{ℕ, _+_, _*_}
+use mathlib.Core.List.{List}
+use lib.ListN.{length}
+use lib.Dec.{leb, ltb, eqb}
+use Rattle.refusal.specs.declared.Refusal.the-variants.{Length, Limit, Order, Name}
+use Rattle.wire.specs.Read.{Read, good, _>>=_, _>>_, demand, field}
+use Rattle.wire.specs.Reader.{Reader, readAll, past}
+use Rattle.wire.specs.Start.{readStart}
+use Rattle.rules.specs.Graph.{Graph, Hyper, Cover, Target}
+use Rattle.graph.specs.Bound.{boundOf}
+use Rattle.graph.specs.declared.State.{State}
+
+-- where a hyperedge's targets start
+abbrev pub firstTarget : State → State
+firstTarget st = record { at = st .at + 4; prev = st .prev; total = st .total }
+
+-- the state past a hyperedge
+abbrev pub afterHyper : State → ℕ → ℕ → State
+afterHyper st source count = record { at = st .at + 4 + count * 6; prev = source; total = st .total + count }
+
+module _ (s : List ℕ) (n : ℕ) where
+  -- a target: weight (4) and node (2)
+  unfoldable pub readTarget : State → Read Target
+  readTarget st = do
+    weight ← field 4 s (st .at)
+    node ← field 2 s (st .at + 4)
+    demand (ltb node n) Name
+    good (record { weight = weight; node = node })
+
+  abbrev pub targets : Reader State Target
+  targets = record {
+    position = λ st. st .at;
+    read = readTarget;
+    next = λ st t. record { at = st .at + 6; prev = st .prev; total = st .total };
+  }
+
+  -- the targets of a hyperedge: the running total's limit, then their bytes fit, then each
+  unfoldable pub readTargets : State → ℕ → ℕ → Read Hyper
+  readTargets st source count = do
+    demand (leb (st .total + count) 262144) Limit
+    demand (leb (st .at + 4 + count * 6) (length s)) Length
+    ts ← readAll targets count (firstTarget st)
+    good (record { source = source; targets = ts })
+
+  -- a hyperedge: source (2), target count (2), and its targets
+  unfoldable pub readHyper : State → Read Hyper
+  readHyper st = do
+    source ← field 2 s (st .at)
+    count ← field 2 s (st .at + 2)
+    demand (ltb source n) Name
+    demand (leb (st .prev) source) Order
+    readTargets st source count
+
+  abbrev pub hypers : Reader State Hyper
+  hypers = record {
+    position = λ st. st .at;
+    read = readHyper;
+    next = λ st h. afterHyper st (h .source) (length (h .targets));
+  }
+
+  -- the state past the targets of a hyperedge
+  abbrev pub afterTargets : State → ℕ → ℕ → Read State
+  afterTargets st source count = readTargets st source count >>= λ h. good (hypers .next st h)
+
+  -- a cover edge: source (2), bound (4), target (2)
+  unfoldable pub readCover : State → Read Cover
+  readCover st = do
+    source ← field 2 s (st .at)
+    bound ← field 4 s (st .at + 2)
+    target ← field 2 s (st .at + 6)
+    demand (ltb source n) Name
+    demand (leb (st .prev) source) Order
+    demand (ltb target n) Name
+    good (record { source = source; bound = boundOf bound; target = target })
+
+  abbrev pub covers : Reader State Cover
+  covers = record {
+    position = λ st. st .at;
+    read = readCover;
+    next = λ st c. record { at = st .at + 8; prev = c .source; total = st .total };
+  }
+
+-- the counts of a header
+pub record Counts : Type 0 where
+  pub n : ℕ
+  pub h : ℕ
+  pub c : ℕ
+
+-- the header, 14 bytes, version 1, kind 1: then n (2), h (4), c (2)
+unfoldable pub readHeader : List ℕ → Read Counts
+readHeader s = do
+  readStart s 14 1 1
+  n ← field 2 s 6
+  demand (leb 1 n) Limit
+  demand (leb n 4096) Limit
+  h ← field 4 s 8
+  demand (leb h 65535) Limit
+  c ← field 2 s 12
+  demand (leb c 4096) Limit
+  good (record { n = n; h = h; c = c })
+
+-- where the records of a list start
+abbrev pub start : ℕ → State
+start at = record { at = at; prev = 0; total = 0 }
+
+-- a whole message: the header, the hyperedges, the cover edges, and nothing left over
+unfoldable pub readGraph : List ℕ → Read Graph
+readGraph s = do
+  counts ← readHeader s
+  hs ← readAll (hypers s (counts .n)) (counts .h) (start 14)
+  let middle = past (hypers s (counts .n)) (start 14) hs .at
+  cs ← readAll (covers s (counts .n)) (counts .c) (start middle)
+  let end = past (covers s (counts .n)) (start middle) cs .at
+  demand (eqb end (length s)) Length
+  good (record { nodes = counts .n; hypers = hs; covers = cs })

@@ -1,0 +1,29 @@
+-- The bytes of a graph message.
+use Prim.Native.Nat.{ℕ}
+use mathlib.Core.List.{List, _++_}
+use lib.ListN.{length}
+use Rattle.wire.specs.Bytes.{bytes}
+use Rattle.wire.specs.Write.{writeAll, message}
+use Rattle.rules.specs.Graph.{Graph, Hyper, Cover, Target}
+use Rattle.graph.specs.Bound.{codeOf}
+
+-- weight (4) and node (2)
+unfoldable pub writeTarget : Target → List ℕ
+writeTarget t = bytes 4 (t .weight) ++ bytes 2 (t .node)
+
+-- source (2), target count (2), and the targets
+unfoldable pub writeHyper : Hyper → List ℕ
+writeHyper h = bytes 2 (h .source) ++ bytes 2 (length (h .targets)) ++ writeAll writeTarget (h .targets)
+
+-- source (2), bound (4), target (2)
+unfoldable pub writeCover : Cover → List ℕ
+writeCover c = bytes 2 (c .source) ++ bytes 4 (codeOf (c .bound)) ++ bytes 2 (c .target)
+
+-- n (2), h (4), c (2), the hyperedges, the cover edges
+unfoldable pub writeBody : Graph → List ℕ
+writeBody g =
+    bytes 2 (g .nodes) ++ bytes 4 (length (g .hypers)) ++ bytes 2 (length (g .covers))
+    ++ writeAll writeHyper (g .hypers) ++ writeAll writeCover (g .covers)
+
+unfoldable pub writeGraph : Graph → List ℕ
+writeGraph g = message 1 1 (writeBody g)

@@ -1,0 +1,282 @@
+// The check of a graph message: the first fault in the paper's order, or the counts of its header.
+ghost use mathlib.Core.Path.{_≡_};
+ghost use Prim.Native.Nat.{_+_, _*_, _≤_};
+ghost use lib.ListN.{length};
+ghost use Rattle.wire.specs.Reader.{one, run};
+ghost use Rattle.graph.specs.Message as m;
+ghost use Rattle.graph.specs.Answers as answers;
+ghost use Rattle.graph.specs.Bound.{boundOf};
+use refusal::Refusal;
+use value::Bound;
+use wire::Field;
+use wire::Opened;
+use wire::Width;
+
+// Where a reading of records stands: the position, the source before, and the targets so far.
+pub struct State {
+    pub at: usize,
+    pub prev: u32,
+    pub total: u32,
+}
+
+// The state past what was read, or the first fault.
+pub enum Step {
+    Next(State),
+    Refused(Refusal),
+}
+
+// How many nodes, hyperedges and cover edges an accepted message has, or its first fault.
+pub enum Checked {
+    Graph(u32, u32, u32),
+    Refused(Refusal),
+}
+
+// The bound of four bytes: 4,294,967,295 means no bound.
+pub fn bound_of(code: u32) -> Bound
+    ensures { λ r. ⌜ r ≡ boundOf code ⌝ }
+{
+    if code == 4294967295 {
+        return Bound::Unbounded;
+    }
+    Bound::Within(code)
+}
+
+// One target.
+fn target(s: &[u8], n: u32, st: State) -> Step
+    requires { ⌜ st .at ≤ length (now s) ⌝ }
+    ensures { λ r. ⌜ r ≡ answers.step (one (m.targets (now (s .entry)) n) st) ⌝ }
+{
+    let at = st.at;
+    let Field::Number(_) = wire::read(s, at, Width::Four) else {
+        return Step::Refused(Refusal::Length);
+    };
+    let node_at = at + 4;
+    let Field::Number(node) = wire::read(s, node_at, Width::Two) else {
+        return Step::Refused(Refusal::Length);
+    };
+    if n <= node {
+        return Step::Refused(Refusal::Name);
+    }
+    let end = at + 6;
+    Step::Next(State {
+        at: end,
+        prev: st.prev,
+        total: st.total,
+    })
+}
+
+// k targets, whose bytes fit.
+fn targets(s: &[u8], n: u32, k: u32, first: State) -> Step
+    requires { ⌜ first .at + k * 6 ≤ length (now s) ⌝ }
+    ensures { λ r. ⌜ r ≡ answers.step (run (m.targets (now (s .entry)) n) k first) ⌝ }
+{
+    let mut st = first;
+    let mut i = k;
+    while 0 < i {
+        let read = target(s, n, st);
+        let Step::Next(next) = read else {
+            return read;
+        };
+        st = next;
+        i -= 1;
+    }
+    Step::Next(st)
+}
+
+// One hyperedge.
+fn hyper(s: &[u8], n: u32, st: State) -> Step
+    requires { ⌜ (st .at ≤ length (now s)) × (st .total ≤ 262144) ⌝ }
+    ensures { λ r. ⌜ r ≡ answers.step (one (m.hypers (now (s .entry)) n) st) ⌝ }
+{
+    let at = st.at;
+    let Field::Number(source) = wire::read(s, at, Width::Two) else {
+        return Step::Refused(Refusal::Length);
+    };
+    let count_at = at + 2;
+    let Field::Number(count) = wire::read(s, count_at, Width::Two) else {
+        return Step::Refused(Refusal::Length);
+    };
+    if n <= source {
+        return Step::Refused(Refusal::Name);
+    }
+    if source < st.prev {
+        return Step::Refused(Refusal::Order);
+    }
+    hyper_targets(s, n, st, source, count)
+}
+
+// The targets of a hyperedge of this source and so many targets.
+fn hyper_targets(s: &[u8], n: u32, st: State, source: u32, count: u32) -> Step
+    requires { ⌜ (st .at + 4 ≤ length (now s)) × (st .total ≤ 262144) × (count ≤ 65535) ⌝ }
+    ensures { λ r. ⌜ r ≡ answers.step (m.afterTargets (now (s .entry)) n st source count) ⌝ }
+{
+    let total = st.total;
+    if 262144 - total < count {
+        return Step::Refused(Refusal::Limit);
+    }
+    let first = st.at + 4;
+    let end = first + (count as usize) * 6;
+    if s.len() < end {
+        return Step::Refused(Refusal::Length);
+    }
+    let read = targets(
+        s,
+        n,
+        count,
+        State {
+            at: first,
+            prev: st.prev,
+            total,
+        },
+    );
+    let Step::Next(_) = read else {
+        return read;
+    };
+    let so_far = total + count;
+    Step::Next(State {
+        at: end,
+        prev: source,
+        total: so_far,
+    })
+}
+
+// k hyperedges.
+fn hypers(s: &[u8], n: u32, k: u32, first: State) -> Step
+    requires { ⌜ (first .at ≤ length (now s)) × (first .total ≤ 262144) ⌝ }
+    ensures { λ r. ⌜ r ≡ answers.step (run (m.hypers (now (s .entry)) n) k first) ⌝ }
+{
+    let mut st = first;
+    let mut i = k;
+    while 0 < i {
+        let read = hyper(s, n, st);
+        let Step::Next(next) = read else {
+            return read;
+        };
+        st = next;
+        i -= 1;
+    }
+    Step::Next(st)
+}
+
+// One cover edge.
+fn cover(s: &[u8], n: u32, st: State) -> Step
+    requires { ⌜ st .at ≤ length (now s) ⌝ }
+    ensures { λ r. ⌜ r ≡ answers.step (one (m.covers (now (s .entry)) n) st) ⌝ }
+{
+    let at = st.at;
+    let Field::Number(source) = wire::read(s, at, Width::Two) else {
+        return Step::Refused(Refusal::Length);
+    };
+    let bound_at = at + 2;
+    let Field::Number(_) = wire::read(s, bound_at, Width::Four) else {
+        return Step::Refused(Refusal::Length);
+    };
+    let target_at = at + 6;
+    let Field::Number(target) = wire::read(s, target_at, Width::Two) else {
+        return Step::Refused(Refusal::Length);
+    };
+    if n <= source {
+        return Step::Refused(Refusal::Name);
+    }
+    if source < st.prev {
+        return Step::Refused(Refusal::Order);
+    }
+    if n <= target {
+        return Step::Refused(Refusal::Name);
+    }
+    let end = at + 8;
+    Step::Next(State {
+        at: end,
+        prev: source,
+        total: st.total,
+    })
+}
+
+// k cover edges.
+fn covers(s: &[u8], n: u32, k: u32, first: State) -> Step
+    requires { ⌜ first .at ≤ length (now s) ⌝ }
+    ensures { λ r. ⌜ r ≡ answers.step (run (m.covers (now (s .entry)) n) k first) ⌝ }
+{
+    let mut st = first;
+    let mut i = k;
+    while 0 < i {
+        let read = cover(s, n, st);
+        let Step::Next(next) = read else {
+            return read;
+        };
+        st = next;
+        i -= 1;
+    }
+    Step::Next(st)
+}
+
+// The header.
+fn header(s: &[u8]) -> Checked
+    ensures { λ r. ⌜ r ≡ answers.counted (m.readHeader (now (s .entry))) ⌝ }
+{
+    if let Opened::Refused(e) = wire::open(s, 14, 1, 1) {
+        return Checked::Refused(e);
+    }
+    let Field::Number(n) = wire::read(s, 6, Width::Two) else {
+        return Checked::Refused(Refusal::Length);
+    };
+    if n < 1 {
+        return Checked::Refused(Refusal::Limit);
+    }
+    if 4096 < n {
+        return Checked::Refused(Refusal::Limit);
+    }
+    let Field::Number(h) = wire::read(s, 8, Width::Four) else {
+        return Checked::Refused(Refusal::Length);
+    };
+    if 65535 < h {
+        return Checked::Refused(Refusal::Limit);
+    }
+    let Field::Number(c) = wire::read(s, 12, Width::Two) else {
+        return Checked::Refused(Refusal::Length);
+    };
+    if 4096 < c {
+        return Checked::Refused(Refusal::Limit);
+    }
+    Checked::Graph(n, h, c)
+}
+
+// A whole graph message: the counts of its header, or its first fault.
+pub fn check(s: &[u8]) -> Checked
+    ensures { λ r. ⌜ r ≡ answers.checked (m.readGraph (now (s .entry))) ⌝ }
+{
+    let head = header(s);
+    let Checked::Graph(n, h, c) = head else {
+        return head;
+    };
+    let middle = match hypers(
+        s,
+        n,
+        h,
+        State {
+            at: 14,
+            prev: 0,
+            total: 0,
+        },
+    ) {
+        Step::Next(st) => st.at,
+        Step::Refused(e) => return Checked::Refused(e),
+    };
+    let end = match covers(
+        s,
+        n,
+        c,
+        State {
+            at: middle,
+            prev: 0,
+            total: 0,
+        },
+    ) {
+        Step::Next(st) => st.at,
+        Step::Refused(e) => return Checked::Refused(e),
+    };
+    if end != s.len() {
+        return Checked::Refused(Refusal::Length);
+    }
+    head
+}

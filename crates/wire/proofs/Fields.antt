@@ -1,0 +1,41 @@
+-- What a field that is there, or too short, says of the bytes. Assumes nothing.
+use Prim.Native.Nat.{ℕ, _+_, _<_, _≤_}
+use mathlib.Core.Path.{_≡_, refl, sym, _∙_}
+use mathlib.Core.List.{List}
+use mathlib.Core.Bool.{Bool, true, false, cond}
+use lib.ListN.{length}
+use lib.Dec.{leb}
+use borrow.Author.Tests.{lt-leb, le-leb, leb-true}
+use native.Mathlib.Omega.{arith}
+use Rattle.wire.specs.Bytes.{number}
+use Rattle.wire.specs.Field.{widthOf, fieldAt}
+use Rattle.wire.specs.declared.Width.{Width}
+use Rattle.wire.specs.declared.Width.the-variants.{One, Two, Four}
+use Rattle.wire.specs.declared.Field.the-variants.{Number, Short}
+
+pub field-short : (k : ℕ) (s : List ℕ) (at : ℕ) → length s < at + k → fieldAt k s at ≡ Short
+unfolding fieldAt
+field-short k s at h = rw (lt-leb (at + k) (length s) h)
+
+pub field-value : (k : ℕ) (s : List ℕ) (at : ℕ) → at + k ≤ length s → fieldAt k s at ≡ Number (number k s at)
+unfolding fieldAt
+field-value k s at h = rw (le-leb (at + k) (length s) h)
+
+-- a field with a value lies inside
+pub value-inside : (k : ℕ) (s : List ℕ) (at : ℕ) {n : ℕ} → fieldAt k s at ≡ Number n → at + k ≤ length s
+unfolding fieldAt
+value-inside k s at {n} e = go (leb (at + k) (length s)) refl e
+  where
+    go : (t : Bool) → leb (at + k) (length s) ≡ t → cond t (Number (number k s at)) Short ≡ Number n → at + k ≤ length s
+    go true h e′ = leb-true (at + k) (length s) h
+    go false h e′ = let z : _≡_ {A = ℕ} 0 1 = cc in omega arith
+
+-- and is the number that stands there
+pub value-is : (k : ℕ) (s : List ℕ) (at : ℕ) {n : ℕ} → fieldAt k s at ≡ Number n → number k s at ≡ n
+value-is k s at {n} e = let there : Number n ≡ Number (number k s at) = sym e ∙ field-value k s at (value-inside k s at e) in cc
+
+-- no field has more than 4 bytes
+pub width-le : (w : Width) → widthOf w ≤ 4
+width-le One = omega arith
+width-le Two = omega arith
+width-le Four = omega arith

@@ -1,0 +1,56 @@
+-- The turns of a scan over records by position; a good reading gives the records that stand there. Assumes nothing.
+use Prim.Native.Nat.{ℕ, zero, suc, _-_, _<_}
+use mathlib.Core.List.{List, _∷_}
+use mathlib.Core.Path.{_≡_, refl, ap, ap₂, subst, _∙_}
+use native.Mathlib.Nat.{not-suc-le-zero}
+use native.Mathlib.Numerals.{sub-one}
+use Rattle.wire.specs.Read.{good}
+use Rattle.wire.specs.Reader.{Reader, readAll, past}
+use Rattle.wire.specs.Layout.{Layout, items, end, Sound, none, more}
+use Rattle.wire.proofs.Reading.{bind-good, good-same}
+
+module _ {A : Type 0} (L : Layout A) where
+  -- a loop's turn
+  pub items-more : (k at : ℕ) → 0 < k → items L k at ≡ L .item at ∷ items L (k - 1) (L .next at)
+  unfolding items
+  items-more zero at h = absurd (not-suc-le-zero h)
+  items-more (suc k) at h = simp sub-one
+
+  pub end-more : (k at : ℕ) → 0 < k → end L k at ≡ end L (k - 1) (L .next at)
+  unfolding end
+  end-more zero at h = absurd (not-suc-le-zero h)
+  end-more (suc k) at h = simp sub-one
+
+  pub end-none : (k at : ℕ) → k ≡ 0 → end L k at ≡ at
+  unfolding end
+  end-none k at h = ap (λ (j : ℕ). end L j at) h
+
+  pub sound-more : {k at : ℕ} → 0 < k → Sound L k at → L .Ok at × Sound L (k - 1) (L .next at)
+  sound-more h none = absurd (not-suc-le-zero h)
+  sound-more h (more ok s) = (ok, simp sub-one s)
+
+  -- the layout gives what a reader reads
+  pub record Reads {S : Type 0} (R : Reader S A) (st : S) (a : A) : Type 0 where
+    pub item-is : a ≡ L .item (R .position st)
+    pub next-is : R .position (R .next st a) ≡ L .next (R .position st)
+    pub ok : L .Ok (R .position st)
+
+  pub record ReadsAll {S : Type 0} (R : Reader S A) (k : ℕ) (st : S) (xs : List A) : Type 0 where
+    pub items-are : xs ≡ items L k (R .position st)
+    pub end-is : R .position (past R st xs) ≡ end L k (R .position st)
+    pub sound : Sound L k (R .position st)
+
+  pub reads-all : {S : Type 0} (R : Reader S A) → ((st : S) (a : A) → R .read st ≡ good a → Reads R st a) → (k : ℕ) (st : S) (xs : List A) → readAll R k st ≡ good xs → ReadsAll R k st xs
+  unfolding readAll past items end
+  reads-all R each zero st xs e = subst (ReadsAll R zero st) (good-same e) (record { items-are = refl; end-is = refl; sound = none })
+  reads-all R each (suc k) st xs e =
+      let a = bind-good _ _ e in
+      let r = bind-good _ _ (a .rest) in
+      let here = each st (a .value) (a .first) in
+      let others = reads-all R each k (R .next st (a .value)) (r .value) (r .first) in
+      subst (ReadsAll R (suc k) st) (good-same (r .rest))
+      (record {
+        items-are = ap₂ _∷_ (here .item-is) (others .items-are ∙ ap (items L k) (here .next-is));
+        end-is = others .end-is ∙ ap (end L k) (here .next-is);
+        sound = more (here .ok) (subst (Sound L k) (here .next-is) (others .sound));
+      })

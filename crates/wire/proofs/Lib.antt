@@ -1,0 +1,11 @@
+-- Laws of reading bytes.
+--     Bytes      big-endian numbers, over the width
+--     Fields     what a field that is there, or too short, says of the bytes
+--     Reading    how a reading goes on, and what a good one says
+--     Readers    the turns of a loop over records, and what a good reading of them says
+--     Layouts    records by position
+pub mod Bytes
+pub mod Fields
+pub mod Reading
+pub mod Readers
+pub mod Layouts

@@ -1,0 +1,7 @@
+pub mod Bytes
+pub mod Field
+pub mod Read
+pub mod Reader
+pub mod Start
+pub mod Write
+pub mod Layout

@@ -1,0 +1,109 @@
+// Numbers in message bytes, big-endian, over the width; and the start that all messages share.
+ghost use mathlib.Core.Path.{_≡_};
+ghost use Prim.Native.Nat.{_+_, _≤_};
+ghost use lib.ListN.{length};
+ghost use Rattle.wire.specs.Bytes.{number, put};
+ghost use Rattle.wire.specs.Field.{widthOf, fieldAt};
+ghost use Rattle.wire.specs.Start.{readStart, openedOf};
+use refusal::Refusal;
+
+// How many bytes a field has.
+pub enum Width {
+    One,
+    Two,
+    Four,
+}
+
+impl Width {
+    pub fn bytes(self) -> usize
+        ensures { λ r. ⌜ r ≡ widthOf self ⌝ }
+    {
+        match self {
+            Width::One => 1,
+            Width::Two => 2,
+            Width::Four => 4,
+        }
+    }
+}
+
+// What reading a field finds: its number, or too few bytes.
+pub enum Field {
+    Number(u32),
+    Short,
+}
+
+// The start of a message is as it should be, or its first fault.
+pub enum Opened {
+    Open,
+    Refused(Refusal),
+}
+
+// The number of a field that is known to fit.
+pub fn number_at(s: &[u8], at: usize, width: Width) -> u32
+    requires { ⌜ at + widthOf width ≤ length (now s) ⌝ }
+    ensures { λ r. ⌜ r ≡ number (widthOf width) (now (s .entry)) at ⌝ }
+{
+    let k = width.bytes();
+    let mut n: u32 = 0;
+    let mut i = 0;
+    while i < k {
+        n = n * 256 + (s[at + i] as u32);
+        i += 1;
+    }
+    n
+}
+
+// The field at a position.
+pub fn read(s: &[u8], at: usize, width: Width) -> Field
+    ensures { λ r. ⌜ r ≡ fieldAt (widthOf width) (now (s .entry)) at ⌝ }
+{
+    if s.len() < at {
+        return Field::Short;
+    }
+    if s.len() - at < width.bytes() {
+        return Field::Short;
+    }
+    Field::Number(number_at(s, at, width))
+}
+
+// Stores a number's bytes where they fit.
+pub fn store(b: &mut [u8], at: usize, width: Width, v: u32)
+    requires { ⌜ at + widthOf width ≤ length (now b) ⌝ }
+    ensures { λ _. ⌜ now (b .exit) ≡ put (now (b .entry)) at (widthOf width) v ⌝ }
+{
+    let mut i = width.bytes();
+    let mut rest = v;
+    while 0 < i {
+        i -= 1;
+        b[at + i] = (rest % 256) as u8;
+        rest /= 256;
+    }
+}
+
+// The start of a message: enough bytes for its header, its length field, version and kind.
+pub fn open(s: &[u8], header: usize, version: u32, kind: u32) -> Opened
+    ensures { λ r. ⌜ r ≡ openedOf (readStart (now (s .entry)) header version kind) ⌝ }
+{
+    if s.len() < header {
+        return Opened::Refused(Refusal::Length);
+    }
+    let Field::Number(total) = read(s, 0, Width::Four) else {
+        return Opened::Refused(Refusal::Length);
+    };
+    if total as usize != s.len() {
+        return Opened::Refused(Refusal::Length);
+    }
+    let Field::Number(v) = read(s, 4, Width::One) else {
+        return Opened::Refused(Refusal::Length);
+    };
+    if v != version {
+        return Opened::Refused(Refusal::Version);
+    }
+    let Field::Number(k) = read(s, 5, Width::One) else {
+        return Opened::Refused(Refusal::Length);
+    };
+    if k != kind {
+        return Opened::Refused(Refusal::Version);
+    }
+    Opened::Open
+}
