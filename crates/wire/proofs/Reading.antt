@@ -64,6 +64,11 @@ unfolding _>>=_
 bind-good (good a) f e = record { value = a; first = refl; rest = e }
 bind-good (bad r) f e = absurd (never e)
 
+pub and-good : {B : Type 0} (x : Read Unit) (r : Read B) {b : B} → x >> r ≡ good b → (x ≡ good tt) × (r ≡ good b)
+unfolding _>>_
+and-good (good a) r e = (refl, e)
+and-good (bad f) r e = absurd (never e)
+
 pub demand-good : {B : Type 0} (t : Bool) (e : Refusal) (r : Read B) {b : B} → demand t e >> r ≡ good b → (t ≡ true) × (r ≡ good b)
 unfolding _>>_ demand
 demand-good true e r h = (refl, h)

@@ -1,0 +1,156 @@
+-- What a good reading says: each field is there, each demand is met. Assumes nothing.
+use Prim.Native.Nat.{ℕ, _+_, _*_, _<_, _≤_}
+use mathlib.Core.List.{List}
+use mathlib.Core.Path.{_≡_, sym, ap, _∙_}
+use lib.ListN.{length}
+use borrow.Author.Tests.{ltb-true, leb-true}
+use native.Mathlib.Omega.{arith}
+use Rattle.wire.specs.declared.Field.the-variants.{Number}
+use Rattle.wire.specs.Field.{fieldAt}
+use Rattle.wire.specs.Read.{good}
+use Rattle.wire.specs.Reader.{readAll, one}
+use Rattle.wire.specs.Start.{readStart}
+use Rattle.wire.proofs.Fields.{value-inside}
+use Rattle.wire.proofs.Reading.{bind-good, and-good, demand-good, field-good, good-same}
+use Rattle.wire.proofs.Readers.{all-length}
+use Rattle.rules.specs.Graph.{Hyper, Cover, Target}
+use Rattle.graph.specs.declared.State.{State}
+use Rattle.graph.specs.Bound.{boundOf}
+use Rattle.graph.specs.Message.{readTarget, readHyper, readTargets, readCover, targets, hypers, covers, firstTarget, Counts, readHeader}
+
+module _ (s : List ℕ) (n : ℕ) where
+  -- what a good target says of the bytes
+  pub record TargetAt (st : State) (t : Target) : Type 0 where
+    pub weight-there : fieldAt 4 s (st .at) ≡ Number (t .weight)
+    pub node-there : fieldAt 2 s (st .at + 4) ≡ Number (t .node)
+    pub named : t .node < n
+
+  pub target-good : (st : State) (t : Target) → readTarget s n st ≡ good t → TargetAt st t
+  unfolding readTarget
+  target-good st t e =
+      let w = bind-good _ _ e in
+      let v = bind-good _ _ (w .rest) in
+      let d = demand-good _ _ _ (v .rest) in
+      let same : record { weight = w .value; node = v .value } ≡ t = good-same (d .1) in
+      record {
+        weight-there = field-good 4 s _ (w .first) ∙ ap (λ (u : Target). Number (u .weight)) same;
+        node-there = field-good 2 s _ (v .first) ∙ ap (λ (u : Target). Number (u .node)) same;
+        named = rw (← same) (ltb-true _ _ (d .0));
+      }
+
+  -- what a good hyperedge says of the bytes
+  pub record HyperAt (st : State) (h : Hyper) : Type 0 where
+    pub source-there : fieldAt 2 s (st .at) ≡ Number (h .source)
+    pub count-there : fieldAt 2 s (st .at + 2) ≡ Number (length (h .targets))
+    pub named : h .source < n
+    pub ordered : st .prev ≤ h .source
+    pub few : st .total + length (h .targets) ≤ 262144
+    pub inside : st .at + 4 + length (h .targets) * 6 ≤ length s
+    pub targets-there : readAll (targets s n) (length (h .targets)) (firstTarget st) ≡ good (h .targets)
+
+  pub hyper-good : (st : State) (h : Hyper) → readHyper s n st ≡ good h → HyperAt st h
+  unfolding readHyper readTargets
+  hyper-good st h e =
+      let w = bind-good _ _ e in
+      let v = bind-good _ _ (w .rest) in
+      let named = demand-good _ _ _ (v .rest) in
+      let ordered = demand-good _ _ _ (named .1) in
+      let few = demand-good _ _ _ (ordered .1) in
+      let inside = demand-good _ _ _ (few .1) in
+      let ts = bind-good _ _ (inside .1) in
+      let same : record { source = w .value; targets = ts .value } ≡ h = good-same (ts .rest) in
+      let count : length (h .targets) ≡ v .value = ap (λ (u : Hyper). length (u .targets)) (sym same) ∙ all-length (targets s n) _ _ _ (ts .first) in
+      record {
+        source-there = field-good 2 s _ (w .first) ∙ ap (λ (u : Hyper). Number (u .source)) same;
+        count-there = field-good 2 s _ (v .first) ∙ ap Number (sym count);
+        named = rw (← same) (ltb-true _ _ (named .0));
+        ordered = rw (← same) (leb-true _ _ (ordered .0));
+        few = rw count (leb-true _ _ (few .0));
+        inside = rw count (leb-true _ _ (inside .0));
+        targets-there = ap (λ (k : ℕ). readAll (targets s n) k (firstTarget st)) count ∙ ts .first ∙ ap (λ (u : Hyper). good (u .targets)) same;
+      }
+
+  -- what a good cover edge says of the bytes
+  pub record CoverAt (st : State) (c : Cover) : Type 0 where
+    pub source-there : fieldAt 2 s (st .at) ≡ Number (c .source)
+    pub code : ℕ
+    pub bound-there : fieldAt 4 s (st .at + 2) ≡ Number code
+    pub bound-is : c .bound ≡ boundOf code
+    pub target-there : fieldAt 2 s (st .at + 6) ≡ Number (c .target)
+    pub named : c .source < n
+    pub ordered : st .prev ≤ c .source
+    pub target-named : c .target < n
+
+  pub cover-good : (st : State) (c : Cover) → readCover s n st ≡ good c → CoverAt st c
+  unfolding readCover
+  cover-good st c e =
+      let w = bind-good _ _ e in
+      let b = bind-good _ _ (w .rest) in
+      let v = bind-good _ _ (b .rest) in
+      let named = demand-good _ _ _ (v .rest) in
+      let ordered = demand-good _ _ _ (named .1) in
+      let target-named = demand-good _ _ _ (ordered .1) in
+      let same : record { source = w .value; bound = boundOf (b .value); target = v .value } ≡ c = good-same (target-named .1) in
+      record {
+        source-there = field-good 2 s _ (w .first) ∙ ap (λ (u : Cover). Number (u .source)) same;
+        code = b .value;
+        bound-there = field-good 4 s _ (b .first);
+        bound-is = ap (λ (u : Cover). u .bound) (sym same);
+        target-there = field-good 2 s _ (v .first) ∙ ap (λ (u : Cover). Number (u .target)) same;
+        named = rw (← same) (ltb-true _ _ (named .0));
+        ordered = rw (← same) (leb-true _ _ (ordered .0));
+        target-named = rw (← same) (ltb-true _ _ (target-named .0));
+      }
+
+  -- the state past a good record lies inside the message
+  pub targets-stay : (st next : State) → one (targets s n) st ≡ good next → next .at ≤ length s
+  targets-stay st next e =
+      let r = bind-good _ _ e in
+      let t = target-good st (r .value) (r .first) in
+      omega (arith, value-inside 2 s (st .at + 4) (t .node-there), ap (λ (u : State). u .at) (good-same (r .rest)))
+
+  pub hypers-stay : (st next : State) → one (hypers s n) st ≡ good next → (next .at ≤ length s) × (next .total ≤ 262144)
+  hypers-stay st next e =
+      let r = bind-good _ _ e in
+      let h = hyper-good st (r .value) (r .first) in
+      (rw (← good-same (r .rest)) (h .inside), rw (← good-same (r .rest)) (h .few))
+
+  pub covers-stay : (st next : State) → one (covers s n) st ≡ good next → next .at ≤ length s
+  covers-stay st next e =
+      let r = bind-good _ _ e in
+      let c = cover-good st (r .value) (r .first) in
+      omega (arith, value-inside 2 s (st .at + 6) (c .target-there), ap (λ (u : State). u .at) (good-same (r .rest)))
+
+-- what a good header says of the bytes
+pub record HeaderAt (s : List ℕ) (k : Counts) : Type 0 where
+  pub opened : readStart s 14 1 1 ≡ good tt
+  pub n-there : fieldAt 2 s 6 ≡ Number (k .n)
+  pub h-there : fieldAt 4 s 8 ≡ Number (k .h)
+  pub c-there : fieldAt 2 s 12 ≡ Number (k .c)
+  pub n-least : 1 ≤ k .n
+  pub n-most : k .n ≤ 4096
+  pub h-most : k .h ≤ 65535
+  pub c-most : k .c ≤ 4096
+
+pub header-good : (s : List ℕ) (k : Counts) → readHeader s ≡ good k → HeaderAt s k
+unfolding readHeader
+header-good s k e =
+    let opened = and-good _ _ e in
+    let n = bind-good _ _ (opened .1) in
+    let n-least = demand-good _ _ _ (n .rest) in
+    let n-most = demand-good _ _ _ (n-least .1) in
+    let h = bind-good _ _ (n-most .1) in
+    let h-most = demand-good _ _ _ (h .rest) in
+    let c = bind-good _ _ (h-most .1) in
+    let c-most = demand-good _ _ _ (c .rest) in
+    let same : record { n = n .value; h = h .value; c = c .value } ≡ k = good-same (c-most .1) in
+    record {
+      opened = opened .0;
+      n-there = field-good 2 s 6 (n .first) ∙ ap (λ (u : Counts). Number (u .n)) same;
+      h-there = field-good 4 s 8 (h .first) ∙ ap (λ (u : Counts). Number (u .h)) same;
+      c-there = field-good 2 s 12 (c .first) ∙ ap (λ (u : Counts). Number (u .c)) same;
+      n-least = rw (← same) (leb-true _ _ (n-least .0));
+      n-most = rw (← same) (leb-true _ _ (n-most .0));
+      h-most = rw (← same) (leb-true _ _ (h-most .0));
+      c-most = rw (← same) (leb-true _ _ (c-most .0));
+    }
