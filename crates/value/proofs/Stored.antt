@@ -30,6 +30,9 @@ unfolding stored
 stored-le (fin a) = omega arith
 stored-le inf = omega arith
 
+pub is-stored-le : {k : ℕ} (a : Value) → k ≡ stored a → k ≤ infinite
+is-stored-le a e = rw e (stored-le a)
+
 pub stored-meaning : (k : ℕ) → k ≤ infinite → stored (meaning k) ≡ k
 unfolding stored
 stored-meaning k h = by-meaning k (λ p e. rw e (omega arith)) (λ p e. rw e (omega arith))

@@ -1,0 +1,9 @@
+-- Laws of the rounds in a room.
+--     Room       a pass over the next round's numbers: a turn that stores one, a turn that stores none; copying
+--     Scan       a scan over the records of a message: a turn takes the next record in
+--     Next       cleared, with the hyperedges, with the cover edges: the round
+--     Loop       the loop over rounds: where a turn begins, when the next round is worked out, and how a turn ends
+pub mod Room
+pub mod Scan
+pub mod Next
+pub mod Loop

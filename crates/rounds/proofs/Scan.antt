@@ -1,0 +1,122 @@
+-- A scan over the records of a message: a turn takes the next record in. Assumes nothing.
+use Prim.Native.Nat.{ℕ, _+_, _*_, _-_, _<_, _≤_, min, max}
+use mathlib.Core.List.{List, [], _∷_}
+use mathlib.Core.Bool.{Bool, true, false, cond, _||_, _&&_}
+use mathlib.Core.Path.{_≡_, refl, sym, ap, subst, _∙_}
+use lib.ListN.{length, getD, set}
+use lib.Dec.{eqb}
+use borrow.Author.Tests.{eq-eqb, ne-eqb}
+use native.Mathlib.Omega.{arith}
+use Rattle.lists.specs.Lists.{any}
+use Rattle.value.specs.Value.{plus, meets}
+use Rattle.value.specs.Stored.{stored, infinite}
+use Rattle.value.proofs.Stored.{stored-greatest, stored-least}
+use Rattle.wire.specs.Bytes.{number}
+use Rattle.wire.specs.Layout.{items}
+use Rattle.wire.proofs.Layouts.{items-more}
+use Rattle.rules.specs.Graph.{Target, Hyper, Cover}
+use Rattle.rules.specs.Rounds.{Assignment, holds, worst, best, covered}
+use Rattle.graph.specs.Bound.{boundOf}
+use Rattle.graph.specs.Layouts.{targetLayout, hyperLayout, coverLayout, HyperOk, CoverOk}
+use Rattle.rounds.specs.Room.{Going, Done}
+use Rattle.rounds.proofs.Room.{going-on, going-set}
+
+-- the greatest so far, and that of the targets left, make the whole
+module _ (s : List ℕ) (n : ℕ) (x : Assignment) where
+  pub worst-turn : (k at most next w : ℕ) → max most (stored (worst x (items (targetLayout s n) k at))) ≡ w → 0 < k
+      → next ≡ max most (stored (plus (number 4 s at) (x (number 2 s (at + 4)))))
+      → max next (stored (worst x (items (targetLayout s n) (k - 1) (at + 6)))) ≡ w
+  unfolding worst
+  worst-turn k at most next w whole h e =
+      let rest = worst x (items (targetLayout s n) (k - 1) (at + 6)) in
+      let here = stored-greatest (plus (number 4 s at) (x (number 2 s (at + 4)))) rest in
+      let more = ap (λ (l : List Target). max most (stored (worst x l))) (items-more (targetLayout s n) k at h) in
+      omega (arith, here, more)
+
+  pub worst-end : (k at most w : ℕ) → max most (stored (worst x (items (targetLayout s n) k at))) ≡ w → k ≡ 0 → most ≡ w
+  unfolding worst items stored
+  worst-end k at most w whole h =
+      let none = ap (λ (j : ℕ). max most (stored (worst x (items (targetLayout s n) j at)))) h in omega arith
+
+-- what is left to do to a node's next number: the hyperedges, the cover edges
+abbrev pub leftHypers : Assignment → List Hyper → ℕ → ℕ → ℕ
+leftHypers x hs v a = min a (stored (best x v hs))
+
+abbrev pub leftCovers : Assignment → List Cover → ℕ → ℕ → ℕ
+leftCovers x cs v a = cond (covered x v cs) 0 a
+
+module _ (x : Assignment) where
+  -- a hyperedge of a node, and of another
+  best-here : (h : Hyper) (hs : List Hyper) (j a new : ℕ) → h .source ≡ j → new ≡ min a (stored (worst x (h .targets)))
+      → leftHypers x hs j new ≡ leftHypers x (h ∷ hs) j a
+  unfolding best
+  best-here h hs j a new e is = rw (eq-eqb (h .source) j e) (omega (arith, stored-least (worst x (h .targets)) (best x j hs)))
+
+  best-there : (h : Hyper) (hs : List Hyper) (v a : ℕ) → ¬ (h .source ≡ v) → leftHypers x hs v a ≡ leftHypers x (h ∷ hs) v a
+  unfolding best
+  best-there h hs v a e = rw (ne-eqb (h .source) v e)
+
+  -- a cover edge that holds, at its node; of another node; that does not hold
+  covered-here : (c : Cover) (cs : List Cover) (j a : ℕ) → c .source ≡ j → holds x c ≡ true → leftCovers x cs j 0 ≡ leftCovers x (c ∷ cs) j a
+  unfolding covered any
+  covered-here c cs j a e met = rw (eq-eqb (c .source) j e, met) (go (covered x j cs))
+    where
+      go : (t : Bool) → _≡_ {A = ℕ} (cond t 0 0) 0
+      go true = refl
+      go false = refl
+
+  covered-there : (c : Cover) (cs : List Cover) (v a : ℕ) → ¬ (c .source ≡ v) → leftCovers x cs v a ≡ leftCovers x (c ∷ cs) v a
+  unfolding covered any
+  covered-there c cs v a e = rw (ne-eqb (c .source) v e)
+
+  covered-unmet : (c : Cover) (cs : List Cover) (v a : ℕ) → holds x c ≡ false → leftCovers x cs v a ≡ leftCovers x (c ∷ cs) v a
+  unfolding covered any
+  covered-unmet c cs v a unmet = rw unmet (go (eqb (c .source) v))
+    where
+      go : (t : Bool) → leftCovers x cs v a ≡ cond (t && false || covered x v cs) 0 a
+      go true = refl
+      go false = refl
+
+-- a turn takes the next hyperedge in; at the end nothing is left to do
+module _ (s : List ℕ) (n : ℕ) (x : Assignment) (i p : ℕ) {b₀ b : List ℕ} {all : ℕ → ℕ}
+    (g : Going n b₀ b (leftHypers x (items (hyperLayout s n) i p)) all) where
+  pub hypers-turn : (k : ℕ) → n + n ≤ length b₀ → 0 < i → HyperOk s n p
+      → k ≡ min (getD b (n + number 2 s p) 0) (stored (worst x (items (targetLayout s n) (number 2 s (p + 2)) (p + 4))))
+      → Going n b₀ (set b (n + number 2 s p) k) (leftHypers x (items (hyperLayout s n) (i - 1) (p + 4 + number 2 s (p + 2) * 6))) all
+  hypers-turn k room h ok e =
+      let g′ = subst (λ (l : List Hyper). Going n b₀ b (leftHypers x l) all) (items-more (hyperLayout s n) i p h) g in
+      going-set g′ room _ k (ok .named) (best-here x _ _ _ _ _ refl e) (λ v a ne. best-there x _ _ v a (λ q. ne (sym q)))
+
+  pub hypers-end : i ≡ 0 → ((v : ℕ) → getD b v 0 ≤ infinite) → Done n b₀ b all
+  unfolding items best stored
+  hypers-end h fits =
+      let g′ = subst (λ (j : ℕ). Going n b₀ b (leftHypers x (items (hyperLayout s n) j p)) all) h g in
+      record {
+        same-length = g .same-length;
+        first = g .first;
+        past = g .past;
+        each = λ v l. omega (arith, g′ .each v l, fits (n + v));
+      }
+
+-- a turn takes the next cover edge in, whether it holds or not; at the end nothing is left to do
+module _ (s : List ℕ) (n : ℕ) (x : Assignment) (i p : ℕ) {b₀ b : List ℕ} {all : ℕ → ℕ}
+    (g : Going n b₀ b (leftCovers x (items (coverLayout s n) i p)) all) where
+  abbrev pub Met : Bool → Type 0
+  Met t = meets (boundOf (number 4 s (p + 2))) (x (number 2 s (p + 6))) ≡ t
+
+  pub covers-met : n + n ≤ length b₀ → 0 < i → CoverOk s n p → Met true
+      → Going n b₀ (set b (n + number 2 s p) 0) (leftCovers x (items (coverLayout s n) (i - 1) (p + 8))) all
+  covers-met room h ok met =
+      let g′ = subst (λ (l : List Cover). Going n b₀ b (leftCovers x l) all) (items-more (coverLayout s n) i p h) g in
+      going-set g′ room _ 0 (ok .named) (covered-here x _ _ _ _ refl met) (λ v a ne. covered-there x _ _ v a (λ q. ne (sym q)))
+
+  pub covers-unmet : 0 < i → Met false → Going n b₀ b (leftCovers x (items (coverLayout s n) (i - 1) (p + 8))) all
+  covers-unmet h unmet =
+      let g′ = subst (λ (l : List Cover). Going n b₀ b (leftCovers x l) all) (items-more (coverLayout s n) i p h) g in
+      going-on g′ (λ v a l. covered-unmet x _ _ v a unmet)
+
+  pub covers-end : i ≡ 0 → Done n b₀ b all
+  unfolding items covered any
+  covers-end h =
+      let g′ = subst (λ (j : ℕ). Going n b₀ b (leftCovers x (items (coverLayout s n) j p)) all) h g in
+      going-on g′ (λ v a l. refl)

@@ -1,0 +1,5 @@
+pub mod Outcome
+pub mod Promise
+pub mod Known
+pub mod Room
+pub mod Ready
