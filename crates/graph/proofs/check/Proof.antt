@@ -5,14 +5,18 @@ use denote.Ref.{now}
 use borrow.Author.Tests.{eq-eqb, ne-eqb}
 use native.Mathlib.Omega.{arith}
 use lib.ListN.{length}
-use Rattle.wire.specs.Fields.{value-inside}
+use Rattle.lists.proofs.Tests.{by}
+use Rattle.wire.specs.Read.{good}
+use Rattle.wire.specs.Reader.{run}
+use Rattle.wire.proofs.Fields.{value-inside}
+use Rattle.wire.proofs.Reading.{reading}
+use Rattle.wire.proofs.Readers.{run-good, run-bad, run-keeps, all-length}
 use Rattle.graph.specs.declared.State.{State}
-use Rattle.graph.specs.Read.{good, reading, by}
-use Rattle.graph.specs.Reader.{run, run-good, run-bad, run-keeps, all-length}
 use Rattle.graph.specs.Message.{readHeader, readGraph, start}
 use Rattle.graph.specs.Message as m
 use Rattle.graph.proofs.Good.{header-good, hypers-stay}
-use Rattle.graph.specs.Answers.{checked, header-counts, header-refused, step-next, step-refused}
+use Rattle.graph.specs.Answers.{checked}
+use Rattle.graph.proofs.Answered.{counted-graph, counted-refused, step-next, step-refused}
 use borrow.Author.Needs.{needs}
 use Rattle.graph.proofs.check.Statement.{statement}
 use Rattle.graph.proofs.check.Tie as tie
@@ -20,7 +24,7 @@ use Rattle.graph.proofs.check.Tie as tie
 -- the header is good, and so are the hyperedges and the cover edges
 head-good : (c : tie.After-known-told) → let k = c .before .head .given .0 in
     readHeader (now (c .before .before .before .before .before .args .s)) ≡ good (record { n = k .0; h = k .1 .0; c = k .1 .1 .0 })
-head-good c = header-counts _ (by (c .before .before .before .read-header .ensures) (c .before .head .given .1))
+head-good c = counted-graph _ (by (c .before .before .before .header .ensures) (c .before .head .given .1))
 
 fourteen : (c : tie.After-known-told) → 14 ≤ length (now (c .before .before .before .before .before .args .s))
 fourteen c = value-inside 2 (now (c .before .before .before .before .before .args .s)) 12 (header-good _ _ (head-good c) .c-there)
@@ -33,8 +37,8 @@ covers-next : (c : tie.After-known-told4) → let k = c .before .before .before 
     run (m.covers (now (c .before .before .before .before .before .before .before .before .before .before .before .before .before .args .s)) (k .0)) (k .1 .1 .0) (start (c .before .before .before .before .before .st .given .0 .0 .at)) ≡ good (c .before .st2 .given .0 .0)
 covers-next c = step-next _ (by (c .before .before .before .covers .ensures) (c .before .st2 .given .1))
 
-read-header-requires : tie.Need-read-header-requires
-read-header-requires c κs = search needs
+header-requires : tie.Need-header-requires
+header-requires c κs = search needs
 
 enum-known-head : tie.Need-enum-known-head
 enum-known-head c = c .match .keys1
@@ -45,7 +49,7 @@ enum-told c = c .match .keys2
 returns : tie.Need-returns
 unfolding readGraph checked
 returns c =
-    let refused = header-refused _ (by (c .before .before .read-header .ensures) (c .enum-told .given .1)) in
+    let refused = counted-refused _ (by (c .before .before .header .ensures) (c .enum-told .given .1)) in
     c .enum-told .given .1 ∙ simp (reading, refused)
 
 hypers-requires : tie.Need-hypers-requires
@@ -111,7 +115,7 @@ pub check-spec : {M : Type 1} → statement M
 check-spec =
     tie.close
     (tie.spec
-    read-header-requires
+    header-requires
     enum-known-head
     enum-told
     returns

@@ -7,7 +7,7 @@ use Rattle.wire.specs.declared.Field.the-variants.{Number}
 use Rattle.wire.specs.Field.{fieldAt}
 use Rattle.lists.proofs.Tests.{by}
 use Rattle.wire.proofs.Reading.{reading}
-use Rattle.graph.specs.Message.{readCover, checkCover}
+use Rattle.graph.specs.Message.{readCover}
 use Rattle.graph.specs.Answers.{step}
 use borrow.Author.Needs.{needs}
 use Rattle.graph.proofs.cover.Statement.{statement}
@@ -20,10 +20,8 @@ source-there c = by (c .before .before .before .read .ensures) (c .before .sourc
 bound-there : (c : tie.After-enum-told2) → let a = c .before .before .before .before .before .before .before .before .args in fieldAt 4 (now (a .s)) (a .st .at + 2) ≡ Number (c .enum-told2 .given .0 .0)
 bound-there c = by (c .before .before .read2 .ensures) (c .enum-told2 .given .1)
 
-fields : (c : tie.After-known-told2) → let a = c .before .before .before .before .before .before .before .before .before .before .before .before .args in
-    readCover (now (a .s)) (a .n) (a .st) ≡ checkCover (now (a .s)) (a .n) (a .st) (c .before .before .before .before .before .before .before .before .source .given .0 .0) (c .before .before .before .before .enum-told2 .given .0 .0) (c .before .target .given .0 .0)
-unfolding readCover
-fields c = simp (reading, source-there (c .before .before .before .before .before .before .before), bound-there (c .before .before .before .before), by (c .before .before .before .read3 .ensures) (c .before .target .given .1))
+target-there : (c : tie.After-known-told2) → let a = c .before .before .before .before .before .before .before .before .before .before .before .before .args in fieldAt 2 (now (a .s)) (a .st .at + 6) ≡ Number (c .before .target .given .0 .0)
+target-there c = by (c .before .before .before .read3 .ensures) (c .before .target .given .1)
 
 read-requires : tie.Need-read-requires
 read-requires c κs = search needs
@@ -71,23 +69,35 @@ unfolding readCover step
 returns-3 c = simp (reading, source-there (c .before .before .before .before .before .before), bound-there (c .before .before .before), by (c .before .before .read3 .ensures) (c .enum-told4 .given .1))
 
 returns-4 : tie.Need-returns-4
-unfolding checkCover step
-returns-4 c = rw (fields (c .before)) (simp (reading, le-ltb _ _ (c .if1 .taken)))
+unfolding readCover step
+returns-4 c =
+    let t = c .before in
+    let b = t .before .before .before .before in
+    simp (reading, source-there (b .before .before .before), bound-there b, target-there t, le-ltb _ _ (c .if1 .taken))
 
 returns-5 : tie.Need-returns-5
-unfolding checkCover step
-returns-5 c = rw (fields (c .before .before .before)) (simp (reading, lt-ltb _ _ (c .before .before .if1 .left), lt-leb _ _ (c .if2 .taken)))
+unfolding readCover step
+returns-5 c =
+    let t = c .before .before .before in
+    let b = t .before .before .before .before in
+    simp (reading, source-there (b .before .before .before), bound-there b, target-there t, lt-ltb _ _ (c .before .before .if1 .left), lt-leb _ _ (c .if2 .taken))
 
 returns-6 : tie.Need-returns-6
-unfolding checkCover step
-returns-6 c = rw (fields (c .before .before .before .before)) (simp (reading, lt-ltb _ _ (c .before .before .before .if1 .left), le-leb _ _ (c .before .if2 .left), le-ltb _ _ (c .if3 .taken)))
+unfolding readCover step
+returns-6 c =
+    let t = c .before .before .before .before in
+    let b = t .before .before .before .before in
+    simp (reading, source-there (b .before .before .before), bound-there b, target-there t, lt-ltb _ _ (c .before .before .before .if1 .left), le-leb _ _ (c .before .if2 .left), le-ltb _ _ (c .if3 .taken))
 
 add-end : tie.Need-add-end
 add-end c = search needs
 
 returns-7 : tie.Need-returns-7
-unfolding checkCover step
-returns-7 c = rw (fields (c .before .before .before .before)) (simp (reading, lt-ltb _ _ (c .before .before .before .if1 .left), le-leb _ _ (c .before .if2 .left), lt-ltb _ _ (c .if3 .left)))
+unfolding readCover step
+returns-7 c =
+    let t = c .before .before .before .before in
+    let b = t .before .before .before .before in
+    simp (reading, source-there (b .before .before .before), bound-there b, target-there t, lt-ltb _ _ (c .before .before .before .if1 .left), le-leb _ _ (c .before .if2 .left), lt-ltb _ _ (c .if3 .left))
 
 pub cover-spec : {M : Type 1} → statement M
 cover-spec =

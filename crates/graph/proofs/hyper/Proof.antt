@@ -1,62 +1,82 @@
+-- `graph::hyper` meets its contract: each `return` is the reading under the tests that led there.
+use Prim.Native.Nat.{_+_}
+use mathlib.Core.Path.{_≡_, sym, ap, _∙_}
+use denote.Ref.{now}
 use borrow.Author.Needs.{needs}
+use borrow.Author.Tests.{lt-ltb, le-ltb, lt-leb, le-leb}
+use native.Mathlib.Omega.{arith}
+use Rattle.lists.proofs.Tests.{by}
+use Rattle.wire.specs.declared.Field.the-variants.{Number}
+use Rattle.wire.specs.Field.{fieldAt}
+use Rattle.wire.proofs.Bytes.{number-below}
+use Rattle.wire.proofs.Fields.{value-inside, value-is}
+use Rattle.wire.proofs.Reading.{reading}
+use Rattle.graph.specs.Message.{readHyper, readTargets}
+use Rattle.graph.specs.Answers.{step}
 use Rattle.graph.proofs.hyper.Statement.{statement}
 use Rattle.graph.proofs.hyper.Tie as tie
-use Rattle.graph.proofs.hyper.Reads as reads
-use Rattle.graph.proofs.hyper.Lts as lts
-use Rattle.graph.proofs.hyper_targets.Reads as hyper-targets-reads
-use Rattle.wire.proofs.read.Reads as read-reads
 
--- src/lib.rt:92:33
+-- the fields that are there
+source-there : (c : tie.After-known-told) → let a = c .before .before .before .before .before .args in fieldAt 2 (now (a .s)) (a .st .at) ≡ Number (c .before .source .given .0 .0)
+source-there c = by (c .before .before .before .read .ensures) (c .before .source .given .1)
+
+count-there : (c : tie.After-known-told2) → let a = c .before .before .before .before .before .before .before .before .before .args in fieldAt 2 (now (a .s)) (a .st .at + 2) ≡ Number (c .before .count .given .0 .0)
+count-there c = by (c .before .before .before .read2 .ensures) (c .before .count .given .1)
+
 read-requires : tie.Need-read-requires
 read-requires c κs = search needs
 
--- src/lib.rt:92:23
 enum-known-source : tie.Need-enum-known-source
 enum-known-source c = search needs
 
--- src/lib.rt:93:30
 enum-told : tie.Need-enum-told
 enum-told c = search needs
 
--- src/lib.rt:93:9
 returns : tie.Need-returns
-returns c = ?
+unfolding readHyper step
+returns c = simp (reading, by (c .before .before .read .ensures) (c .enum-told .given .1))
 
--- src/lib.rt:95:20
 add-count-at : tie.Need-add-count-at
 add-count-at c = search needs
 
--- src/lib.rt:96:32
 read-requires-2 : tie.Need-read-requires-2
 read-requires-2 c κs = search needs
 
--- src/lib.rt:96:23
 enum-known-count : tie.Need-enum-known-count
 enum-known-count c = search needs
 
--- src/lib.rt:97:30
 enum-told-2 : tie.Need-enum-told-2
 enum-told-2 c = search needs
 
--- src/lib.rt:97:9
 returns-2 : tie.Need-returns-2
-returns-2 c = ?
+unfolding readHyper step
+returns-2 c = simp (reading, source-there (c .before .before .before), by (c .before .before .read2 .ensures) (c .enum-told2 .given .1))
 
--- src/lib.rt:100:9
 returns-3 : tie.Need-returns-3
-returns-3 c = ?
+unfolding readHyper step
+returns-3 c =
+    let k = c .before in
+    simp (reading, source-there (k .before .before .before .before), count-there k, le-ltb _ _ (c .if1 .taken))
 
--- src/lib.rt:103:9
 returns-4 : tie.Need-returns-4
-returns-4 c = ?
+unfolding readHyper step
+returns-4 c =
+    let k = c .before .before .before in
+    simp (reading, source-there (k .before .before .before .before), count-there k, lt-ltb _ _ (c .before .before .if1 .left), lt-leb _ _ (c .if2 .taken))
 
--- src/lib.rt:105:5
 hyper-targets-requires : tie.Need-hyper-targets-requires
-hyper-targets-requires c κs = ?
+hyper-targets-requires c κs =
+    let k = c .before .before .before in
+    let e = k .before .before .before .before .before .before .before .before in
+    let s = now (e .before .args .s) in
+    let at = e .before .args .st .at + 2 in
+    omega (arith, value-inside 2 s at (count-there k), value-is 2 s at (count-there k), number-below 2 s at (λ i. omega (arith, e .shared-slice-known .given i)))
 
--- src/lib.rt:87:1
 returns-5 : tie.Need-returns-5
-returns-5 c = ?
+unfolding readHyper
+returns-5 c =
+    let k = c .before .before .before .before in
+    c .hyper-targets .ensures ∙ ap step (sym (simp (reading, source-there (k .before .before .before .before), count-there k, lt-ltb _ _ (c .before .before .before .if1 .left), le-leb _ _ (c .before .if2 .left))))
 
 pub hyper-spec : {M : Type 1} → statement M
 hyper-spec =
