@@ -2,9 +2,10 @@
 use Prim.Native.Nat.{_≤_}
 use mathlib.Core.Path.{_≡_, _∙_}
 use denote.Ref.{now}
-use borrow.Author.Tests.{eq-eqb, ne-eqb}
-use native.Mathlib.Omega.{arith}
 use lib.ListN.{length}
+use borrow.Author.Tests.{eq-eqb, ne-eqb}
+use borrow.Author.Needs.{needs}
+use native.Mathlib.Omega.{arith}
 use Rattle.lists.proofs.Tests.{by}
 use Rattle.wire.specs.Read.{good}
 use Rattle.wire.specs.Reader.{run}
@@ -14,10 +15,9 @@ use Rattle.wire.proofs.Readers.{run-good, run-bad, run-keeps, all-length}
 use Rattle.graph.specs.declared.State.{State}
 use Rattle.graph.specs.Message.{readHeader, readGraph, start}
 use Rattle.graph.specs.Message as m
-use Rattle.graph.proofs.Good.{header-good, hypers-stay}
 use Rattle.graph.specs.Answers.{checked}
+use Rattle.graph.proofs.Good.{header-good, hypers-stay}
 use Rattle.graph.proofs.Answered.{counted-graph, counted-refused, step-next, step-refused}
-use borrow.Author.Needs.{needs}
 use Rattle.graph.proofs.check.Statement.{statement}
 use Rattle.graph.proofs.check.Tie as tie
 
@@ -41,10 +41,10 @@ header-requires : tie.Need-header-requires
 header-requires c κs = search needs
 
 enum-known-head : tie.Need-enum-known-head
-enum-known-head c = c .match .keys1
+enum-known-head c = search needs
 
 enum-told : tie.Need-enum-told
-enum-told c = c .match .keys2
+enum-told c = search needs
 
 returns : tie.Need-returns
 unfolding readGraph checked
@@ -56,10 +56,10 @@ hypers-requires : tie.Need-hypers-requires
 hypers-requires c κs = (fourteen c, omega arith)
 
 enum-known-st : tie.Need-enum-known-st
-enum-known-st c = c .match2 .keys1
+enum-known-st c = search needs
 
 enum-known-e : tie.Need-enum-known-e
-enum-known-e c = c .match2 .keys2
+enum-known-e c = search needs
 
 returns-2 : tie.Need-returns-2
 unfolding readGraph checked
@@ -73,10 +73,10 @@ covers-requires c κs =
     run-keeps _ (λ (st : State). st .at ≤ length s) (λ st next e. hypers-stay _ _ st next e .0) _ _ _ (fourteen (c .before .before .before .before)) (hypers-next c)
 
 enum-known-st-2 : tie.Need-enum-known-st-2
-enum-known-st-2 c = c .match3 .keys1
+enum-known-st-2 c = search needs
 
 enum-known-e-2 : tie.Need-enum-known-e-2
-enum-known-e-2 c = c .match3 .keys2
+enum-known-e-2 c = search needs
 
 returns-3 : tie.Need-returns-3
 unfolding readGraph checked

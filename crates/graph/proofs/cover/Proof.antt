@@ -3,13 +3,13 @@ use Prim.Native.Nat.{_+_}
 use mathlib.Core.Path.{_≡_}
 use denote.Ref.{now}
 use borrow.Author.Tests.{lt-ltb, le-ltb, lt-leb, le-leb}
+use borrow.Author.Needs.{needs}
+use Rattle.lists.proofs.Tests.{by}
 use Rattle.wire.specs.declared.Field.the-variants.{Number}
 use Rattle.wire.specs.Field.{fieldAt}
-use Rattle.lists.proofs.Tests.{by}
 use Rattle.wire.proofs.Reading.{reading}
 use Rattle.graph.specs.Message.{readCover}
 use Rattle.graph.specs.Answers.{step}
-use borrow.Author.Needs.{needs}
 use Rattle.graph.proofs.cover.Statement.{statement}
 use Rattle.graph.proofs.cover.Tie as tie
 
@@ -27,10 +27,10 @@ read-requires : tie.Need-read-requires
 read-requires c κs = search needs
 
 enum-known-source : tie.Need-enum-known-source
-enum-known-source c = c .match .keys1
+enum-known-source c = search needs
 
 enum-told : tie.Need-enum-told
-enum-told c = c .match .keys2
+enum-told c = search needs
 
 returns : tie.Need-returns
 unfolding readCover step
@@ -43,10 +43,10 @@ read-requires-2 : tie.Need-read-requires-2
 read-requires-2 c κs = search needs
 
 enum-told-2 : tie.Need-enum-told-2
-enum-told-2 c = c .match2 .keys1
+enum-told-2 c = search needs
 
 enum-told-3 : tie.Need-enum-told-3
-enum-told-3 c = c .match2 .keys2
+enum-told-3 c = search needs
 
 returns-2 : tie.Need-returns-2
 unfolding readCover step
@@ -59,10 +59,10 @@ read-requires-3 : tie.Need-read-requires-3
 read-requires-3 c κs = search needs
 
 enum-known-target : tie.Need-enum-known-target
-enum-known-target c = c .match3 .keys1
+enum-known-target c = search needs
 
 enum-told-4 : tie.Need-enum-told-4
-enum-told-4 c = c .match3 .keys2
+enum-told-4 c = search needs
 
 returns-3 : tie.Need-returns-3
 unfolding readCover step
@@ -78,16 +78,16 @@ returns-4 c =
 returns-5 : tie.Need-returns-5
 unfolding readCover step
 returns-5 c =
-    let t = c .before .before .before in
+    let t = c .before .before in
     let b = t .before .before .before .before in
-    simp (reading, source-there (b .before .before .before), bound-there b, target-there t, lt-ltb _ _ (c .before .before .if1 .left), lt-leb _ _ (c .if2 .taken))
+    simp (reading, source-there (b .before .before .before), bound-there b, target-there t, lt-ltb _ _ (c .before .if1 .left), lt-leb _ _ (c .if2 .taken))
 
 returns-6 : tie.Need-returns-6
 unfolding readCover step
 returns-6 c =
-    let t = c .before .before .before .before in
+    let t = c .before .before .before in
     let b = t .before .before .before .before in
-    simp (reading, source-there (b .before .before .before), bound-there b, target-there t, lt-ltb _ _ (c .before .before .before .if1 .left), le-leb _ _ (c .before .if2 .left), le-ltb _ _ (c .if3 .taken))
+    simp (reading, source-there (b .before .before .before), bound-there b, target-there t, lt-ltb _ _ (c .before .before .if1 .left), le-leb _ _ (c .before .if2 .left), le-ltb _ _ (c .if3 .taken))
 
 add-end : tie.Need-add-end
 add-end c = search needs
@@ -95,9 +95,9 @@ add-end c = search needs
 returns-7 : tie.Need-returns-7
 unfolding readCover step
 returns-7 c =
-    let t = c .before .before .before .before in
+    let t = c .before .before .before in
     let b = t .before .before .before .before in
-    simp (reading, source-there (b .before .before .before), bound-there b, target-there t, lt-ltb _ _ (c .before .before .before .if1 .left), le-leb _ _ (c .before .if2 .left), lt-ltb _ _ (c .if3 .left))
+    simp (reading, source-there (b .before .before .before), bound-there b, target-there t, lt-ltb _ _ (c .before .before .if1 .left), le-leb _ _ (c .before .if2 .left), lt-ltb _ _ (c .if3 .left))
 
 pub cover-spec : {M : Type 1} → statement M
 cover-spec =

@@ -1,8 +1,10 @@
 -- `graph::covers` meets its contract: the run of the i covers that are left is the whole run.
 use Prim.Native.Nat.{_≤_}
-use mathlib.Core.Path.{_≡_, refl, sym, _∙_}
-use native.Mathlib.Omega.{arith}
+use mathlib.Core.Path.{_≡_, refl}
 use lib.ListN.{length}
+use borrow.Author.Needs.{needs}
+use native.Mathlib.Omega.{arith}
+use Rattle.lists.proofs.Tests.{by}
 use Rattle.wire.specs.Reader.{run}
 use Rattle.graph.specs.Message as m
 use Rattle.graph.specs.Answers.{step}
@@ -24,10 +26,10 @@ cover-requires : tie.Need-cover-requires Inv-loop μ-loop
 cover-requires c κs = omega arith
 
 enum-known-read : tie.Need-enum-known-read Inv-loop μ-loop
-enum-known-read c = c .match .keys1
+enum-known-read c = search needs
 
 enum-told : tie.Need-enum-told Inv-loop μ-loop
-enum-told c = c .match .keys2
+enum-told c = search needs
 
 returns : tie.Need-returns Inv-loop μ-loop
 returns c = turn-refused _ _ _ _ (c .before .before .before .before .loop .inv .1) (omega arith) (c .before .before .cover .ensures) (c .enum-told .given .1)
@@ -42,7 +44,7 @@ loop-again : tie.Need-loop-again Inv-loop μ-loop
 loop-again c =
     let t = c .before .before .before in
     let is = c .before .read .given .1 in (
-      covers-stay _ _ _ _ (step-next _ (sym (t .cover .ensures) ∙ is)),
+      covers-stay _ _ _ _ (step-next _ (by (t .cover .ensures) is)),
       turn-next _ _ _ _ (t .before .before .loop .inv .1) (omega arith) (t .cover .ensures) is,
     )
 

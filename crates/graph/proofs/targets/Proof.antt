@@ -1,8 +1,10 @@
 -- `graph::targets` meets its contract: the run of the i targets that are left is the whole run.
 use Prim.Native.Nat.{_≤_}
-use mathlib.Core.Path.{_≡_, refl, sym, _∙_}
-use native.Mathlib.Omega.{arith}
+use mathlib.Core.Path.{_≡_, refl}
 use lib.ListN.{length}
+use borrow.Author.Needs.{needs}
+use native.Mathlib.Omega.{arith}
+use Rattle.lists.proofs.Tests.{by}
 use Rattle.wire.specs.Reader.{run}
 use Rattle.graph.specs.Message as m
 use Rattle.graph.specs.Answers.{step}
@@ -24,10 +26,10 @@ target-requires : tie.Need-target-requires Inv-loop μ-loop
 target-requires c κs = omega arith
 
 enum-known-read : tie.Need-enum-known-read Inv-loop μ-loop
-enum-known-read c = c .match .keys1
+enum-known-read c = search needs
 
 enum-told : tie.Need-enum-told Inv-loop μ-loop
-enum-told c = c .match .keys2
+enum-told c = search needs
 
 returns : tie.Need-returns Inv-loop μ-loop
 returns c = turn-refused _ _ _ _ (c .before .before .before .before .loop .inv .1) (omega arith) (c .before .before .target .ensures) (c .enum-told .given .1)
@@ -42,7 +44,7 @@ loop-again : tie.Need-loop-again Inv-loop μ-loop
 loop-again c =
     let t = c .before .before .before in
     let is = c .before .read .given .1 in (
-      targets-stay _ _ _ _ (step-next _ (sym (t .target .ensures) ∙ is)),
+      targets-stay _ _ _ _ (step-next _ (by (t .target .ensures) is)),
       turn-next _ _ _ _ (t .before .before .loop .inv .1) (omega arith) (t .target .ensures) is,
     )
 
