@@ -1,4 +1,4 @@
--- `graph::covers` meets its contract: the run of the i covers that are left is the whole run.
+-- `graph::covers` meets its contract: the run of the i cover edges that are left is the whole run.
 use Prim.Native.Nat.{_≤_}
 use mathlib.Core.Path.{_≡_, refl}
 use lib.ListN.{length}

@@ -1,6 +1,6 @@
 -- `graph::hyper` meets its contract: each `return` is the reading under the tests that led there.
 use Prim.Native.Nat.{_+_}
-use mathlib.Core.Path.{_≡_, sym, ap, _∙_}
+use mathlib.Core.Path.{_≡_}
 use denote.Ref.{now}
 use borrow.Author.Needs.{needs}
 use borrow.Author.Tests.{lt-ltb, le-ltb, lt-leb, le-leb}
@@ -76,7 +76,7 @@ returns-5 : tie.Need-returns-5
 unfolding readHyper
 returns-5 c =
     let k = c .before .before .before .before in
-    c .hyper-targets .ensures ∙ ap step (sym (simp (reading, source-there (k .before .before .before .before), count-there k, lt-ltb _ _ (c .before .before .before .if1 .left), le-leb _ _ (c .before .if2 .left))))
+    simp (reading, source-there (k .before .before .before .before), count-there k, lt-ltb _ _ (c .before .before .before .if1 .left), le-leb _ _ (c .before .if2 .left)) (c .hyper-targets .ensures)
 
 pub hyper-spec : {M : Type 1} → statement M
 hyper-spec =

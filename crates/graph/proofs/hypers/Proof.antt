@@ -1,4 +1,4 @@
--- `graph::hypers` meets its contract: the run of the i hypers that are left is the whole run.
+-- `graph::hypers` meets its contract: the run of the i hyperedges that are left is the whole run.
 use Prim.Native.Nat.{_≤_}
 use mathlib.Core.Path.{_≡_, refl}
 use lib.ListN.{length}
