@@ -164,6 +164,7 @@ fn cover(s: &[u8], n: u32, st: State) -> Step
     ensures { λ r. ⌜ r ≡ answers.step (one (m.covers (now (s .entry)) n) st) ⌝ }
 {
     let at = st.at;
+    let prev = st.prev;
     let Field::Number(source) = wire::read(s, at, Width::Two) else {
         return Step::Refused(Refusal::Length);
     };
@@ -178,7 +179,7 @@ fn cover(s: &[u8], n: u32, st: State) -> Step
     if n <= source {
         return Step::Refused(Refusal::Name);
     }
-    if source < st.prev {
+    if source < prev {
         return Step::Refused(Refusal::Order);
     }
     if n <= target {

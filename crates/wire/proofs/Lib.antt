@@ -4,8 +4,10 @@
 --     Reading    how a reading goes on, and what a good one says
 --     Readers    the turns of a loop over records, and what a good reading of them says
 --     Layouts    records by position
+--     Start      the reading of a message's start, from the answer
 pub mod Bytes
 pub mod Fields
 pub mod Reading
 pub mod Readers
 pub mod Layouts
+pub mod Start

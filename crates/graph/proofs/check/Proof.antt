@@ -1,0 +1,131 @@
+-- `graph::check` meets its contract: the header, the hyperedges, the cover edges, and nothing after them.
+use Prim.Native.Nat.{_≤_}
+use mathlib.Core.Path.{_≡_, _∙_}
+use denote.Ref.{now}
+use lib.ListN.{length}
+use borrow.Author.Tests.{eq-eqb, ne-eqb}
+use borrow.Author.Needs.{needs}
+use native.Mathlib.Omega.{arith}
+use Rattle.lists.proofs.Tests.{by}
+use Rattle.wire.specs.Read.{good}
+use Rattle.wire.specs.Reader.{run}
+use Rattle.wire.proofs.Fields.{value-inside}
+use Rattle.wire.proofs.Reading.{reading}
+use Rattle.wire.proofs.Readers.{run-good, run-bad, run-keeps, all-length}
+use Rattle.graph.specs.declared.State.{State}
+use Rattle.graph.specs.Message.{readHeader, readGraph, start}
+use Rattle.graph.specs.Message as m
+use Rattle.graph.specs.Answers.{checked}
+use Rattle.graph.proofs.Good.{header-good, hypers-stay}
+use Rattle.graph.proofs.Answered.{counted-graph, counted-refused, step-next, step-refused}
+use Rattle.graph.proofs.check.Statement.{statement}
+use Rattle.graph.proofs.check.Tie as tie
+
+-- the header is good, and so are the hyperedges and the cover edges
+head-good : (c : tie.After-known-told) → let k = c .before .head .given .0 in
+    readHeader (now (c .before .before .before .before .before .args .s)) ≡ good (record { n = k .0; h = k .1 .0; c = k .1 .1 .0 })
+head-good c = counted-graph _ (by (c .before .before .before .header .ensures) (c .before .head .given .1))
+
+fourteen : (c : tie.After-known-told) → 14 ≤ length (now (c .before .before .before .before .before .args .s))
+fourteen c = value-inside 2 (now (c .before .before .before .before .before .args .s)) 12 (header-good _ _ (head-good c) .c-there)
+
+hypers-next : (c : tie.After-known-told2) → let k = c .before .before .before .before .before .head .given .0 in
+    run (m.hypers (now (c .before .before .before .before .before .before .before .before .before .args .s)) (k .0)) (k .1 .0) (start 14) ≡ good (c .before .st .given .0 .0)
+hypers-next c = step-next _ (by (c .before .before .before .hypers .ensures) (c .before .st .given .1))
+
+covers-next : (c : tie.After-known-told4) → let k = c .before .before .before .before .before .before .before .before .before .head .given .0 in
+    run (m.covers (now (c .before .before .before .before .before .before .before .before .before .before .before .before .before .args .s)) (k .0)) (k .1 .1 .0) (start (c .before .before .before .before .before .st .given .0 .0 .at)) ≡ good (c .before .st2 .given .0 .0)
+covers-next c = step-next _ (by (c .before .before .before .covers .ensures) (c .before .st2 .given .1))
+
+header-requires : tie.Need-header-requires
+header-requires c κs = search needs
+
+enum-known-head : tie.Need-enum-known-head
+enum-known-head c = search needs
+
+enum-told : tie.Need-enum-told
+enum-told c = search needs
+
+returns : tie.Need-returns
+unfolding readGraph checked
+returns c =
+    let refused = counted-refused _ (by (c .before .before .header .ensures) (c .enum-told .given .1)) in
+    c .enum-told .given .1 ∙ simp (reading, refused)
+
+hypers-requires : tie.Need-hypers-requires
+hypers-requires c κs = (fourteen c, omega arith)
+
+enum-known-st : tie.Need-enum-known-st
+enum-known-st c = search needs
+
+enum-known-e : tie.Need-enum-known-e
+enum-known-e c = search needs
+
+returns-2 : tie.Need-returns-2
+unfolding readGraph checked
+returns-2 c =
+    let r = c .before .before .before in
+    simp (reading, head-good (r .before), run-bad _ _ _ _ (step-refused _ (by (r .hypers .ensures) (c .before .e .given .1))))
+
+covers-requires : tie.Need-covers-requires
+covers-requires c κs =
+    let s = now (c .before .before .before .before .before .before .before .before .before .args .s) in
+    run-keeps _ (λ (st : State). st .at ≤ length s) (λ st next e. hypers-stay _ _ st next e .0) _ _ _ (fourteen (c .before .before .before .before)) (hypers-next c)
+
+enum-known-st-2 : tie.Need-enum-known-st-2
+enum-known-st-2 c = search needs
+
+enum-known-e-2 : tie.Need-enum-known-e-2
+enum-known-e-2 c = search needs
+
+returns-3 : tie.Need-returns-3
+unfolding readGraph checked
+returns-3 c =
+    let r = c .before .before .before in
+    let hs = run-good _ _ _ _ (hypers-next (r .before)) in
+    simp (reading, head-good (r .before .before .before .before .before), hs .there, hs .ends, run-bad _ _ _ _ (step-refused _ (by (r .covers .ensures) (c .before .e2 .given .1))))
+
+returns-4 : tie.Need-returns-4
+unfolding readGraph checked
+returns-4 c =
+    let r = c .before .before .before .before .before in
+    let hs = run-good _ _ _ _ (hypers-next r) in
+    let cs = run-good _ _ _ _ (covers-next (c .before)) in
+    simp (reading, head-good (r .before .before .before .before), hs .there, hs .ends, cs .there, cs .ends, ne-eqb _ _ (c .if1 .taken))
+
+returns-5 : tie.Need-returns-5
+unfolding readGraph checked
+returns-5 c =
+    let r = c .before .before .before .before .before in
+    let hs = run-good _ _ _ _ (hypers-next r) in
+    let cs = run-good _ _ _ _ (covers-next (c .before)) in
+    simp (
+      reading,
+      head-good (r .before .before .before .before),
+      hs .there,
+      hs .ends,
+      cs .there,
+      cs .ends,
+      eq-eqb _ _ (c .if1 .left),
+      all-length _ _ _ _ (hs .there),
+      all-length _ _ _ _ (cs .there),
+    )
+
+pub check-spec : {M : Type 1} → statement M
+check-spec =
+    tie.close
+    (tie.spec
+    header-requires
+    enum-known-head
+    enum-told
+    returns
+    hypers-requires
+    enum-known-st
+    enum-known-e
+    returns-2
+    covers-requires
+    enum-known-st-2
+    enum-known-e-2
+    returns-3
+    returns-4
+    returns-5)
