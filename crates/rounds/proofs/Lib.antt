@@ -3,7 +3,9 @@
 --     Scan       a scan over the records of a message: a turn takes the next record in
 --     Next       cleared, with the hyperedges, with the cover edges: the round
 --     Loop       the loop over rounds: where a turn begins, when the next round is worked out, and how a turn ends
+--     Promised   what the customer is promised follows from the definitions
 pub mod Room
 pub mod Scan
 pub mod Next
 pub mod Loop
+pub mod Promised

@@ -65,6 +65,13 @@ module _ (g : Graph) (closed : Closed g) where
   pub settled-later : {i j : ℕ} → Settled g i → i ≤ j → Settled g j
   settled-later {i} {j} s h v l = settled-stays s (le-trans h (le-suc j)) v l ∙ sym (settled-stays s h v l)
 
+-- what holds of an assignment holds of one that agrees with it at every node
+pub largest-agree : (g : Graph) → Closed g → {x y : Assignment} → Largest g x → Agree g y x → Largest g y
+largest-agree g closed p e = record {
+  obeys = λ v l. round-agree g closed e v l ∙ p .obeys v l ∙ sym (e v l);
+  largest = λ z o v l. ⊑-trans (p .largest z o v l) (⊑-of-eq (sym (e v l)));
+}
+
 -- there is one largest assignment only
 pub largest-unique : (g : Graph) (x y : Assignment) → Largest g x → Largest g y → Agree g x y
 largest-unique g x y p q v l = ⊑-antisym (q .largest x (p .obeys) v l) (p .largest y (q .obeys) v l)

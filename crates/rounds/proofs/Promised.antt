@@ -1,0 +1,146 @@
+-- What the customer is promised follows from the definitions of the outcome and the room. Assumes nothing.
+use Prim.Native.Nat.{ℕ, zero, suc, _+_, _-_, _*_, _≤_, _<_, min}
+use mathlib.Core.List.{List, [], _∷_, _++_, append-assoc}
+use mathlib.Core.Bool.{Bool, true, false, cond}
+use mathlib.Core.Path.{_≡_, refl, sym, ap, subst, _∙_}
+use lib.ListN.{length, getD, take, drop, length-append, List·getD-append}
+use lib.Seq.{take-append-le, getD-append-add, getD-at}
+use lib.Dec.{leb, ltb, lit<}
+use borrow.Author.Tests.{leb-true, leb-false, le-leb, ltb-false, le-ltb}
+use native.Mathlib.Decide.{ℕ-discrete, decLt}
+use native.Mathlib.Nat.{mul-le-mul-right}
+use native.Mathlib.Omega.{arith}
+use Rattle.value.specs.Value.{Value, fin, finite, _≼_}
+use Rattle.value.specs.Stored.{meaning, stored, infinite}
+use Rattle.value.proofs.Values.{≼-fin}
+use Rattle.value.proofs.Stored.{meaning-stored}
+use Rattle.refusal.specs.declared.Refusal.the-variants.{Room}
+use Rattle.wire.specs.Read.{Read, good, bad}
+use Rattle.rules.specs.Graph.{Graph, Closed, heaviest}
+use Rattle.rules.specs.Rounds.{Assignment, Agree, rounds, Largest}
+use Rattle.rules.specs.Count.{count, enough, First}
+use Rattle.rules.proofs.Order.{largest-agree}
+use Rattle.rules.proofs.Size.{Light, value-bound, heaviest-light}
+use Rattle.rules.proofs.Count.{count-first, count-le, count-largest, first-unique}
+use Rattle.graph.specs.Message.{readGraph}
+use Rattle.graph.specs.Write.{writeGraph}
+use Rattle.graph.specs.WellFormed.{WellFormed}
+use Rattle.rounds.specs.declared.Outcome.{Outcome}
+use Rattle.rounds.specs.declared.Outcome.the-variants.{Settled, Spent, Refused}
+use Rattle.rounds.specs.Outcome.{ended, storedValues, filled, outcomeOn, roomOn, outcomeOf, roomOf}
+use Rattle.rounds.specs.Ready.{Storable}
+use Rattle.rounds.specs.Room.{held}
+use Rattle.rounds.specs.Promise.{Accepted, SettledAt, SpentAt, Promise}
+
+-- the stored values one by one
+pub stored-length : (n : ℕ) (x : Assignment) → length (storedValues n x) ≡ n
+unfolding storedValues
+stored-length zero x = refl
+stored-length (suc n) x = simp length-append (omega (arith, stored-length n x))
+
+pub stored-at : (n : ℕ) (x : Assignment) (r : List ℕ) (v : ℕ) → v < n → getD (storedValues n x ++ r) v 0 ≡ stored (x v)
+unfolding storedValues
+stored-at zero x r v h = absurd (omega arith)
+stored-at (suc n) x r v h = go (ℕ-discrete v n) (stored-at n x (stored (x n) ∷ r) v)
+  where
+    again : (storedValues n x ++ (stored (x n) ∷ [])) ++ r ≡ storedValues n x ++ (stored (x n) ∷ r)
+    again = append-assoc (storedValues n x) (stored (x n) ∷ []) r
+
+    go : Dec (v ≡ n) → (v < n → getD (storedValues n x ++ (stored (x n) ∷ r)) v 0 ≡ stored (x v))
+        → getD ((storedValues n x ++ (stored (x n) ∷ [])) ++ r) v 0 ≡ stored (x v)
+    go (yes e) before = rw (again, e) (getD-at (storedValues n x) (stored (x n)) r 0 n (stored-length n x))
+    go (no e) before = rw again (before (omega arith))
+
+-- a well-formed graph's finite values never reach the number that stores infinity: (n - 1) w is at most 4,095 times 4,294,967,295
+pub rounds-fit : (g : Graph) → WellFormed g → Storable g
+rounds-fit g wf i v k l e =
+    let light : Light g 4294967295 = record { weight = λ m n. omega (arith, wf .weights-fit m n) } in
+    let small = ≼-fin (subst (λ (a : Value). a ≼ ((g .nodes - 1) * 4294967295)) e (value-bound g (wf .closed) 4294967295 light i v l (rw e refl))) in
+    omega (arith, small, wf .nodes-fit)
+
+-- the parts of a filled room
+filled-parts : (g : Graph) (m : ℕ) (b : List ℕ)
+    → filled g m b ≡ storedValues (g .nodes) (rounds g m) ++ (storedValues (g .nodes) (rounds g (suc m)) ++ drop (g .nodes + g .nodes) b)
+unfolding filled
+filled-parts g m b = simp append-assoc
+
+module _ (g : Graph) (wf : WellFormed g) (m : ℕ) (b₀ : List ℕ) where
+  -- what its two halves mean
+  first-half : (v : ℕ) → v < g .nodes → held (filled g m b₀) v ≡ rounds g m v
+  first-half v l =
+      rw (filled-parts g m b₀, stored-at (g .nodes) (rounds g m) _ v l) (meaning-stored (rounds g m v) (λ k e. rounds-fit g wf m v k l e))
+
+  second-half : (v : ℕ) → v < g .nodes → held (filled g m b₀) (g .nodes + v) ≡ rounds g (suc m) v
+  second-half v l =
+      let n = g .nodes in
+      let front = storedValues n (rounds g m) in
+      let back = storedValues n (rounds g (suc m)) ++ drop (n + n) b₀ in
+      let e : n + v ≡ length front + v = omega (arith, stored-length n (rounds g m)) in
+      let behind : getD (filled g m b₀) (n + v) 0 ≡ stored (rounds g (suc m) v) =
+      rw (filled-parts, e) (getD-append-add front back v 0 ∙ stored-at n (rounds g (suc m)) (drop (n + n) b₀) v l) in
+      rw behind (meaning-stored (rounds g (suc m) v) (λ k e. rounds-fit g wf (suc m) v k l e))
+
+  -- no finite number in either half is above (n - 1) w
+  both-small : (v : ℕ) → v < g .nodes + g .nodes → finite (held (filled g m b₀) v) ≡ true
+      → held (filled g m b₀) v ≼ ((g .nodes - 1) * heaviest (g .hypers))
+  both-small v l = go (decLt v (g .nodes))
+    where
+      Small : Value → Type 0
+      Small a = finite a ≡ true → a ≼ ((g .nodes - 1) * heaviest (g .hypers))
+
+      bound : (i u : ℕ) → u < g .nodes → Small (rounds g i u)
+      bound i u h = value-bound g (wf .closed) (heaviest (g .hypers)) (heaviest-light g) i u h
+
+      go : Dec (v < g .nodes) → Small (held (filled g m b₀) v)
+      go (yes h) = rw (first-half v h) (bound m v h)
+      go (no h) =
+          let u = v - g .nodes in
+          let e : v ≡ g .nodes + u = omega arith in
+          rw (e, second-half u (omega arith)) (bound (suc m) u (omega arith))
+
+-- the room's numbers of an accepted message
+pub accepted-filled : (s : List ℕ) (g : Graph) (m : ℕ) (b₀ : List ℕ) → s ≡ writeGraph g → WellFormed g → Accepted s (filled g m b₀) g
+accepted-filled s g m b₀ e wf = record { writing = e; well-formed = wf; small = both-small g wf m b₀ }
+
+-- the outcome and the room of the definitions keep the promise
+module _ (s : List ℕ) (budget : ℕ) (b₀ : List ℕ) where
+  kept-ended : (g : Graph) → s ≡ writeGraph g → WellFormed g → Promise s budget b₀ (filled g (min (count g) budget) b₀) (ended g budget)
+  unfolding ended
+  kept-ended g e wf = go (leb (count g) budget) refl
+    where
+      go : (t : Bool) → leb (count g) budget ≡ t → Promise s budget b₀ (filled g (min (count g) budget) b₀) (cond t (Settled (count g)) (Spent budget))
+      go true h =
+          let within = leb-true (count g) budget h in
+          let m : min (count g) budget ≡ count g = omega arith in
+          rw m
+          (record {
+            graph = g;
+            accepted = accepted-filled s g (count g) b₀ e wf;
+            first = count-first g (wf .closed);
+            within = within;
+            soon = count-le g;
+            largest = largest-agree g (wf .closed) (count-largest g (wf .closed)) (first-half g wf (count g) b₀);
+          })
+      go false h =
+          let later = leb-false (count g) budget h in
+          let m : min (count g) budget ≡ budget = omega arith in
+          rw m
+          (record {
+            graph = g;
+            accepted = accepted-filled s g budget b₀ e wf;
+            spent = refl;
+            later = λ i f. omega (arith, first-unique g (count g) i (count-first g (wf .closed)) f);
+          })
+
+  kept-on : (g : Graph) → s ≡ writeGraph g → WellFormed g → Promise s budget b₀ (roomOn g budget b₀) (outcomeOn g budget b₀)
+  unfolding outcomeOn roomOn
+  kept-on g e wf = go (ltb (length b₀) (g .nodes + g .nodes))
+    where
+      go : (t : Bool) → Promise s budget b₀ (cond t b₀ (filled g (min (count g) budget) b₀)) (cond t (Refused Room) (ended g budget))
+      go true = refl
+      go false = kept-ended g e wf
+
+  pub kept : (x : Read Graph) → ((g : Graph) → x ≡ good g → (s ≡ writeGraph g) × WellFormed g) → Promise s budget b₀ (roomOf x budget b₀) (outcomeOf x budget b₀)
+  unfolding outcomeOf roomOf
+  kept (good g) exact = let w = exact g refl in kept-on g (w .0) (w .1)
+  kept (bad e) exact = refl
