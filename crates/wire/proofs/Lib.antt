@@ -4,8 +4,12 @@
 --     Reading    how a reading goes on, and what a good one says
 --     Readers    the turns of a loop over records, and what a good reading of them says
 --     Layouts    records by position
+--     Stands     bytes that stand in a message at a position
+--     Exact      readers that read exactly what is written, and the start of a message
 pub mod Bytes
 pub mod Fields
 pub mod Reading
 pub mod Readers
 pub mod Layouts
+pub mod Stands
+pub mod Exact
