@@ -17,6 +17,7 @@ use Rattle.wire.specs.Start.{readStart}
 use Rattle.wire.specs.Write.{writeAll, message}
 use Rattle.wire.proofs.Bytes.{length-bytes}
 use Rattle.wire.proofs.Reading.{bind-good, demand-good, good-same, good-then, good-and, met, never}
+use Rattle.wire.proofs.Readers.{all-length}
 use Rattle.wire.proofs.Stands.{Stands, stands-none, stands-first, stands-second, stands-both, stands-inside, stands-self, stands-parts, field-stands, stands-field}
 
 -- ---- how a good reading is made, part by part
@@ -24,10 +25,17 @@ use Rattle.wire.proofs.Stands.{Stands, stands-none, stands-first, stand
 pub good-bind : {A B : Type 0} {x : Read A} (f : A → Read B) {a : A} {b : B} → x ≡ good a → f a ≡ good b → x >>= f ≡ good b
 good-bind f {a} p q = rw (p, good-then a f, q)
 
+pub good-after : {A B : Type 0} {x : Read A} {a : A} {r : Read B} {b : B} → x ≡ good a → r ≡ good b → x >> r ≡ good b
+good-after p q = rw (p, good-and, q)
+
 pub good-demand : {B : Type 0} {t : Bool} (e : Refusal) {r : Read B} {b : B} → t ≡ true → r ≡ good b → demand t e >> r ≡ good b
-good-demand e p q = rw (p, met e, good-and, q)
+good-demand e p q = good-after (rw p (met e)) q
 
 -- ---- records one after another
+
+-- as many as there are
+pub all-there : {S A : Type 0} (R : Reader S A) (k : ℕ) (st : S) (xs : List A) → readAll R k st ≡ good xs → readAll R (length xs) st ≡ good xs
+all-there R k st xs e = rw (all-length R k st xs e) e
 
 -- the length of records that are equally long
 pub length-writeAll : {A : Type 0} (write : A → List ℕ) (k : ℕ) → ((a : A) → length (write a) ≡ k) → (xs : List A) → length (writeAll write xs) ≡ length xs * k
