@@ -5,9 +5,13 @@
 --     Readers    the turns of a loop over records, and what a good reading of them says
 --     Layouts    records by position
 --     Start      the reading of a message's start, from the answer
+--     Stands     bytes that stand in a message at a position
+--     Exact      readers that read exactly what is written, and the start of a message
 pub mod Bytes
 pub mod Fields
 pub mod Reading
 pub mod Readers
 pub mod Layouts
 pub mod Start
+pub mod Stands
+pub mod Exact
