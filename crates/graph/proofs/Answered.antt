@@ -6,8 +6,9 @@ use Rattle.wire.specs.Read.{Read, good, bad}
 use Rattle.wire.specs.Reader.{Reader, one, run}
 use Rattle.wire.proofs.Reading.{good-then, bad-then}
 use Rattle.wire.proofs.Readers.{run-none, run-more}
+use Rattle.rules.specs.Graph.{Graph}
 use Rattle.graph.specs.Message.{Counts}
-use Rattle.graph.specs.Answers.{step, counted}
+use Rattle.graph.specs.Answers.{step, counted, checked}
 use Rattle.graph.specs.declared.State.{State}
 use Rattle.graph.specs.declared.Step.{Step}
 use Rattle.graph.specs.declared.Step.the-variants as Step
@@ -55,3 +56,8 @@ pub counted-refused : (x : Read Counts) {f : Refusal} → counted x ≡ Checked.
 unfolding counted
 counted-refused (good a) e = cc
 counted-refused (bad a) e = cc
+
+pub checked-refused : (x : Read Graph) {f : Refusal} → checked x ≡ Checked.Refused f → x ≡ bad f
+unfolding checked
+checked-refused (good g) e = cc
+checked-refused (bad a) e = cc

@@ -4,8 +4,12 @@
 --     Next       cleared, with the hyperedges, with the cover edges: the round
 --     Loop       the loop over rounds: where a turn begins, when the next round is worked out, and how a turn ends
 --     Promised   what the customer is promised follows from the definitions
+--     Laws       one answer, two budgets that settle, when BUDGET is given
+--     Begin      an accepted message is ready for the rounds
 pub mod Room
 pub mod Scan
 pub mod Next
 pub mod Loop
 pub mod Promised
+pub mod Laws
+pub mod Begin

@@ -1,0 +1,81 @@
+-- An accepted message is ready for the rounds. Assumes nothing.
+use Prim.Native.Nat.{ℕ, _+_, _≤_, _<_}
+use mathlib.Core.List.{List}
+use mathlib.Core.Path.{_≡_, refl, sym, ap, subst, _∙_}
+use lib.ListN.{length}
+use native.Mathlib.Omega.{arith}
+use borrow.Author.Tests.{lt-ltb, le-ltb}
+use Rattle.refusal.specs.declared.Refusal.{Refusal}
+use Rattle.refusal.specs.declared.Refusal.the-variants.{Room}
+use Rattle.wire.specs.Bytes.{Bytes}
+use Rattle.wire.specs.Read.{Read, good, bad}
+use Rattle.rules.specs.Graph.{Graph, Closed}
+use Rattle.graph.specs.declared.Checked.{Checked}
+use Rattle.graph.specs.declared.Checked.the-variants as Checked
+use Rattle.graph.specs.Message.{readGraph}
+use Rattle.graph.specs.Answers.{checked}
+use Rattle.graph.specs.Layouts.{decoded}
+use Rattle.graph.proofs.Accepted.{holds}
+use Rattle.graph.proofs.Answered.{checked-refused}
+use Rattle.graph.proofs.Exact.{accepted-written}
+use Rattle.rounds.specs.declared.Outcome.{Outcome}
+use Rattle.rounds.specs.declared.Outcome.the-variants.{Refused}
+use Rattle.rounds.specs.Outcome.{outcomeCount, ended, filled, outcomeOn, roomOn, outcomeOf, roomOf}
+use Rattle.rounds.specs.Promise.{Promise}
+use Rattle.rounds.specs.Ready.{Ready, Storable}
+use Rattle.rounds.proofs.Promised.{rounds-fit, kept}
+use Rattle.rounds.proofs.Laws.{count-reported}
+
+-- a message that is checked as a graph of these counts
+pub record Begin (s : List ℕ) (n h c : ℕ) : Type 0 where
+  pub reads : readGraph s ≡ good (decoded s n h c)
+  pub ready : Ready s n h c
+
+pub begin : (s : List ℕ) {n h c : ℕ} → Bytes s → checked (readGraph s) ≡ Checked.Graph n h c → Begin s n h c
+unfolding checked
+begin s {n} {h} {c} bytes e = go (readGraph s) refl e
+  where
+    go : (x : Read Graph) → readGraph s ≡ x → checked x ≡ Checked.Graph n h c → Begin s n h c
+    go (bad f) r e = let z : _≡_ {A = ℕ} 0 1 = cc in absurd (omega arith)
+    go (good g) r e =
+        let nodes : g .nodes ≡ n = cc in
+        let hypers : length (g .hypers) ≡ h = cc in
+        let covers : length (g .covers) ≡ c = cc in
+        let held = holds s g r in
+        let wf = accepted-written s g bytes r .1 in
+        let base : Begin s (g .nodes) (length (g .hypers)) (length (g .covers)) = record {
+          reads = r ∙ ap good (held .is);
+          ready = record {
+            sound = held .sound;
+            closed = subst Closed (held .is) (wf .closed);
+            storable = subst Storable (held .is) (rounds-fit g wf);
+          };
+        } in
+        rw (nodes, hypers, covers) at base
+
+-- what is shown of a call: its answer, its room, and so the promise
+abbrev pub Shown : (s : List ℕ) (budget : ℕ) (before after : List ℕ) → Outcome → Type 0
+Shown s budget before after r =
+    (r ≡ outcomeOf (readGraph s) budget before) × ((after ≡ roomOf (readGraph s) budget before) × Promise s budget before after r)
+
+module _ (s : List ℕ) (budget : ℕ) (b₀ : List ℕ) (bytes : Bytes s) where
+  shown : (b : List ℕ) (r : Outcome) → r ≡ outcomeOf (readGraph s) budget b₀ → b ≡ roomOf (readGraph s) budget b₀ → Shown s budget b₀ b r
+  shown b r p q = (p, (q, rw (p, q) (kept s budget b₀ (readGraph s) (λ g e. accepted-written s g bytes e))))
+
+  -- a refused message
+  pub shown-refused : {e : Refusal} → checked (readGraph s) ≡ Checked.Refused e → Shown s budget b₀ b₀ (Refused e)
+  unfolding outcomeOf roomOf
+  shown-refused h = let is = checked-refused (readGraph s) h in shown b₀ _ (rw is) (rw is)
+
+  module _ {n h c : ℕ} (begun : Begin s n h c) where
+    -- too little room
+    pub shown-room : length b₀ < n + n → Shown s budget b₀ b₀ (Refused Room)
+    unfolding outcomeOf roomOf outcomeOn roomOn decoded
+    shown-room l = shown b₀ _ (rw (begun .reads, lt-ltb (length b₀) (n + n) l)) (rw (begun .reads, lt-ltb (length b₀) (n + n) l))
+
+    -- the rounds were run
+    pub shown-ran : (b : List ℕ) (r : Outcome) → n + n ≤ length b₀ → r ≡ ended (decoded s n h c) budget → b ≡ filled (decoded s n h c) (outcomeCount r) b₀ → Shown s budget b₀ b r
+    unfolding outcomeOf roomOf outcomeOn roomOn decoded
+    shown-ran b r l p q =
+        shown b r (rw (begun .reads, le-ltb (length b₀) (n + n) l) p)
+        (rw (begun .reads, le-ltb (length b₀) (n + n) l) (q ∙ ap (λ (m : ℕ). filled (decoded s n h c) m b₀) (ap outcomeCount p ∙ count-reported (decoded s n h c) budget)))
