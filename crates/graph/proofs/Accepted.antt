@@ -13,7 +13,7 @@ use Rattle.wire.proofs.Readers.{all-length}
 use Rattle.wire.proofs.Layouts.{Reads, reads-all}
 use Rattle.rules.specs.Graph.{Graph, Hyper, Cover, Target}
 use Rattle.graph.specs.declared.State.{State}
-use Rattle.graph.specs.Bound.{boundOf}
+use Rattle.value.specs.Coded.{boundOf}
 use Rattle.graph.specs.Message.{readTarget, readHyper, readCover, readGraph, targets, hypers, covers, start, firstTarget}
 use Rattle.graph.specs.Layouts.{targetLayout, hyperLayout, coverLayout, decoded, Scannable}
 use Rattle.graph.proofs.Good.{target-good, hyper-good, cover-good, header-good}

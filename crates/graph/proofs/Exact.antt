@@ -18,11 +18,11 @@ use Rattle.wire.proofs.Stands.{Stands, stands-first, stands-second, stands-both
 use Rattle.wire.proofs.Exact.{good-bind, good-after, good-demand, all-there, length-writeAll, Exact, FitsAll, none, more, all-moves, all-reads, all-written, fits-map, fits-both, fits-each, each-fits, fits-rising, rising-fits, message-length, message-rest, start-reads, start-written}
 use Rattle.rules.specs.Graph.{Graph, Hyper, Cover, Target}
 use Rattle.graph.specs.declared.State.{State}
-use Rattle.graph.specs.Bound.{codeOf, Sayable}
+use Rattle.value.specs.Coded.{codeOf, Sayable}
 use Rattle.graph.specs.Message.{readTarget, readTargets, readHyper, readCover, readHeader, readGraph, targets, hypers, covers, start, firstTarget, Counts}
 use Rattle.graph.specs.Write.{writeTarget, writeHyper, writeCover, writeBody, writeGraph}
 use Rattle.graph.specs.WellFormed.{targetsOf, WellFormed}
-use Rattle.graph.proofs.Bounds.{code-bound, bound-sayable, bound-code, code-fits}
+use Rattle.value.proofs.Coded.{code-bound, bound-sayable, bound-code, code-fits}
 use Rattle.graph.proofs.Good.{target-good, hyper-good, cover-good, HeaderAt, header-good}
 
 -- ---- records

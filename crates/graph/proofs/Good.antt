@@ -15,7 +15,7 @@ use Rattle.wire.proofs.Reading.{bind-good, and-good, demand-good, field-good, g
 use Rattle.wire.proofs.Readers.{all-length}
 use Rattle.rules.specs.Graph.{Hyper, Cover, Target}
 use Rattle.graph.specs.declared.State.{State}
-use Rattle.graph.specs.Bound.{boundOf}
+use Rattle.value.specs.Coded.{boundOf}
 use Rattle.graph.specs.Message.{readTarget, readHyper, readTargets, readCover, targets, hypers, covers, firstTarget, Counts, readHeader}
 
 module _ (s : List ℕ) (n : ℕ) where

@@ -2,10 +2,8 @@
 --     Good       what a good reading says of the bytes
 --     Accepted   what an accepted message holds, by position
 --     Answered   the reading from an answer, and the turns of a loop over records
---     Bounds     bounds and the numbers that stand for them
 --     Exact      accepted messages are exactly the writings of well-formed graphs
 pub mod Good
 pub mod Accepted
 pub mod Answered
-pub mod Bounds
 pub mod Exact

@@ -5,7 +5,7 @@ use lib.ListN.{length}
 use Rattle.wire.specs.Bytes.{number}
 use Rattle.wire.specs.Layout.{Layout, items, end, Sound}
 use Rattle.rules.specs.Graph.{Graph, Hyper, Cover, Target}
-use Rattle.graph.specs.Bound.{boundOf}
+use Rattle.value.specs.Coded.{boundOf}
 
 module _ (s : List ℕ) (n : ℕ) where
   -- a target: its 6 bytes fit, and it names a node

@@ -1,4 +1,3 @@
-pub mod Bound
 pub mod Message
 pub mod Write
 pub mod WellFormed

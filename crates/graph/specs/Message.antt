@@ -9,7 +9,7 @@ use Rattle.wire.specs.Read.{Read, good, _>>=_, _>>_, demand, field}
 use Rattle.wire.specs.Reader.{Reader, readAll, past}
 use Rattle.wire.specs.Start.{readStart}
 use Rattle.rules.specs.Graph.{Graph, Hyper, Cover, Target}
-use Rattle.graph.specs.Bound.{boundOf}
+use Rattle.value.specs.Coded.{boundOf}
 use Rattle.graph.specs.declared.State.{State}
 
 -- where a hyperedge's targets start

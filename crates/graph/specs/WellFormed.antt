@@ -5,7 +5,7 @@ use lib.ListN.{length}
 use Rattle.lists.specs.Lists.{_∈_}
 use Rattle.lists.specs.Order.{Rising}
 use Rattle.rules.specs.Graph.{Graph, Hyper, Cover, Target, Closed}
-use Rattle.graph.specs.Bound.{Sayable}
+use Rattle.value.specs.Coded.{Sayable}
 
 -- the targets of all hyperedges together
 unfoldable pub targetsOf : List Hyper → ℕ

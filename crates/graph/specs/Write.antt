@@ -5,7 +5,7 @@ use lib.ListN.{length}
 use Rattle.wire.specs.Bytes.{bytes}
 use Rattle.wire.specs.Write.{writeAll, message}
 use Rattle.rules.specs.Graph.{Graph, Hyper, Cover, Target}
-use Rattle.graph.specs.Bound.{codeOf}
+use Rattle.value.specs.Coded.{codeOf}
 
 -- weight (4) and node (2)
 unfoldable pub writeTarget : Target → List ℕ

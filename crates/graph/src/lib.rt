@@ -5,9 +5,7 @@ ghost use lib.ListN.{length};
 ghost use Rattle.wire.specs.Reader.{one, run};
 ghost use Rattle.graph.specs.Message as m;
 ghost use Rattle.graph.specs.Answers as answers;
-ghost use Rattle.graph.specs.Bound.{boundOf};
 use refusal::Refusal;
-use value::Bound;
 use wire::Field;
 use wire::Opened;
 use wire::Width;
@@ -29,16 +27,6 @@ pub enum Step {
 pub enum Checked {
     Graph(u32, u32, u32),
     Refused(Refusal),
-}
-
-// The bound of four bytes: 4,294,967,295 means no bound.
-pub fn bound_of(code: u32) -> Bound
-    ensures { λ r. ⌜ r ≡ boundOf code ⌝ }
-{
-    if code == 4294967295 {
-        return Bound::Unbounded;
-    }
-    Bound::Within(code)
 }
 
 // One target.

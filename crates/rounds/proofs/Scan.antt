@@ -16,7 +16,7 @@ use Rattle.wire.specs.Layout.{items}
 use Rattle.wire.proofs.Layouts.{items-more}
 use Rattle.rules.specs.Graph.{Target, Hyper, Cover}
 use Rattle.rules.specs.Rounds.{Assignment, holds, worst, best, covered}
-use Rattle.graph.specs.Bound.{boundOf}
+use Rattle.value.specs.Coded.{boundOf}
 use Rattle.graph.specs.Layouts.{targetLayout, hyperLayout, coverLayout, HyperOk, CoverOk}
 use Rattle.rounds.specs.Room.{Going, Done}
 use Rattle.rounds.proofs.Room.{going-on, going-set}

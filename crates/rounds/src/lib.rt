@@ -14,6 +14,7 @@ ghost use Rattle.rounds.specs.Outcome.{outcomeNumber, outcomeCount, ende
 ghost use Rattle.rounds.specs.Promise.{Promise};
 use graph::Checked;
 use refusal::Refusal;
+use value::Bound;
 use value::Value;
 use wire::Width;
 
@@ -110,7 +111,7 @@ fn take_covers(s: &[u8], n: usize, k: u32, at: usize, room: &mut [u64])
     let mut p = at;
     while 0 < i {
         let source = wire::number_at(s, p, Width::Two) as usize;
-        let bound = graph::bound_of(wire::number_at(s, p + 2, Width::Four));
+        let bound = Bound::coded(wire::number_at(s, p + 2, Width::Four));
         let target = wire::number_at(s, p + 6, Width::Two) as usize;
         let value = room[target];
         let j = n + source;

@@ -1,5 +1,7 @@
--- Laws of values.
+-- Laws of values and bounds.
 --     Values     a value by the numbers that it is at most; the order; several in any grouping; bounds
 --     Stored     a stored number and the value that it means
+--     Coded      a bound and the number that stands for it
 pub mod Values
 pub mod Stored
+pub mod Coded

@@ -1,12 +1,25 @@
 // The value of a node, and the bound of a cover edge.
 ghost use mathlib.Core.Path.{_≡_};
 ghost use Rattle.value.specs.Value.{plus, greatest, least, meets};
+ghost use Rattle.value.specs.Coded.{boundOf};
 ghost use Rattle.value.specs.Stored.{meaning, stored};
 
 // How large a value may be: at most a number, or anything finite.
 pub enum Bound {
     Within(u32),
     Unbounded,
+}
+
+impl Bound {
+    // The bound that a number of 4 bytes says: 4,294,967,295 means no bound.
+    pub fn coded(code: u32) -> Bound
+        ensures { λ r. ⌜ r ≡ boundOf code ⌝ }
+    {
+        if code == 4294967295 {
+            return Bound::Unbounded;
+        }
+        Bound::Within(code)
+    }
 }
 
 // A whole number or infinity, as it is stored.

@@ -14,7 +14,7 @@ use Rattle.value.specs.Stored.{meaning}
 use Rattle.wire.specs.Bytes.{number}
 use Rattle.wire.specs.Layout.{items, Sound}
 use Rattle.wire.proofs.Layouts.{sound-more}
-use Rattle.graph.specs.Bound.{boundOf}
+use Rattle.value.specs.Coded.{boundOf}
 use Rattle.graph.specs.Layouts.{coverLayout, CoverOk}
 use Rattle.rounds.specs.Room.{held, Going}
 use Rattle.rounds.proofs.Scan.{leftCovers, covers-met, covers-unmet, covers-end}
@@ -59,7 +59,7 @@ asked c =
     let t = number 2 s (l .p + 6) in
     let same : getD (l .room) t 0 ≡ getD (take (a .n) (now (a .room))) t 0 =
     sym (getD-take (a .n) (l .room) t 0 (here (c .before .before .before .before .before .before) .target-named)) ∙ ap (λ (xs : List ℕ). getD xs t 0) (l .inv .1 .first) in
-    let bound = c .before .before .before .bound-of .ensures ∙ ap boundOf (c .before .before .before .before .number-at2 .ensures) in
+    let bound = c .before .before .before .coded .ensures ∙ ap boundOf (c .before .before .before .before .number-at2 .ensures) in
     c .within .ensures
     ∙ ap₂ (λ (b : Bound) (v : ℕ). meets b (held (l .room) v)) bound (c .before .before .number-at3 .ensures)
     ∙ ap (λ (k : ℕ). meets (boundOf (number 4 s (l .p + 2))) (meaning k)) same
@@ -76,8 +76,8 @@ add-number-at c = omega (arith, here (c .before) .inside)
 number-at-requires-2 : tie.Need-number-at-requires-2 Inv-loop μ-loop
 number-at-requires-2 c κs = omega (arith, here (c .before) .inside)
 
-bound-of-requires : tie.Need-bound-of-requires Inv-loop μ-loop
-bound-of-requires c κs = tt
+coded-requires : tie.Need-coded-requires Inv-loop μ-loop
+coded-requires c κs = tt
 
 add-number-at-2 : tie.Need-add-number-at-2 Inv-loop μ-loop
 add-number-at-2 c = omega (arith, here (c .before .before .before) .inside)
@@ -152,7 +152,7 @@ take-covers-spec =
     cast-source
     add-number-at
     number-at-requires-2
-    bound-of-requires
+    coded-requires
     add-number-at-2
     number-at-requires-3
     cast-target

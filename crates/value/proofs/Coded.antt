@@ -5,9 +5,9 @@ use mathlib.Core.Path.{_≡_, refl, sym}
 use native.Mathlib.Omega.{arith}
 use lib.Dec.{eqb}
 use borrow.Author.Tests.{eqb-true, eqb-false, ne-eqb}
 use Rattle.value.specs.declared.Bound.{Bound}
 use Rattle.value.specs.declared.Bound.the-variants.{Within, Unbounded}
-use Rattle.graph.specs.Bound.{noBound, boundOf, codeOf, Sayable}
+use Rattle.value.specs.Coded.{noBound, boundOf, codeOf, Sayable}
 
 -- a number stands for its bound, which 4 bytes say
 pub code-bound : (k : ℕ) → codeOf (boundOf k) ≡ k
