@@ -12,7 +12,7 @@ use Rattle.wire.proofs.Reading.{bind-good, demand-good, good-same}
 use Rattle.wire.proofs.Readers.{all-length}
 use Rattle.wire.proofs.Layouts.{Reads, reads-all}
 use Rattle.rules.specs.Graph.{Graph, Hyper, Cover, Target}
-use Rattle.graph.specs.declared.State.{State}
+use Rattle.wire.specs.declared.State.{State}
 use Rattle.value.specs.Coded.{boundOf}
 use Rattle.graph.specs.Message.{readTarget, readHyper, readCover, readGraph, targets, hypers, covers, start, firstTarget}
 use Rattle.graph.specs.Layouts.{targetLayout, hyperLayout, coverLayout, decoded, Scannable}

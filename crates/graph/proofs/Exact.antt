@@ -17,7 +17,7 @@ use Rattle.wire.proofs.Readers.{all-length}
 use Rattle.wire.proofs.Stands.{Stands, stands-first, stands-second, stands-both, stands-inside, stands-last, value-stands, stands-field}
 use Rattle.wire.proofs.Exact.{good-bind, good-after, good-demand, all-there, length-writeAll, Exact, FitsAll, none, more, all-moves, all-reads, all-written, fits-map, fits-both, fits-each, each-fits, fits-rising, rising-fits, message-length, message-rest, start-reads, start-written}
 use Rattle.rules.specs.Graph.{Graph, Hyper, Cover, Target}
-use Rattle.graph.specs.declared.State.{State}
+use Rattle.wire.specs.declared.State.{State}
 use Rattle.value.specs.Coded.{codeOf, Sayable}
 use Rattle.graph.specs.Message.{readTarget, readTargets, readHyper, readCover, readHeader, readGraph, targets, hypers, covers, start, firstTarget, Counts}
 use Rattle.graph.specs.Write.{writeTarget, writeHyper, writeCover, writeBody, writeGraph}
@@ -43,7 +43,7 @@ pub record CoverFits (n : ℕ) (c : Cover) : Type 0 where
 
 -- what a state demands of a record
 abbrev pub HyperNext : ℕ → State → Hyper → Type 0
-HyperNext n st h = ((st .prev ≤ h .source) × (st .total + length (h .targets) ≤ 262144)) × HyperFits n h
+HyperNext n st h = ((st .prev ≤ h .source) × (st .tally + length (h .targets) ≤ 262144)) × HyperFits n h
 
 abbrev pub CoverNext : ℕ → State → Cover → Type 0
 CoverNext n st c = (st .prev ≤ c .source) × CoverFits n c
@@ -151,16 +151,16 @@ module _ (s : List ℕ) (n : ℕ) (small : n ≤ 65536) where
 
 module _ (s : List ℕ) (n : ℕ) where
   -- the running total demands that all targets together are few
-  fits-few : {st : State} {hs : List Hyper} → FitsAll (hypers s n) (λ st h. st .total + length (h .targets) ≤ 262144) st hs → st .total ≤ 262144 → st .total + targetsOf hs ≤ 262144
+  fits-few : {st : State} {hs : List Hyper} → FitsAll (hypers s n) (λ st h. st .tally + length (h .targets) ≤ 262144) st hs → st .tally ≤ 262144 → st .tally + targetsOf hs ≤ 262144
   unfolding targetsOf
   fits-few none h = omega arith
   fits-few (more p ps) h = let rest = fits-few ps p in omega arith
 
-  few-fits : (st : State) (hs : List Hyper) → st .total + targetsOf hs ≤ 262144 → FitsAll (hypers s n) (λ st h. st .total + length (h .targets) ≤ 262144) st hs
+  few-fits : (st : State) (hs : List Hyper) → st .tally + targetsOf hs ≤ 262144 → FitsAll (hypers s n) (λ st h. st .tally + length (h .targets) ≤ 262144) st hs
   unfolding targetsOf
   few-fits st [] h = none
   few-fits st (a ∷ hs) h =
-      let here : st .total + length (a .targets) ≤ 262144 = omega arith in
+      let here : st .tally + length (a .targets) ≤ 262144 = omega arith in
       more here (few-fits (hypers s n .next st a) hs (omega arith))
 
 -- ---- whole messages

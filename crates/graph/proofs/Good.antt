@@ -14,7 +14,7 @@ use Rattle.wire.proofs.Fields.{value-inside}
 use Rattle.wire.proofs.Reading.{bind-good, and-good, demand-good, field-good, good-same}
 use Rattle.wire.proofs.Readers.{all-length}
 use Rattle.rules.specs.Graph.{Hyper, Cover, Target}
-use Rattle.graph.specs.declared.State.{State}
+use Rattle.wire.specs.declared.State.{State}
 use Rattle.value.specs.Coded.{boundOf}
 use Rattle.graph.specs.Message.{readTarget, readHyper, readTargets, readCover, targets, hypers, covers, firstTarget, Counts, readHeader}
 
@@ -44,7 +44,7 @@ module _ (s : List ℕ) (n : ℕ) where
     pub count-there : fieldAt 2 s (st .at + 2) ≡ Number (length (h .targets))
     pub named : h .source < n
     pub ordered : st .prev ≤ h .source
-    pub few : st .total + length (h .targets) ≤ 262144
+    pub few : st .tally + length (h .targets) ≤ 262144
     pub inside : st .at + 4 + length (h .targets) * 6 ≤ length s
     pub targets-there : readAll (targets s n) (length (h .targets)) (firstTarget st) ≡ good (h .targets)
 
@@ -109,7 +109,7 @@ module _ (s : List ℕ) (n : ℕ) where
       let t = target-good st (r .value) (r .first) in
       omega (arith, value-inside 2 s (st .at + 4) (t .node-there), ap (λ (u : State). u .at) (good-same (r .rest)))
 
-  pub hypers-stay : (st next : State) → one (hypers s n) st ≡ good next → (next .at ≤ length s) × (next .total ≤ 262144)
+  pub hypers-stay : (st next : State) → one (hypers s n) st ≡ good next → (next .at ≤ length s) × (next .tally ≤ 262144)
   hypers-stay st next e =
       let r = bind-good _ _ e in
       let h = hyper-good st (r .value) (r .first) in

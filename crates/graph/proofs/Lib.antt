@@ -1,7 +1,7 @@
 -- Laws of graph messages.
 --     Good       what a good reading says of the bytes
 --     Accepted   what an accepted message holds, by position
---     Answered   the reading from an answer, and the turns of a loop over records
+--     Answered   the reading from an answer
 --     Exact      accepted messages are exactly the writings of well-formed graphs
 pub mod Good
 pub mod Accepted

@@ -9,15 +9,8 @@ use Rattle.rules.specs.Graph.{Graph}
 use Rattle.graph.specs.Message.{Counts}
 use Rattle.graph.specs.Write.{writeGraph}
 use Rattle.graph.specs.WellFormed.{WellFormed}
-use Rattle.graph.specs.declared.State.{State}
-use Rattle.graph.specs.declared.Step.{Step}
-use Rattle.graph.specs.declared.Step.the-variants as Step
 use Rattle.graph.specs.declared.Checked.{Checked}
 use Rattle.graph.specs.declared.Checked.the-variants as Checked
-
-unfoldable pub step : Read State → Step
-step (good st) = Step.Next st
-step (bad e) = Step.Refused e
 
 unfoldable pub counted : Read Counts → Checked
 counted (good k) = Checked.Graph (k .n) (k .h) (k .c)

@@ -1,5 +1,5 @@
 -- The reading of a graph message s: its first fault in the paper's order, or the graph.
--- A state's `at` is a position in s, `prev` the source before, and `total` the targets so far.
+-- A state's `at` is a position in s, `prev` the source before, and `tally` the targets so far.
 use Prim.Native.Nat.{ℕ, _+_, _*_}
 use mathlib.Core.List.{List}
 use lib.ListN.{length}
@@ -10,15 +10,15 @@ use Rattle.wire.specs.Reader.{Reader, readAll, past}
 use Rattle.wire.specs.Start.{readStart}
 use Rattle.rules.specs.Graph.{Graph, Hyper, Cover, Target}
 use Rattle.value.specs.Coded.{boundOf}
-use Rattle.graph.specs.declared.State.{State}
+use Rattle.wire.specs.declared.State.{State}
 
 -- where a hyperedge's targets start
 abbrev pub firstTarget : State → State
-firstTarget st = record { at = st .at + 4; prev = st .prev; total = st .total }
+firstTarget st = record { at = st .at + 4; prev = st .prev; tally = st .tally }
 
 -- the state past a hyperedge
 abbrev pub afterHyper : State → ℕ → ℕ → State
-afterHyper st source count = record { at = st .at + 4 + count * 6; prev = source; total = st .total + count }
+afterHyper st source count = record { at = st .at + 4 + count * 6; prev = source; tally = st .tally + count }
 
 module _ (s : List ℕ) (n : ℕ) where
   -- a target: weight (4) and node (2)
@@ -33,13 +33,13 @@ module _ (s : List ℕ) (n : ℕ) where
   targets = record {
     position = λ st. st .at;
     read = readTarget;
-    next = λ st t. record { at = st .at + 6; prev = st .prev; total = st .total };
+    next = λ st t. record { at = st .at + 6; prev = st .prev; tally = st .tally };
   }
 
   -- the targets of a hyperedge: the running total's limit, then their bytes fit, then each
   unfoldable pub readTargets : State → ℕ → ℕ → Read Hyper
   readTargets st source count = do
-    demand (leb (st .total + count) 262144) Limit
+    demand (leb (st .tally + count) 262144) Limit
     demand (leb (st .at + 4 + count * 6) (length s)) Length
     ts ← readAll targets count (firstTarget st)
     good (record { source = source; targets = ts })
@@ -79,7 +79,7 @@ module _ (s : List ℕ) (n : ℕ) where
   covers = record {
     position = λ st. st .at;
     read = readCover;
-    next = λ st c. record { at = st .at + 8; prev = c .source; total = st .total };
+    next = λ st c. record { at = st .at + 8; prev = c .source; tally = st .tally };
   }
 
 -- the counts of a header
@@ -103,7 +103,7 @@ readHeader s = do
 
 -- where the records of a list start
 abbrev pub start : ℕ → State
-start at = record { at = at; prev = 0; total = 0 }
+start at = record { at = at; prev = 0; tally = 0 }
 
 -- a whole message: the header, the hyperedges, the cover edges, and nothing left over
 unfoldable pub readGraph : List ℕ → Read Graph

@@ -3,25 +3,15 @@ ghost use mathlib.Core.Path.{_≡_};
 ghost use Prim.Native.Nat.{_+_, _*_, _≤_};
 ghost use lib.ListN.{length};
 ghost use Rattle.wire.specs.Reader.{one, run};
+ghost use Rattle.wire.specs.Step.{step};
 ghost use Rattle.graph.specs.Message as m;
 ghost use Rattle.graph.specs.Answers as answers;
 use refusal::Refusal;
 use wire::Field;
 use wire::Opened;
+use wire::State;
+use wire::Step;
 use wire::Width;
-
-// Where a reading of records stands: the position, the source before, and the targets so far.
-pub struct State {
-    pub at: usize,
-    pub prev: u32,
-    pub total: u32,
-}
-
-// The state past what was read, or the first fault.
-pub enum Step {
-    Next(State),
-    Refused(Refusal),
-}
 
 // How many nodes, hyperedges and cover edges an accepted message has, or its first fault.
 pub enum Checked {
@@ -32,7 +22,7 @@ pub enum Checked {
 // One target.
 fn target(s: &[u8], n: u32, st: State) -> Step
     requires { ⌜ st .at ≤ length (now s) ⌝ }
-    ensures { λ r. ⌜ r ≡ answers.step (one (m.targets (now (s .entry)) n) st) ⌝ }
+    ensures { λ r. ⌜ r ≡ step (one (m.targets (now (s .entry)) n) st) ⌝ }
 {
     let at = st.at;
     let Field::Number(_) = wire::read(s, at, Width::Four) else {
@@ -49,14 +39,14 @@ fn target(s: &[u8], n: u32, st: State) -> Step
     Step::Next(State {
         at: end,
         prev: st.prev,
-        total: st.total,
+        tally: st.tally,
     })
 }
 
 // k targets, whose bytes fit.
 fn targets(s: &[u8], n: u32, k: u32, first: State) -> Step
     requires { ⌜ first .at + k * 6 ≤ length (now s) ⌝ }
-    ensures { λ r. ⌜ r ≡ answers.step (run (m.targets (now (s .entry)) n) k first) ⌝ }
+    ensures { λ r. ⌜ r ≡ step (run (m.targets (now (s .entry)) n) k first) ⌝ }
 {
     let mut st = first;
     let mut i = k;
@@ -73,8 +63,8 @@ fn targets(s: &[u8], n: u32, k: u32, first: State) -> Step
 
 // One hyperedge.
 fn hyper(s: &[u8], n: u32, st: State) -> Step
-    requires { ⌜ (st .at ≤ length (now s)) × (st .total ≤ 262144) ⌝ }
-    ensures { λ r. ⌜ r ≡ answers.step (one (m.hypers (now (s .entry)) n) st) ⌝ }
+    requires { ⌜ (st .at ≤ length (now s)) × (st .tally ≤ 262144) ⌝ }
+    ensures { λ r. ⌜ r ≡ step (one (m.hypers (now (s .entry)) n) st) ⌝ }
 {
     let at = st.at;
     let Field::Number(source) = wire::read(s, at, Width::Two) else {
@@ -95,11 +85,11 @@ fn hyper(s: &[u8], n: u32, st: State) -> Step
 
 // The targets of a hyperedge of this source and so many targets.
 fn hyper_targets(s: &[u8], n: u32, st: State, source: u32, count: u32) -> Step
-    requires { ⌜ (st .at + 4 ≤ length (now s)) × (st .total ≤ 262144) × (count ≤ 65535) ⌝ }
-    ensures { λ r. ⌜ r ≡ answers.step (m.afterTargets (now (s .entry)) n st source count) ⌝ }
+    requires { ⌜ (st .at + 4 ≤ length (now s)) × (st .tally ≤ 262144) × (count ≤ 65535) ⌝ }
+    ensures { λ r. ⌜ r ≡ step (m.afterTargets (now (s .entry)) n st source count) ⌝ }
 {
-    let total = st.total;
-    if 262144 - total < count {
+    let tally = st.tally;
+    if 262144 - tally < count {
         return Step::Refused(Refusal::Limit);
     }
     let first = st.at + 4;
@@ -114,24 +104,24 @@ fn hyper_targets(s: &[u8], n: u32, st: State, source: u32, count: u32) -> Step
         State {
             at: first,
             prev: st.prev,
-            total,
+            tally,
         },
     );
     let Step::Next(_) = read else {
         return read;
     };
-    let so_far = total + count;
+    let so_far = tally + count;
     Step::Next(State {
         at: end,
         prev: source,
-        total: so_far,
+        tally: so_far,
     })
 }
 
 // k hyperedges.
 fn hypers(s: &[u8], n: u32, k: u32, first: State) -> Step
-    requires { ⌜ (first .at ≤ length (now s)) × (first .total ≤ 262144) ⌝ }
-    ensures { λ r. ⌜ r ≡ answers.step (run (m.hypers (now (s .entry)) n) k first) ⌝ }
+    requires { ⌜ (first .at ≤ length (now s)) × (first .tally ≤ 262144) ⌝ }
+    ensures { λ r. ⌜ r ≡ step (run (m.hypers (now (s .entry)) n) k first) ⌝ }
 {
     let mut st = first;
     let mut i = k;
@@ -149,7 +139,7 @@ fn hypers(s: &[u8], n: u32, k: u32, first: State) -> Step
 // One cover edge.
 fn cover(s: &[u8], n: u32, st: State) -> Step
     requires { ⌜ st .at ≤ length (now s) ⌝ }
-    ensures { λ r. ⌜ r ≡ answers.step (one (m.covers (now (s .entry)) n) st) ⌝ }
+    ensures { λ r. ⌜ r ≡ step (one (m.covers (now (s .entry)) n) st) ⌝ }
 {
     let at = st.at;
     let prev = st.prev;
@@ -177,14 +167,14 @@ fn cover(s: &[u8], n: u32, st: State) -> Step
     Step::Next(State {
         at: end,
         prev: source,
-        total: st.total,
+        tally: st.tally,
     })
 }
 
 // k cover edges.
 fn covers(s: &[u8], n: u32, k: u32, first: State) -> Step
     requires { ⌜ first .at ≤ length (now s) ⌝ }
-    ensures { λ r. ⌜ r ≡ answers.step (run (m.covers (now (s .entry)) n) k first) ⌝ }
+    ensures { λ r. ⌜ r ≡ step (run (m.covers (now (s .entry)) n) k first) ⌝ }
 {
     let mut st = first;
     let mut i = k;
@@ -245,7 +235,7 @@ pub fn check(s: &[u8]) -> Checked
         State {
             at: 14,
             prev: 0,
-            total: 0,
+            tally: 0,
         },
     ) {
         Step::Next(st) => st.at,
@@ -258,7 +248,7 @@ pub fn check(s: &[u8]) -> Checked
         State {
             at: middle,
             prev: 0,
-            total: 0,
+            tally: 0,
         },
     ) {
         Step::Next(st) => st.at,

@@ -4,6 +4,7 @@
 --     Reading    how a reading goes on, and what a good one says
 --     Readers    the turns of a loop over records, and what a good reading of them says
 --     Layouts    records by position
+--     Turns      the turns of a loop over records
 --     Start      the reading of a message's start, from the answer
 --     Stands     bytes that stand in a message at a position
 --     Exact      readers that read exactly what is written, and the start of a message
@@ -12,6 +13,7 @@ pub mod Fields
 pub mod Reading
 pub mod Readers
 pub mod Layouts
+pub mod Turns
 pub mod Start
 pub mod Stands
 pub mod Exact

@@ -5,3 +5,4 @@ pub mod Reader
 pub mod Start
 pub mod Write
 pub mod Layout
+pub mod Step

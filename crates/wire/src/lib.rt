@@ -38,6 +38,19 @@ pub enum Opened {
     Refused(Refusal),
 }
 
+// Where a reading of records stands: the position, the source before, and a count that the message's own rules need.
+pub struct State {
+    pub at: usize,
+    pub prev: u32,
+    pub tally: u32,
+}
+
+// The state past what was read, or the first fault.
+pub enum Step {
+    Next(State),
+    Refused(Refusal),
+}
+
 // The number of a field that is known to fit.
 pub fn number_at(s: &[u8], at: usize, width: Width) -> u32
     requires { ⌜ at + widthOf width ≤ length (now s) ⌝ }

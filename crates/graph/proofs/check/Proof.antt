@@ -12,12 +12,13 @@ use Rattle.wire.specs.Reader.{run}
 use Rattle.wire.proofs.Fields.{value-inside}
 use Rattle.wire.proofs.Reading.{reading}
 use Rattle.wire.proofs.Readers.{run-good, run-bad, run-keeps, all-length}
-use Rattle.graph.specs.declared.State.{State}
+use Rattle.wire.specs.declared.State.{State}
 use Rattle.graph.specs.Message.{readHeader, readGraph, start}
 use Rattle.graph.specs.Message as m
 use Rattle.graph.specs.Answers.{checked}
 use Rattle.graph.proofs.Good.{header-good, hypers-stay}
-use Rattle.graph.proofs.Answered.{counted-graph, counted-refused, step-next, step-refused}
+use Rattle.wire.proofs.Turns.{step-next, step-refused}
+use Rattle.graph.proofs.Answered.{counted-graph, counted-refused}
 use Rattle.graph.proofs.check.Statement.{statement}
 use Rattle.graph.proofs.check.Tie as tie
 

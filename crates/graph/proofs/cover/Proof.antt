@@ -9,7 +9,7 @@ use Rattle.wire.specs.declared.Field.the-variants.{Number}
 use Rattle.wire.specs.Field.{fieldAt}
 use Rattle.wire.proofs.Reading.{reading}
 use Rattle.graph.specs.Message.{readCover}
-use Rattle.graph.specs.Answers.{step}
+use Rattle.wire.specs.Step.{step}
 use Rattle.graph.proofs.cover.Statement.{statement}
 use Rattle.graph.proofs.cover.Tie as tie
 

@@ -12,7 +12,7 @@ use Rattle.wire.proofs.Bytes.{number-below}
 use Rattle.wire.proofs.Fields.{value-inside, value-is}
 use Rattle.wire.proofs.Reading.{reading}
 use Rattle.graph.specs.Message.{readHyper}
-use Rattle.graph.specs.Answers.{step}
+use Rattle.wire.specs.Step.{step}
 use Rattle.graph.proofs.hyper.Statement.{statement}
 use Rattle.graph.proofs.hyper.Tie as tie
 

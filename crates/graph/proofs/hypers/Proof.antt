@@ -7,14 +7,14 @@ use native.Mathlib.Omega.{arith}
 use Rattle.lists.proofs.Tests.{by}
 use Rattle.wire.specs.Reader.{run}
 use Rattle.graph.specs.Message as m
-use Rattle.graph.specs.Answers.{step}
-use Rattle.graph.proofs.Answered.{step-next, turn-next, turn-refused, turn-none}
+use Rattle.wire.specs.Step.{step}
+use Rattle.wire.proofs.Turns.{step-next, turn-next, turn-refused, turn-none}
 use Rattle.graph.proofs.Good.{hypers-stay}
 use Rattle.graph.proofs.hypers.Statement.{statement}
 use Rattle.graph.proofs.hypers.Tie as tie
 
 abbrev Inv-loop : tie.InvT-loop
-Inv-loop s n k st₀ i₀ st i = (st .at ≤ length s) × (st .total ≤ 262144) × (step (run (m.hypers s n) i st) ≡ step (run (m.hypers s n) k st₀))
+Inv-loop s n k st₀ i₀ st i = (st .at ≤ length s) × (st .tally ≤ 262144) × (step (run (m.hypers s n) i st) ≡ step (run (m.hypers s n) k st₀))
 
 abbrev μ-loop : tie.MeasureT-loop
 μ-loop s n k st₀ i₀ st i = i

@@ -4,7 +4,7 @@ use borrow.Author.Needs.{needs}
 use Rattle.lists.proofs.Tests.{by}
 use Rattle.wire.proofs.Reading.{reading}
 use Rattle.graph.specs.Message.{readTarget}
-use Rattle.graph.specs.Answers.{step}
+use Rattle.wire.specs.Step.{step}
 use Rattle.graph.proofs.target.Statement.{statement}
 use Rattle.graph.proofs.target.Tie as tie
 

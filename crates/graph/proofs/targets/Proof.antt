@@ -7,8 +7,8 @@ use native.Mathlib.Omega.{arith}
 use Rattle.lists.proofs.Tests.{by}
 use Rattle.wire.specs.Reader.{run}
 use Rattle.graph.specs.Message as m
-use Rattle.graph.specs.Answers.{step}
-use Rattle.graph.proofs.Answered.{step-next, turn-next, turn-refused, turn-none}
+use Rattle.wire.specs.Step.{step}
+use Rattle.wire.proofs.Turns.{step-next, turn-next, turn-refused, turn-none}
 use Rattle.graph.proofs.Good.{targets-stay}
 use Rattle.graph.proofs.targets.Statement.{statement}
 use Rattle.graph.proofs.targets.Tie as tie
