@@ -1,0 +1,83 @@
+-- The reading of a model message s: its first fault in the paper's order, or the model.
+-- A state's `at` is a position in s, `prev` the `from` before, and `tally` the first state that no transition so far leaves.
+use Prim.Native.Nat.{ℕ, _+_, _*_, _^_}
+use mathlib.Core.List.{List}
+use mathlib.Core.Bool.{cond}
+use lib.ListN.{length}
+use lib.Dec.{leb, ltb, eqb}
+use Rattle.refusal.specs.declared.Refusal.the-variants.{Length, Limit, Order, Name, Dead, Form}
+use Rattle.wire.specs.Read.{Read, good, _>>=_, _>>_, demand, field}
+use Rattle.wire.specs.Reader.{Reader, readAll}
+use Rattle.wire.specs.Start.{readStart}
+use Rattle.wire.specs.declared.State.{State}
+use Rattle.model.specs.Model.{Model, Transition, noneDead}
+
+-- with transitions in order, the first state that none leaves: the next one where a transition leaves this one
+abbrev pub afterFrom : ℕ → ℕ → ℕ
+afterFrom first from = cond (eqb from first) (first + 1) first
+
+module _ (s : List ℕ) where
+  -- a label (4): a bit at p or above is FORM
+  unfoldable pub readLabel : ℕ → State → Read ℕ
+  readLabel p st = do
+    label ← field 4 s (st .at)
+    demand (ltb label (2 ^ p)) Form
+    good label
+
+  abbrev pub labels : ℕ → Reader State ℕ
+  labels p = record {
+    position = λ st. st .at;
+    read = readLabel p;
+    next = λ st label. record { at = st .at + 4; prev = st .prev; tally = st .tally };
+  }
+
+  -- a transition of a model with n states: from (2), weight (4), to (2)
+  unfoldable pub readTransition : ℕ → State → Read Transition
+  readTransition n st = do
+    from ← field 2 s (st .at)
+    weight ← field 4 s (st .at + 2)
+    to ← field 2 s (st .at + 6)
+    demand (ltb from n) Name
+    demand (leb (st .prev) from) Order
+    demand (ltb to n) Name
+    good (record { from = from; weight = weight; to = to })
+
+  abbrev pub transitions : ℕ → Reader State Transition
+  transitions n = record {
+    position = λ st. st .at;
+    read = readTransition n;
+    next = λ st t. record { at = st .at + 8; prev = t .from; tally = afterFrom (st .tally) (t .from) };
+  }
+
+-- the counts of a header
+pub record Counts : Type 0 where
+  pub states : ℕ
+  pub propositions : ℕ
+  pub transitions : ℕ
+
+-- the header, 13 bytes, version 1, kind 2: then states (2), propositions (1), transitions (4); then the message is exactly as long as they say
+unfoldable pub readHeader : List ℕ → Read Counts
+readHeader s = do
+  readStart s 13 1 2
+  n ← field 2 s 6
+  demand (leb 1 n) Limit
+  demand (leb n 256) Limit
+  p ← field 1 s 8
+  demand (leb p 32) Limit
+  t ← field 4 s 9
+  demand (leb t 65535) Limit
+  demand (eqb (length s) (13 + n * 4 + t * 8)) Length
+  good (record { states = n; propositions = p; transitions = t })
+
+-- where the records of a list start
+abbrev pub start : ℕ → State
+start at = record { at = at; prev = 0; tally = 0 }
+
+-- a whole message: the header, the labels, the transitions, and after all of them DEAD
+unfoldable pub readModel : List ℕ → Read Model
+readModel s = do
+  counts ← readHeader s
+  ls ← readAll (labels s (counts .propositions)) (counts .states) (start 13)
+  ts ← readAll (transitions s (counts .states)) (counts .transitions) (start (13 + counts .states * 4))
+  demand (noneDead (counts .states) ts) Dead
+  good (record { states = counts .states; propositions = counts .propositions; labels = ls; transitions = ts })

@@ -1,0 +1,34 @@
+-- A weighted Kripke structure: states with labels, and weighted transitions between them.
+use Prim.Native.Nat.{ℕ, _/_, _%_, _^_}
+use mathlib.Core.List.{List}
+use mathlib.Core.Bool.{Bool}
+use lib.ListN.{getD}
+use lib.Dec.{eqb}
+use Rattle.lists.specs.Lists.{any, all, upTo}
+
+pub record Transition : Type 0 where
+  pub from : ℕ
+  pub weight : ℕ
+  pub to : ℕ
+
+-- the states are the numbers below `states`, and so are the propositions; a label is a number of 32 bits
+pub record Model : Type 0 where
+  pub states : ℕ
+  pub propositions : ℕ
+  pub labels : List ℕ
+  pub transitions : List Transition
+
+-- bit i of a label says that proposition i holds
+abbrev pub bit : ℕ → ℕ → Bool
+bit label i = eqb (label / 2 ^ i % 2) 1
+
+abbrev pub holds : Model → ℕ → ℕ → Bool
+holds M i a = bit (getD (M .labels) a 0) i
+
+-- some transition leaves the state
+unfoldable pub leaves : List Transition → ℕ → Bool
+leaves ts a = any (λ t. eqb (t .from) a) ts
+
+-- no state is without a transition
+unfoldable pub noneDead : ℕ → List Transition → Bool
+noneDead n ts = all (leaves ts) (upTo n)

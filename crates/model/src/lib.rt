@@ -1,0 +1,211 @@
+// The check of a model message: the first fault in the paper's order, or the counts of its header.
+ghost use mathlib.Core.Path.{_≡_};
+ghost use Prim.Native.Nat.{_+_, _*_, _≤_, _^_};
+ghost use lib.ListN.{length};
+ghost use Rattle.wire.specs.Reader.{one, run};
+ghost use Rattle.wire.specs.Step.{step};
+ghost use Rattle.model.specs.Message as m;
+ghost use Rattle.model.specs.Answers as answers;
+use refusal::Refusal;
+use wire::Field;
+use wire::Opened;
+use wire::State;
+use wire::Step;
+use wire::Width;
+
+// How many states, propositions and transitions an accepted message has, or its first fault.
+pub enum Checked {
+    Model(u32, u32, u32),
+    Refused(Refusal),
+}
+
+// The labels of p propositions are below this.
+fn label_limit(p: u32) -> u64
+    requires { ⌜ p ≤ 32 ⌝ }
+    ensures { λ r. ⌜ r ≡ 2 ^ p ⌝ }
+{
+    let mut limit: u64 = 1;
+    let mut i = p;
+    while 0 < i {
+        limit *= 2;
+        i -= 1;
+    }
+    limit
+}
+
+// One label, below the limit.
+fn label(s: &[u8], p: u32, limit: u64, st: State) -> Step
+    requires { ⌜ (st .at ≤ length (now s)) × (limit ≡ 2 ^ p) ⌝ }
+    ensures { λ r. ⌜ r ≡ step (one (m.labels (now (s .entry)) p) st) ⌝ }
+{
+    let at = st.at;
+    let Field::Number(label) = wire::read(s, at, Width::Four) else {
+        return Step::Refused(Refusal::Length);
+    };
+    if limit <= label as u64 {
+        return Step::Refused(Refusal::Form);
+    }
+    let end = at + 4;
+    Step::Next(State {
+        at: end,
+        prev: st.prev,
+        tally: st.tally,
+    })
+}
+
+// k labels.
+fn labels(s: &[u8], p: u32, k: u32, first: State) -> Step
+    requires { ⌜ (first .at ≤ length (now s)) × (p ≤ 32) ⌝ }
+    ensures { λ r. ⌜ r ≡ step (run (m.labels (now (s .entry)) p) k first) ⌝ }
+{
+    let limit = label_limit(p);
+    let mut st = first;
+    let mut i = k;
+    while 0 < i {
+        let read = label(s, p, limit, st);
+        let Step::Next(next) = read else {
+            return read;
+        };
+        st = next;
+        i -= 1;
+    }
+    Step::Next(st)
+}
+
+// One transition of a model with n states.
+fn transition(s: &[u8], n: u32, st: State) -> Step
+    requires { ⌜ (st .at ≤ length (now s)) × (n ≤ 256) × (st .tally ≤ 256) ⌝ }
+    ensures { λ r. ⌜ r ≡ step (one (m.transitions (now (s .entry)) n) st) ⌝ }
+{
+    let at = st.at;
+    let Field::Number(from) = wire::read(s, at, Width::Two) else {
+        return Step::Refused(Refusal::Length);
+    };
+    let weight_at = at + 2;
+    let Field::Number(_) = wire::read(s, weight_at, Width::Four) else {
+        return Step::Refused(Refusal::Length);
+    };
+    let to_at = at + 6;
+    let Field::Number(to) = wire::read(s, to_at, Width::Two) else {
+        return Step::Refused(Refusal::Length);
+    };
+    if n <= from {
+        return Step::Refused(Refusal::Name);
+    }
+    if from < st.prev {
+        return Step::Refused(Refusal::Order);
+    }
+    if n <= to {
+        return Step::Refused(Refusal::Name);
+    }
+    let end = at + 8;
+    let first = after_from(st.tally, from);
+    Step::Next(State {
+        at: end,
+        prev: from,
+        tally: first,
+    })
+}
+
+// The first state that no transition so far leaves, after one more.
+fn after_from(first: u32, from: u32) -> u32
+    requires { ⌜ first ≤ 256 ⌝ }
+    ensures { λ r. ⌜ r ≡ m.afterFrom first from ⌝ }
+{
+    if from == first {
+        return first + 1;
+    }
+    first
+}
+
+// k transitions.
+fn transitions(s: &[u8], n: u32, k: u32, start: State) -> Step
+    requires { ⌜ (start .at ≤ length (now s)) × (n ≤ 256) × (start .tally ≤ n) ⌝ }
+    ensures { λ r. ⌜ r ≡ step (run (m.transitions (now (s .entry)) n) k start) ⌝ }
+{
+    let mut st = start;
+    let mut i = k;
+    while 0 < i {
+        let read = transition(s, n, st);
+        let Step::Next(next) = read else {
+            return read;
+        };
+        st = next;
+        i -= 1;
+    }
+    Step::Next(st)
+}
+
+// The header, and that the message is as long as its counts say.
+fn header(s: &[u8]) -> Checked
+    ensures { λ r. ⌜ r ≡ answers.counted (m.readHeader (now (s .entry))) ⌝ }
+{
+    if let Opened::Refused(e) = wire::open(s, 13, 1, 2) {
+        return Checked::Refused(e);
+    }
+    let Field::Number(n) = wire::read(s, 6, Width::Two) else {
+        return Checked::Refused(Refusal::Length);
+    };
+    if n < 1 {
+        return Checked::Refused(Refusal::Limit);
+    }
+    if 256 < n {
+        return Checked::Refused(Refusal::Limit);
+    }
+    let Field::Number(p) = wire::read(s, 8, Width::One) else {
+        return Checked::Refused(Refusal::Length);
+    };
+    if 32 < p {
+        return Checked::Refused(Refusal::Limit);
+    }
+    let Field::Number(t) = wire::read(s, 9, Width::Four) else {
+        return Checked::Refused(Refusal::Length);
+    };
+    if 65535 < t {
+        return Checked::Refused(Refusal::Limit);
+    }
+    if s.len() != 13 + (n as usize) * 4 + (t as usize) * 8 {
+        return Checked::Refused(Refusal::Length);
+    }
+    Checked::Model(n, p, t)
+}
+
+// A whole model message: the counts of its header, or its first fault.
+pub fn check(s: &[u8]) -> Checked
+    ensures { λ r. ⌜ r ≡ answers.checked (m.readModel (now (s .entry))) ⌝ }
+{
+    let head = header(s);
+    let Checked::Model(n, p, t) = head else {
+        return head;
+    };
+    if let Step::Refused(e) = labels(
+        s,
+        p,
+        n,
+        State {
+            at: 13,
+            prev: 0,
+            tally: 0,
+        },
+    ) {
+        return Checked::Refused(e);
+    }
+    let middle = 13 + (n as usize) * 4;
+    let first = match transitions(
+        s,
+        n,
+        t,
+        State {
+            at: middle,
+            prev: 0,
+            tally: 0,
+        },
+    ) {
+        Step::Next(st) => st.tally,
+        Step::Refused(e) => return Checked::Refused(e),
+    };
+    if first < n {
+        return Checked::Refused(Refusal::Dead);
+    }
+    head
+}
