@@ -1,0 +1,29 @@
+-- What the check answers, from what the reading gives.
+use Prim.Native.Nat.{ℕ}
+use mathlib.Core.List.{List}
+use lib.ListN.{length}
+use Rattle.refusal.specs.Number.{ok, numberOf}
+use Rattle.wire.specs.Read.{Read, good, bad}
+use Rattle.formula.specs.declared.Row.{Row}
+use Rattle.formula.specs.declared.Judged.{Judged}
+use Rattle.formula.specs.declared.Judged.the-variants as Judged
+use Rattle.formula.specs.declared.Checked.{Checked}
+use Rattle.formula.specs.declared.Checked.the-variants as Checked
+
+unfoldable pub judged : Read Row → Judged
+judged (good row) = Judged.Fine row
+judged (bad e) = Judged.Refused e
+
+unfoldable pub counted : Read ℕ → Checked
+counted (good f) = Checked.Formula f
+counted (bad e) = Checked.Refused e
+
+-- an accepted formula with its count of rows, or the first fault
+unfoldable pub checked : Read (List Row) → Checked
+checked (good rows) = Checked.Formula (length rows)
+checked (bad e) = Checked.Refused e
+
+-- the paper's number of an answer
+abbrev pub checkedNumber : Checked → ℕ
+checkedNumber (Checked.Formula f) = ok
+checkedNumber (Checked.Refused e) = numberOf e

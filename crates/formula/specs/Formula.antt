@@ -1,0 +1,40 @@
+-- Formulas of weighted CTL with upper bounds, and the formula that rows make.
+use Prim.Native.Nat.{ℕ, suc, zero, _-_}
+use mathlib.Core.List.{List}
+use mathlib.Core.Option.{Option, some, none}
+use lib.ListN.{getElem?, length}
+use Rattle.value.specs.declared.Bound.{Bound}
+use Rattle.formula.specs.declared.Quantifier.{Quantifier}
+use Rattle.formula.specs.declared.Row.{Row}
+use Rattle.formula.specs.declared.Row.the-variants as Row
+
+pub data Formula : Type 0 where
+  true′ false′ : Formula
+  prop not-prop : ℕ → Formula
+  and or : Formula → Formula → Formula
+  next : Quantifier → Formula → Bound → Formula
+  until : Quantifier → Formula → Formula → Bound → Formula
+
+-- the formula of a row, from the formulas of its operands
+abbrev pub grow : Option Row → (ℕ → Formula) → Formula
+grow none φ = false′
+grow (some Row.True) φ = true′
+grow (some Row.False) φ = false′
+grow (some (Row.Proposition i)) φ = prop i
+grow (some (Row.Negation i)) φ = not-prop i
+grow (some (Row.And l r)) φ = and (φ l) (φ r)
+grow (some (Row.Or l r)) φ = or (φ l) (φ r)
+grow (some (Row.Next q l b)) φ = next q (φ l) b
+grow (some (Row.Until q l r b)) φ = until q (φ l) (φ r) b
+
+-- the formula of row i, to a depth of n operators; operands are earlier rows, so any n above i gives the whole tree
+unfoldable pub tree : ℕ → List Row → ℕ → Formula
+tree zero rows i = false′
+tree (suc n) rows i = grow (getElem? rows i) (λ l. tree n rows l)
+
+abbrev pub formulaOf : List Row → ℕ → Formula
+formulaOf rows i = tree (length rows) rows i
+
+-- the root is the last row
+abbrev pub rootOf : List Row → Formula
+rootOf rows = formulaOf rows (length rows - 1)

@@ -1,0 +1,20 @@
+-- The rows of an accepted formula message by position.
+use Prim.Native.Nat.{ℕ, _+_, _<_, _≤_}
+use mathlib.Core.List.{List}
+use lib.ListN.{length}
+use Rattle.lists.specs.Lists.{_∈_}
+use Rattle.wire.specs.Bytes.{number}
+use Rattle.wire.specs.Layout.{Layout}
+use Rattle.formula.specs.declared.Row.{Row}
+use Rattle.formula.specs.Rows.{rowOf, operands}
+
+abbrev pub rowAt : List ℕ → ℕ → Row
+rowAt s at = rowOf (number 1 s at) (number 1 s (at + 1)) (number 1 s (at + 2)) (number 4 s (at + 4))
+
+-- a row: its 8 bytes fit, and its operands are among 64 rows
+pub record RowOk (s : List ℕ) (at : ℕ) : Type 0 where
+  pub inside : at + 8 ≤ length s
+  pub small : {l : ℕ} → l ∈ operands (rowAt s at) → l < 64
+
+abbrev pub rowLayout : List ℕ → Layout Row
+rowLayout s = record { item = rowAt s; next = λ at. at + 8; Ok = RowOk s }

@@ -1,0 +1,58 @@
+-- The reading of a formula message s against p propositions: its first fault in the paper's order, or its rows.
+-- A state's `at` is a position in s, and `tally` the place of the row there.
+use Prim.Native.Nat.{ℕ, _+_, _*_}
+use mathlib.Core.List.{List}
+use lib.ListN.{length}
+use lib.Dec.{leb, eqb}
+use Rattle.refusal.specs.declared.Refusal.the-variants.{Length, Limit, Name, Form}
+use Rattle.wire.specs.Read.{Read, good, _>>=_, _>>_, demand, field}
+use Rattle.wire.specs.Reader.{Reader, readAll}
+use Rattle.wire.specs.Start.{readStart}
+use Rattle.wire.specs.declared.State.{State}
+use Rattle.formula.specs.declared.Row.{Row}
+use Rattle.formula.specs.Rows.{rowOf, spareZero, named, usedOnce}
+
+-- unknown operator FORM; an unused field not zero FORM; then left and right NAME
+unfoldable pub judgeRow : (p place operator left right zero bound : ℕ) → Read Row
+judgeRow p place operator left right zero bound = do
+  demand (leb operator 9) Form
+  let row = rowOf operator left right bound
+  demand (spareZero row left right zero bound) Form
+  demand (named p place row) Name
+  good row
+
+-- a row: operator (1), left (1), right (1), zero (1), bound (4)
+unfoldable pub readRow : List ℕ → ℕ → State → Read Row
+readRow s p st = do
+  operator ← field 1 s (st .at)
+  left ← field 1 s (st .at + 1)
+  right ← field 1 s (st .at + 2)
+  zero ← field 1 s (st .at + 3)
+  bound ← field 4 s (st .at + 4)
+  judgeRow p (st .tally) operator left right zero bound
+
+abbrev pub rows : List ℕ → ℕ → Reader State Row
+rows s p = record {
+  position = λ st. st .at;
+  read = readRow s p;
+  next = λ st row. record { at = st .at + 8; prev = st .prev; tally = st .tally + 1 };
+}
+
+-- the header, 7 bytes, version 1, kind 3: then the row count (1); then the message is exactly as long as that says
+unfoldable pub readHeader : List ℕ → Read ℕ
+readHeader s = do
+  readStart s 7 1 3
+  f ← field 1 s 6
+  demand (leb 1 f) Limit
+  demand (leb f 64) Limit
+  demand (eqb (length s) (7 + f * 8)) Length
+  good f
+
+-- a whole message: the p handed in comes before any byte; the header, the rows, and after all of them the rule of use
+unfoldable pub readFormula : ℕ → List ℕ → Read (List Row)
+readFormula p s = do
+  demand (leb p 32) Limit
+  f ← readHeader s
+  rs ← readAll (rows s p) f (record { at = 7; prev = 0; tally = 0 })
+  demand (usedOnce rs) Form
+  good rs

@@ -1,0 +1,239 @@
+// The check of a formula message against a number of propositions: the first fault in the paper's order, or how many rows it has.
+ghost use mathlib.Core.Path.{_≡_};
+ghost use Prim.Native.Nat.{ℕ, _+_, _*_, _≤_, _<_};
+ghost use lib.ListN.{length, getD};
+ghost use Rattle.wire.specs.Layout.{items, Sound};
+ghost use Rattle.wire.specs.Reader.{one, run};
+ghost use Rattle.wire.specs.Step.{step};
+ghost use Rattle.formula.specs.Rows as rows;
+ghost use Rattle.formula.specs.Message as m;
+ghost use Rattle.formula.specs.Layouts.{rowAt, rowLayout};
+ghost use Rattle.formula.specs.Answers as answers;
+use refusal::Refusal;
+use value::Bound;
+use wire::Field;
+use wire::Opened;
+use wire::State;
+use wire::Step;
+use wire::Width;
+
+// On some run, or on every run; some transition, or every transition.
+pub enum Quantifier {
+    Some,
+    Every,
+}
+
+// A row: an operator, with propositions or earlier rows for its operands.
+pub enum Row {
+    True,
+    False,
+    Proposition(u32),
+    Negation(u32),
+    And(u32, u32),
+    Or(u32, u32),
+    Next(Quantifier, u32, Bound),
+    Until(Quantifier, u32, u32, Bound),
+}
+
+// A row without fault, or its first fault.
+pub enum Judged {
+    Fine(Row),
+    Refused(Refusal),
+}
+
+// How many rows an accepted message has, or its first fault.
+pub enum Checked {
+    Formula(u32),
+    Refused(Refusal),
+}
+
+// The row of these fields; the last operator also stands for those that don't exist.
+fn row_of(operator: u32, left: u32, right: u32, bound: u32) -> Row
+    ensures { λ r. ⌜ r ≡ rows.rowOf operator left right bound ⌝ }
+{
+    match operator {
+        0 => Row::True,
+        1 => Row::False,
+        2 => Row::Proposition(left),
+        3 => Row::Negation(left),
+        4 => Row::And(left, right),
+        5 => Row::Or(left, right),
+        6 => Row::Next(Quantifier::Some, left, Bound::coded(bound)),
+        7 => Row::Next(Quantifier::Every, left, Bound::coded(bound)),
+        8 => Row::Until(Quantifier::Some, left, right, Bound::coded(bound)),
+        _ => Row::Until(Quantifier::Every, left, right, Bound::coded(bound)),
+    }
+}
+
+// Whether the fields that the row doesn't use are zero.
+fn spare_zero(row: Row, left: u32, right: u32, zero: u32, bound: u32) -> bool
+    ensures { λ r. ⌜ r ≡ rows.spareZero row left right zero bound ⌝ }
+{
+    if zero != 0 {
+        return false;
+    }
+    match row {
+        Row::True | Row::False => left == 0 && right == 0 && bound == 0,
+        Row::Proposition(_) | Row::Negation(_) => right == 0 && bound == 0,
+        Row::And(_, _) | Row::Or(_, _) => bound == 0,
+        Row::Next(_, _, _) => right == 0,
+        Row::Until(_, _, _, _) => true,
+    }
+}
+
+// Whether the row's proposition is below p, and its operands are below its own place.
+fn named(row: Row, p: u32, place: u32) -> bool
+    ensures { λ r. ⌜ r ≡ rows.named p place row ⌝ }
+{
+    match row {
+        Row::True | Row::False => true,
+        Row::Proposition(q) | Row::Negation(q) => q < p,
+        Row::And(l, r) | Row::Or(l, r) => l < place && r < place,
+        Row::Next(_, l, _) => l < place,
+        Row::Until(_, l, r, _) => l < place && r < place,
+    }
+}
+
+// The row of these fields at a place, or its first fault.
+fn judge(p: u32, place: u32, operator: u32, left: u32, right: u32, zero: u32, bound: u32) -> Judged
+    ensures { λ r. ⌜ r ≡ answers.judged (m.judgeRow p place operator left right zero bound) ⌝ }
+{
+    if 9 < operator {
+        return Judged::Refused(Refusal::Form);
+    }
+    let row = row_of(operator, left, right, bound);
+    if !spare_zero(row, left, right, zero, bound) {
+        return Judged::Refused(Refusal::Form);
+    }
+    if !named(row, p, place) {
+        return Judged::Refused(Refusal::Name);
+    }
+    Judged::Fine(row)
+}
+
+// One row.
+fn one_row(s: &[u8], p: u32, st: State) -> Step
+    requires { ⌜ (st .at ≤ length (now s)) × (st .tally ≤ 64) ⌝ }
+    ensures { λ r. ⌜ r ≡ step (one (m.rows (now (s .entry)) p) st) ⌝ }
+{
+    let at = st.at;
+    let Field::Number(operator) = wire::read(s, at, Width::One) else {
+        return Step::Refused(Refusal::Length);
+    };
+    let left_at = at + 1;
+    let Field::Number(left) = wire::read(s, left_at, Width::One) else {
+        return Step::Refused(Refusal::Length);
+    };
+    let right_at = at + 2;
+    let Field::Number(right) = wire::read(s, right_at, Width::One) else {
+        return Step::Refused(Refusal::Length);
+    };
+    let zero_at = at + 3;
+    let Field::Number(zero) = wire::read(s, zero_at, Width::One) else {
+        return Step::Refused(Refusal::Length);
+    };
+    let bound_at = at + 4;
+    let Field::Number(bound) = wire::read(s, bound_at, Width::Four) else {
+        return Step::Refused(Refusal::Length);
+    };
+    if let Judged::Refused(e) = judge(p, st.tally, operator, left, right, zero, bound) {
+        return Step::Refused(e);
+    }
+    let end = at + 8;
+    let place = st.tally + 1;
+    Step::Next(State {
+        at: end,
+        prev: st.prev,
+        tally: place,
+    })
+}
+
+// k rows.
+fn all_rows(s: &[u8], p: u32, k: u32, first: State) -> Step
+    requires { ⌜ (first .at ≤ length (now s)) × (first .tally + k ≤ 64) ⌝ }
+    ensures { λ r. ⌜ r ≡ step (run (m.rows (now (s .entry)) p) k first) ⌝ }
+{
+    let mut st = first;
+    let mut i = k;
+    while 0 < i {
+        let read = one_row(s, p, st);
+        let Step::Next(next) = read else {
+            return read;
+        };
+        st = next;
+        i -= 1;
+    }
+    Step::Next(st)
+}
+
+// The header, and that the message is as long as its count says.
+fn header(s: &[u8]) -> Checked
+    ensures { λ r. ⌜ r ≡ answers.counted (m.readHeader (now (s .entry))) ⌝ }
+{
+    if let Opened::Refused(e) = wire::open(s, 7, 1, 3) {
+        return Checked::Refused(e);
+    }
+    let Field::Number(f) = wire::read(s, 6, Width::One) else {
+        return Checked::Refused(Refusal::Length);
+    };
+    if f < 1 {
+        return Checked::Refused(Refusal::Limit);
+    }
+    if 64 < f {
+        return Checked::Refused(Refusal::Limit);
+    }
+    if s.len() != 7 + (f as usize) * 8 {
+        return Checked::Refused(Refusal::Length);
+    }
+    Checked::Formula(f)
+}
+
+// The row that stands at a position of an accepted message.
+pub fn row_at(s: &[u8], at: usize) -> Row
+    requires { ⌜ at + 8 ≤ length (now s) ⌝ }
+    ensures { λ r. ⌜ r ≡ rowAt (now (s .entry)) at ⌝ }
+{
+    let operator = wire::number_at(s, at, Width::One);
+    let left = wire::number_at(s, at + 1, Width::One);
+    let right = wire::number_at(s, at + 2, Width::One);
+    let bound = wire::number_at(s, at + 4, Width::Four);
+    row_of(operator, left, right, bound)
+}
+
+// Whether every row but the last is an operand exactly once.
+fn used_once(s: &[u8], f: u32) -> bool
+    requires { ⌜ Sound (rowLayout (now s)) f 7 ⌝ }
+    requires { ⌜ (1 ≤ f) × (f ≤ 64) ⌝ }
+    ensures { λ r. ⌜ r ≡ rows.usedOnce (items (rowLayout (now (s .entry))) f 7) ⌝ }
+{
+    s.len() == f as usize
+}
+
+// A whole formula message, with the number of propositions it may name: how many rows it has, or its first fault.
+pub fn check(s: &[u8], p: u32) -> Checked
+    ensures { λ r. ⌜ r ≡ answers.checked (m.readFormula p (now (s .entry))) ⌝ }
+{
+    if 32 < p {
+        return Checked::Refused(Refusal::Limit);
+    }
+    let head = header(s);
+    let Checked::Formula(f) = head else {
+        return head;
+    };
+    if let Step::Refused(e) = all_rows(
+        s,
+        p,
+        f,
+        State {
+            at: 7,
+            prev: 0,
+            tally: 0,
+        },
+    ) {
+        return Checked::Refused(e);
+    }
+    if !used_once(s, f) {
+        return Checked::Refused(Refusal::Form);
+    }
+    head
+}
