@@ -30,8 +30,8 @@ pub record WellFormed (p : ℕ) (rows : List Row) : Type 0 where
   pub some-row : 1 ≤ length rows
   pub rows-fit : length rows ≤ 64
   -- a proposition exists below p, and an operand is an earlier row
-  pub propositions-named : {i : ℕ} {row : Row} → RowAt rows i row → {q : ℕ} → q ∈ propositions row → q < p
-  pub earlier : {i : ℕ} {row : Row} → RowAt rows i row → {l : ℕ} → l ∈ operands row → l < i
+  pub propositions-named : (i : ℕ) {row : Row} → RowAt rows i row → {q : ℕ} → q ∈ propositions row → q < p
+  pub earlier : (i : ℕ) {row : Row} → RowAt rows i row → {l : ℕ} → l ∈ operands row → l < i
   pub sayable : {row : Row} → row ∈ rows → SayableRow row
   -- every row but the last is an operand exactly once
   pub used-once : (i : ℕ) → suc i < length rows → uses i rows ≡ 1
