@@ -1,0 +1,7 @@
+-- Laws of model messages.
+--     Good       what a good reading says of the bytes
+--     Answered   the reading from an answer
+--     Dead       the first state that no transition leaves tells whether a state is dead
+pub mod Good
+pub mod Answered
+pub mod Dead
