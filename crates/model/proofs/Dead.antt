@@ -28,7 +28,7 @@ past-free s n st (t ∷ ts) = past-free s n (transitions s n .next st t) ts
 
 -- some transition leaves each state on the way to it
 free-left : (first : ℕ) (ts : List Transition) (a : ℕ) → first ≤ a → a < free first ts → leaves ts a ≡ true
-unfolding free leaves any
+unfolding free afterFrom leaves any
 free-left first [] a from below = absurd (omega arith)
 free-left first (t ∷ ts) a from below =
     by-test (eqb (t .from) a) (λ here. rw here)
@@ -38,19 +38,20 @@ free-left first (t ∷ ts) a from below =
     (λ e. free-left first ts a from (rw e at below))))
 
 free-least : (first : ℕ) (ts : List Transition) → first ≤ free first ts
-unfolding free
+unfolding free afterFrom
 free-least first [] = omega arith
 free-least first (t ∷ ts) =
     by-test (eqb (t .from) first) (λ e. rw e (omega (arith, free-least (first + 1) ts))) (λ e. rw e (free-least first ts))
 
 -- and none leaves it: past a `from` above it, each `from` is
 free-above : (first k : ℕ) (ts : List Transition) → first < k → RisingFrom k (map (λ t. t .from) ts) → free first ts ≡ first
-unfolding free RisingFrom
+unfolding free afterFrom RisingFrom
 free-above first k [] above r = refl
 free-above first k (t ∷ ts) above r =
     rw (ne-eqb (t .from) first (omega (arith, r .0))) (free-above first (t .from) ts (omega (arith, r .0)) (r .1))
 
 free-other : (first : ℕ) (t : Transition) (ts : List Transition) → RisingFrom (t .from) (map (λ t. t .from) ts) → t .from ≢ free (afterFrom first (t .from)) ts
+unfolding afterFrom
 free-other first t ts r =
     by-test (eqb (t .from) first)
     (λ e. rw e (omega (arith, eqb-true, free-least (first + 1) ts)))

@@ -164,7 +164,8 @@ fn header(s: &[u8]) -> Checked
     if 65535 < t {
         return Checked::Refused(Refusal::Limit);
     }
-    if s.len() != 13 + (n as usize) * 4 + (t as usize) * 8 {
+    let end = 13 + (n as usize) * 4 + (t as usize) * 8;
+    if s.len() != end {
         return Checked::Refused(Refusal::Length);
     }
     Checked::Model(n, p, t)

@@ -1,20 +1,20 @@
+-- `model::after_from` meets its contract: both arms are the test of the definition.
 use borrow.Author.Needs.{needs}
+use borrow.Author.Tests.{eq-eqb, ne-eqb}
+use Rattle.model.specs.Message.{afterFrom}
 use Rattle.model.proofs.after_from.Statement.{statement}
 use Rattle.model.proofs.after_from.Tie as tie
-use Rattle.model.proofs.after_from.Reads as reads
-use Rattle.model.proofs.after_from.Lts as lts
 
--- src/lib.rt:116:16
 add-result : tie.Need-add-result
 add-result c = search needs
 
--- src/lib.rt:116:9
 returns : tie.Need-returns
-returns c = ?
+unfolding afterFrom
+returns c = rw (eq-eqb _ _ (c .if1 .taken))
 
--- src/lib.rt:111:1
 returns-2 : tie.Need-returns-2
-returns-2 c = ?
+unfolding afterFrom
+returns-2 c = rw (ne-eqb _ _ (c .if1 .left))
 
 pub after-from-spec : {M : Type 1} → statement M
 after-from-spec = tie.close (tie.spec add-result returns returns-2)

@@ -85,31 +85,31 @@ returns-7 c = ?
 returns-8 : tie.Need-returns-8
 returns-8 c = ?
 
--- src/lib.rt:167:25
-cast-if5 : tie.Need-cast-if5
-cast-if5 c = search needs
+-- src/lib.rt:167:21
+cast-end : tie.Need-cast-end
+cast-end c = search needs
 
--- src/lib.rt:167:24
-mul-if5 : tie.Need-mul-if5
-mul-if5 c = search needs
+-- src/lib.rt:167:20
+mul-end : tie.Need-mul-end
+mul-end c = search needs
 
--- src/lib.rt:167:19
-add-if5 : tie.Need-add-if5
-add-if5 c = search needs
+-- src/lib.rt:167:15
+add-end : tie.Need-add-end
+add-end c = search needs
 
--- src/lib.rt:167:44
-cast-if5-2 : tie.Need-cast-if5-2
-cast-if5-2 c = search needs
+-- src/lib.rt:167:40
+cast-end-2 : tie.Need-cast-end-2
+cast-end-2 c = search needs
 
--- src/lib.rt:167:43
-mul-if5-2 : tie.Need-mul-if5-2
-mul-if5-2 c = search needs
+-- src/lib.rt:167:39
+mul-end-2 : tie.Need-mul-end-2
+mul-end-2 c = search needs
 
--- src/lib.rt:167:19
-add-if5-2 : tie.Need-add-if5-2
-add-if5-2 c = search needs
+-- src/lib.rt:167:15
+add-end-2 : tie.Need-add-end-2
+add-end-2 c = search needs
 
--- src/lib.rt:168:9
+-- src/lib.rt:169:9
 returns-9 : tie.Need-returns-9
 returns-9 c = ?
 
@@ -141,11 +141,11 @@ header-spec =
     enum-told-4
     returns-7
     returns-8
-    cast-if5
-    mul-if5
-    add-if5
-    cast-if5-2
-    mul-if5-2
-    add-if5-2
+    cast-end
+    mul-end
+    add-end
+    cast-end-2
+    mul-end-2
+    add-end-2
     returns-9
     returns-10)

@@ -1,41 +1,55 @@
+-- `model::label` meets its contract: each `return` is the reading under the tests that led there.
+use Prim.Native.Nat.{_^_}
+use mathlib.Core.Path.{_≡_}
+use denote.Ref.{now}
 use borrow.Author.Needs.{needs}
+use borrow.Author.Tests.{lt-ltb, le-ltb}
+use native.Mathlib.Omega.{arith}
+use Rattle.lists.proofs.Tests.{by}
+use Rattle.wire.specs.declared.Field.the-variants.{Number}
+use Rattle.wire.specs.Field.{fieldAt}
+use Rattle.wire.specs.Step.{step}
+use Rattle.wire.proofs.Reading.{reading}
+use Rattle.model.specs.Message.{readLabel}
 use Rattle.model.proofs.label.Statement.{statement}
 use Rattle.model.proofs.label.Tie as tie
-use Rattle.model.proofs.label.Reads as reads
-use Rattle.model.proofs.label.Lts as lts
-use Rattle.wire.proofs.read.Reads as read-reads
 
--- src/lib.rt:42:32
+-- the field is there
+label-there : (c : tie.After-known-told) → let a = c .before .before .before .before .before .args in fieldAt 4 (now (a .s)) (a .st .at) ≡ Number (c .before .label .given .0 .0)
+label-there c = by (c .before .before .before .read .ensures) (c .before .label .given .1)
+
 read-requires : tie.Need-read-requires
 read-requires c κs = search needs
 
--- src/lib.rt:42:23
 enum-known-label : tie.Need-enum-known-label
 enum-known-label c = search needs
 
--- src/lib.rt:43:30
 enum-told : tie.Need-enum-told
 enum-told c = search needs
 
--- src/lib.rt:43:9
 returns : tie.Need-returns
-returns c = ?
+unfolding readLabel step
+returns c = simp (reading, by (c .before .before .read .ensures) (c .enum-told .given .1))
 
--- src/lib.rt:45:17
 cast-if1 : tie.Need-cast-if1
 cast-if1 c = search needs
 
--- src/lib.rt:46:9
 returns-2 : tie.Need-returns-2
-returns-2 c = ?
+unfolding readLabel step
+returns-2 c =
+    let l = c .before in
+    let p = l .before .before .before .before .before .args .p in
+    simp (reading, label-there l, le-ltb (l .before .label .given .0 .0) (2 ^ p) (omega arith))
 
--- src/lib.rt:48:15
 add-end : tie.Need-add-end
 add-end c = search needs
 
--- src/lib.rt:37:1
 returns-3 : tie.Need-returns-3
-returns-3 c = ?
+unfolding readLabel step
+returns-3 c =
+    let l = c .before in
+    let p = l .before .before .before .before .before .args .p in
+    simp (reading, label-there l, lt-ltb (l .before .label .given .0 .0) (2 ^ p) (omega arith))
 
 pub label-spec : {M : Type 1} → statement M
 label-spec =

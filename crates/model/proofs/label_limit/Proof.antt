@@ -1,37 +1,41 @@
+-- `model::label_limit` meets its contract: the limit is 2 to the power of the turns that are done.
+use Prim.Native.Nat.{ℕ, _+_, _*_, _-_, _^_, _≤_, _<_}
+use mathlib.Core.Path.{_≡_, refl, sym, ap, _∙_}
+use native.Mathlib.Nat.{pow-suc, pow-le-pow-right}
+use native.Mathlib.Numerals.{add-one}
+use native.Mathlib.Omega.{arith}
 use Rattle.model.proofs.label_limit.Statement.{statement}
 use Rattle.model.proofs.label_limit.Tie as tie
 use Rattle.model.proofs.label_limit.Reads as reads
 use Rattle.model.proofs.label_limit.Lts as lts
 
 abbrev Inv-loop : tie.InvT-loop
-Inv-loop p limit₀ i₀ limit i = ?
+Inv-loop p limit₀ i₀ limit i = (i ≤ p) × (limit ≡ 2 ^ (p - i))
 
 abbrev μ-loop : tie.MeasureT-loop
-μ-loop p limit₀ i₀ limit i = ?
+μ-loop p limit₀ i₀ limit i = i
 
--- src/lib.rt:29:5
+-- one turn more doubles it
+doubled : (p i : ℕ) → 0 < i → i ≤ p → 2 ^ (p - i) * 2 ≡ 2 ^ (p - (i - 1))
+doubled p i some fits = let more : p - (i - 1) ≡ p - i + 1 = omega arith in rw (more, add-one, pow-suc)
+
 loop-holds : tie.Need-loop-holds Inv-loop μ-loop
-loop-holds c = ?
+loop-holds c = (omega arith, let none : c .args .p - c .args .p ≡ 0 = omega arith in rw none)
 
--- src/lib.rt:30:9
 mul-limit : tie.Need-mul-limit Inv-loop μ-loop
-mul-limit c = ?
+mul-limit c = let least = pow-le-pow-right {n = 2} (omega arith) {i = c .before .before .args .p - c .before .loop .i} {j = 32} (omega arith) in omega arith
 
--- src/lib.rt:31:9
 sub-i : tie.Need-sub-i Inv-loop μ-loop
-sub-i c = ?
+sub-i c = omega arith
 
--- src/lib.rt:29:5
 loop-less : tie.Need-loop-less Inv-loop μ-loop
-loop-less c = ?
+loop-less c = omega arith
 
--- src/lib.rt:29:5
 loop-again : tie.Need-loop-again Inv-loop μ-loop
-loop-again c = ?
+loop-again c = (omega arith, ap (λ (k : ℕ). k * 2) (c .before .loop .inv .1) ∙ doubled _ _ (omega arith) (omega arith))
 
--- src/lib.rt:23:1
 returns : tie.Need-returns Inv-loop μ-loop
-returns c = ?
+returns c = c .before .loop .inv .1 ∙ ap (λ (k : ℕ). 2 ^ k) (omega arith)
 
 pub label-limit-spec : {M : Type 1} → statement M
 label-limit-spec =
