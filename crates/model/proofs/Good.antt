@@ -6,6 +6,7 @@ use lib.ListN.{length}
 use lib.Dec.{eqb}
 use borrow.Author.Tests.{ltb-true, leb-true, eqb-true}
 use native.Mathlib.Omega.{arith}
+use Rattle.lists.proofs.Tests.{by-test}
 use Rattle.wire.specs.declared.Field.the-variants.{Number}
 use Rattle.wire.specs.declared.State.{State}
 use Rattle.wire.specs.Field.{fieldAt}
@@ -15,7 +16,12 @@ use Rattle.wire.specs.Start.{readStart}
 use Rattle.wire.proofs.Fields.{value-inside}
 use Rattle.wire.proofs.Reading.{bind-good, and-good, demand-good, field-good, good-same}
 use Rattle.model.specs.Model.{Transition}
-use Rattle.model.specs.Message.{readLabel, readTransition, readHeader, labels, transitions, Counts}
+use Rattle.model.specs.Message.{readLabel, readTransition, readHeader, labels, transitions, afterFrom, Counts}
+
+after-from-most : {n first from : ℕ} → first ≤ n → from < n → afterFrom first from ≤ n
+unfolding afterFrom
+after-from-most {n} {first} {from} most named =
+    by-test (eqb from first) (λ e. rw e (omega (arith, eqb-true))) (λ e. rw e most)
 
 module _ (s : List ℕ) where
   -- what a good label says of the bytes
@@ -69,11 +75,12 @@ module _ (s : List ℕ) where
       let l = label-good p st (r .value) (r .first) in
       omega (arith, value-inside 4 s (st .at) (l .label-there), ap (λ (u : State). u .at) (good-same (r .rest)))
 
-  pub transitions-stay : (n : ℕ) (st next : State) → one (transitions s n) st ≡ good next → next .at ≤ length s
-  transitions-stay n st next e =
+  -- and the first state that none leaves is at most their number
+  pub transitions-stay : (n : ℕ) (st next : State) → st .tally ≤ n → one (transitions s n) st ≡ good next → (next .at ≤ length s) × (next .tally ≤ n)
+  transitions-stay n st next most e =
       let r = bind-good _ _ e in
       let t = transition-good n st (r .value) (r .first) in
-      omega (arith, value-inside 2 s (st .at + 6) (t .to-there), ap (λ (u : State). u .at) (good-same (r .rest)))
+      rw (← good-same (r .rest)) (omega (arith, value-inside 2 s (st .at + 6) (t .to-there)), after-from-most most (t .from-named))
 
 -- what a good header says of the bytes
 pub record HeaderAt (s : List ℕ) (k : Counts) : Type 0 where
