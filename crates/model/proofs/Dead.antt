@@ -12,9 +12,12 @@ use Rattle.lists.specs.Order.{RisingFrom, Rising}
 use Rattle.lists.proofs.Tests.{by-test, clash}
 use Rattle.lists.proofs.Lists.{all-true, true-all, ∈-upTo, upTo-∈}
 use Rattle.wire.specs.declared.State.{State}
+use Rattle.wire.specs.Bytes.{Bytes}
 use Rattle.wire.specs.Reader.{past}
+use Rattle.wire.proofs.Readers.{Ran}
 use Rattle.model.specs.Model.{Transition, leaves, noneDead}
-use Rattle.model.specs.Message.{transitions, afterFrom}
+use Rattle.model.specs.Message.{transitions, afterFrom, start}
+use Rattle.model.proofs.Exact.{read-rising}
 
 -- what the states of a reading keep: from a first free state, the first one past the transitions
 free : ℕ → List Transition → ℕ
@@ -67,14 +70,18 @@ free-dead first k (t ∷ ts) r =
     rw (ne-eqb _ _ (free-other first t ts (r .1))) (free-dead (afterFrom first (t .from)) (t .from) ts (r .1))
 
 -- no state below n is dead exactly when the first free one is not below n
-pub dead-first : (s : List ℕ) (n : ℕ) (st : State) (ts : List Transition) → st .tally ≡ 0 → Rising (map (λ t. t .from) ts) → noneDead n ts ≡ leb n (past (transitions s n) st ts .tally)
+pub dead-first : (s : List ℕ) (n at : ℕ) (ts : List Transition) → Rising (map (λ t. t .from) ts) → noneDead n ts ≡ leb n (past (transitions s n) (start at) ts .tally)
 unfolding noneDead
-dead-first s n st ts zero r =
+dead-first s n at ts r =
     let first : ℕ = free 0 ts in
-    let is : past (transitions s n) st ts .tally ≡ first = past-free s n st ts ∙ ap (λ (k : ℕ). free k ts) zero in
-    rw is
+    rw (past-free s n (start at) ts)
     (by-test (leb n first)
     (λ e. true-all (leaves ts) (upTo n) (λ a m. free-left 0 ts a (omega arith) (omega (arith, leb-true, ∈-upTo n m))) ∙ sym e)
     (λ e. by-test (noneDead n ts)
     (λ live. clash (all-true (leaves ts) (upTo n) live first (upTo-∈ n (omega (arith, leb-false)))) (free-dead 0 0 ts r))
     (λ dead. dead ∙ sym e)))
+
+-- so the state past a good run of transitions tells it
+pub dead-known : (s : List ℕ) (n k at : ℕ) (end : State) → Bytes s → n ≤ 65536 → (r : Ran (transitions s n) k (start at) end) → noneDead n (r .got) ≡ leb n (end .tally)
+dead-known s n k at end b small r =
+    dead-first s n at (r .got) (read-rising s b n k at (r .got) small (r .there)) ∙ ap (λ (st : State). leb n (st .tally)) (r .ends)

@@ -1,7 +1,9 @@
 -- Laws of model messages.
 --     Good       what a good reading says of the bytes
 --     Answered   the reading from an answer
+--     Exact      accepted messages are exactly the writings of well-formed models
 --     Dead       the first state that no transition leaves tells whether a state is dead
 pub mod Good
 pub mod Answered
+pub mod Exact
 pub mod Dead
