@@ -3,7 +3,11 @@
 --     Answered   the reading from an answer
 --     Exact      accepted messages are exactly the writings of well-formed models
 --     Dead       the first state that no transition leaves tells whether a state is dead
+--     Bits       a label has no bit at p or above exactly when it is below 2 ^ p
+--     Laws       there is one answer
 pub mod Good
 pub mod Answered
 pub mod Exact
 pub mod Dead
+pub mod Bits
+pub mod Laws

@@ -16,7 +16,7 @@ use Rattle.model.specs.Model.{noneDead}
 use Rattle.model.specs.Message.{readHeader, readModel, start}
 use Rattle.model.specs.Message as m
 use Rattle.model.specs.Answers.{checked}
-use Rattle.model.proofs.Good.{HeaderAt, header-good}
+use Rattle.model.proofs.Good.{header-good}
 use Rattle.model.proofs.Answered.{counted-model, counted-refused}
 use Rattle.model.proofs.Dead.{dead-known}
 use Rattle.model.proofs.check.Statement.{statement}

@@ -1,13 +1,11 @@
 -- `model::label_limit` meets its contract: the limit is 2 to the power of the turns that are done.
 use Prim.Native.Nat.{ℕ, _+_, _*_, _-_, _^_, _≤_, _<_}
-use mathlib.Core.Path.{_≡_, refl, sym, ap, _∙_}
+use mathlib.Core.Path.{_≡_, ap, _∙_}
 use native.Mathlib.Nat.{pow-suc, pow-le-pow-right}
 use native.Mathlib.Numerals.{add-one}
 use native.Mathlib.Omega.{arith}
 use Rattle.model.proofs.label_limit.Statement.{statement}
 use Rattle.model.proofs.label_limit.Tie as tie
-use Rattle.model.proofs.label_limit.Reads as reads
-use Rattle.model.proofs.label_limit.Lts as lts
 
 abbrev Inv-loop : tie.InvT-loop
 Inv-loop p limit₀ i₀ limit i = (i ≤ p) × (limit ≡ 2 ^ (p - i))
