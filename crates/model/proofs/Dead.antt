@@ -1,25 +1,34 @@
--- With transitions in order, whether a state is dead is told by the first state that none leaves, kept along them. Assumes nothing.
+-- Dead states: with transitions in order, the first state that none leaves, kept along them, tells whether there is one. Assumes nothing.
 use Prim.Native.Nat.{ℕ, _+_, _≤_, _<_}
 use mathlib.Core.List.{List, [], _∷_, map}
 use mathlib.Core.Bool.{true, false}
 use mathlib.Core.Logic.{_≢_}
-use mathlib.Core.Path.{_≡_, refl, sym, ap, _∙_}
+use mathlib.Core.Path.{_≡_, refl, sym, _∙_}
 use native.Mathlib.Omega.{arith}
 use lib.Dec.{leb, eqb}
-use borrow.Author.Tests.{leb-true, leb-false, eqb-true, eqb-false, ne-eqb}
-use Rattle.lists.specs.Lists.{any, upTo}
+use borrow.Author.Tests.{leb-true, leb-false, eqb-true, eqb-false, eq-eqb, ne-eqb}
+use Rattle.lists.specs.Lists.{_∈_, any, upTo}
 use Rattle.lists.specs.Order.{RisingFrom, Rising}
 use Rattle.lists.proofs.Tests.{by-test, clash}
-use Rattle.lists.proofs.Lists.{all-true, true-all, ∈-upTo, upTo-∈}
+use Rattle.lists.proofs.Lists.{any-true, true-any, all-true, true-all, ∈-upTo, upTo-∈}
 use Rattle.wire.specs.declared.State.{State}
-use Rattle.wire.specs.Bytes.{Bytes}
 use Rattle.wire.specs.Reader.{past}
-use Rattle.wire.proofs.Readers.{Ran}
 use Rattle.model.specs.Model.{Transition, leaves, noneDead}
 use Rattle.model.specs.Message.{transitions, afterFrom, start}
-use Rattle.model.proofs.Exact.{read-rising}
 
--- what the states of a reading keep: from a first free state, the first one past the transitions
+-- no state is without a transition exactly when some transition leaves each
+pub live-each : (n : ℕ) (ts : List Transition) → noneDead n ts ≡ true → (a : ℕ) → a < n → (t : Transition) × (t ∈ ts) × (t .from ≡ a)
+unfolding noneDead leaves
+live-each n ts e a h =
+    let r = any-true _ ts (all-true (leaves ts) (upTo n) e a (upTo-∈ n h)) in
+    (r .0, r .1, eqb-true (r .0 .from) a (r .2))
+
+pub each-live : (n : ℕ) (ts : List Transition) → ((a : ℕ) → a < n → (t : Transition) × (t ∈ ts) × (t .from ≡ a)) → noneDead n ts ≡ true
+unfolding noneDead leaves
+each-live n ts each =
+    true-all (leaves ts) (upTo n) (λ a m. let r = each a (∈-upTo n m) in true-any _ ts (r .0) (r .1) (eq-eqb (r .0 .from) a (r .2)))
+
+-- what the states of a reading keep: a state that none leaves yet becomes the next one when a transition leaves it
 free : ℕ → List Transition → ℕ
 free first [] = first
 free first (t ∷ ts) = free (afterFrom first (t .from)) ts
@@ -29,7 +38,7 @@ unfolding past free
 past-free s n st [] = refl
 past-free s n st (t ∷ ts) = past-free s n (transitions s n .next st t) ts
 
--- some transition leaves each state on the way to it
+-- some transition leaves each state before it
 free-left : (first : ℕ) (ts : List Transition) (a : ℕ) → first ≤ a → a < free first ts → leaves ts a ≡ true
 unfolding free afterFrom leaves any
 free-left first [] a from below = absurd (omega arith)
@@ -46,7 +55,7 @@ free-least first [] = omega arith
 free-least first (t ∷ ts) =
     by-test (eqb (t .from) first) (λ e. rw e (omega (arith, free-least (first + 1) ts))) (λ e. rw e (free-least first ts))
 
--- and none leaves it: past a `from` above it, each `from` is
+-- none leaves it: once a `from` is above it, so is each later one
 free-above : (first k : ℕ) (ts : List Transition) → first < k → RisingFrom k (map (λ t. t .from) ts) → free first ts ≡ first
 unfolding free afterFrom RisingFrom
 free-above first k [] above r = refl
@@ -69,7 +78,7 @@ free-dead first k [] r = refl
 free-dead first k (t ∷ ts) r =
     rw (ne-eqb _ _ (free-other first t ts (r .1))) (free-dead (afterFrom first (t .from)) (t .from) ts (r .1))
 
--- no state below n is dead exactly when the first free one is not below n
+-- so no state is dead exactly when it is not below n
 pub dead-first : (s : List ℕ) (n at : ℕ) (ts : List Transition) → Rising (map (λ t. t .from) ts) → noneDead n ts ≡ leb n (past (transitions s n) (start at) ts .tally)
 unfolding noneDead
 dead-first s n at ts r =
@@ -80,8 +89,3 @@ dead-first s n at ts r =
     (λ e. by-test (noneDead n ts)
     (λ live. clash (all-true (leaves ts) (upTo n) live first (upTo-∈ n (omega (arith, leb-false)))) (free-dead 0 0 ts r))
     (λ dead. dead ∙ sym e)))
-
--- so the state past a good run of transitions tells it
-pub dead-known : (s : List ℕ) (n k at : ℕ) (end : State) → Bytes s → n ≤ 65536 → (r : Ran (transitions s n) k (start at) end) → noneDead n (r .got) ≡ leb n (end .tally)
-dead-known s n k at end b small r =
-    dead-first s n at (r .got) (read-rising s b n k at (r .got) small (r .there)) ∙ ap (λ (st : State). leb n (st .tally)) (r .ends)

@@ -7,10 +7,10 @@ use mathlib.Core.Path.{_≡_, refl, sym, ap, subst, _∙_}
 use native.Mathlib.Nat.{pow-le-pow-right}
 use native.Mathlib.Omega.{arith}
 use lib.ListN.{length, drop, length-append}
-use borrow.Author.Tests.{lt-ltb, le-leb, eq-eqb, eqb-true}
-use Rattle.lists.specs.Lists.{_∈_, upTo}
+use lib.Dec.{leb}
+use borrow.Author.Tests.{lt-ltb, le-leb, eq-eqb}
+use Rattle.lists.specs.Lists.{_∈_}
 use Rattle.lists.specs.Order.{Rising}
-use Rattle.lists.proofs.Lists.{any-true, true-any, all-true, true-all, ∈-upTo, upTo-∈}
 use Rattle.wire.specs.declared.State.{State}
 use Rattle.wire.specs.Bytes.{bytes, Bytes}
 use Rattle.wire.specs.Read.{good, field}
@@ -18,13 +18,14 @@ use Rattle.wire.specs.Reader.{readAll}
 use Rattle.wire.specs.Write.{writeAll, message}
 use Rattle.wire.proofs.Bytes.{length-bytes}
 use Rattle.wire.proofs.Reading.{bind-good, demand-good, good-same}
-use Rattle.wire.proofs.Readers.{all-length}
+use Rattle.wire.proofs.Readers.{all-length, Ran}
 use Rattle.wire.proofs.Stands.{Stands, stands-first, stands-second, stands-both, stands-last, value-stands, stands-field}
 use Rattle.wire.proofs.Exact.{good-bind, good-after, good-demand, all-there, length-writeAll, Exact, FitsAll, all-reads, all-written, fits-map, fits-both, fits-each, each-fits, fits-rising, rising-fits, message-length, message-rest, start-reads, start-written}
-use Rattle.model.specs.Model.{Model, Transition, leaves, noneDead}
+use Rattle.model.specs.Model.{Model, Transition, noneDead}
 use Rattle.model.specs.Message.{readLabel, readTransition, readHeader, readModel, labels, transitions, start, Counts}
 use Rattle.model.specs.Write.{writeTransition, writeBody, writeModel}
 use Rattle.model.specs.WellFormed.{WellFormed}
+use Rattle.model.proofs.Dead.{live-each, each-live, dead-first}
 use Rattle.model.proofs.Good.{label-good, transition-good, HeaderAt, header-good}
 
 -- ---- records
@@ -88,24 +89,15 @@ module _ (s : List ℕ) where
   }
 
   -- the transitions that are read are in order
-  pub read-rising : Bytes s → (n k at : ℕ) (ts : List Transition) → n ≤ 65536 → readAll (transitions s n) k (start at) ≡ good ts → Rising (map (λ t. t .from) ts)
+  read-rising : Bytes s → (n k at : ℕ) (ts : List Transition) → n ≤ 65536 → readAll (transitions s n) k (start at) ≡ good ts → Rising (map (λ t. t .from) ts)
   read-rising b n k at ts small e =
       let T = transitions s n in
       fits-rising T (λ st. st .prev) (λ t. t .from) (λ st t. refl) (fits-map T (λ st t p. p .0) (all-reads (transitions-exact n small) b k (start at) ts e .1))
 
--- ---- dead states
-
--- no state is without a transition exactly when some transition leaves each
-live-each : (n : ℕ) (ts : List Transition) → noneDead n ts ≡ true → (a : ℕ) → a < n → (t : Transition) × (t ∈ ts) × (t .from ≡ a)
-unfolding noneDead leaves
-live-each n ts e a h =
-    let r = any-true _ ts (all-true (leaves ts) (upTo n) e a (upTo-∈ n h)) in
-    (r .0, r .1, eqb-true (r .0 .from) a (r .2))
-
-each-live : (n : ℕ) (ts : List Transition) → ((a : ℕ) → a < n → (t : Transition) × (t ∈ ts) × (t .from ≡ a)) → noneDead n ts ≡ true
-unfolding noneDead leaves
-each-live n ts each =
-    true-all (leaves ts) (upTo n) (λ a m. let r = each a (∈-upTo n m) in true-any _ ts (r .0) (r .1) (eq-eqb (r .0 .from) a (r .2)))
+  -- so the state past a good run of them tells whether one is dead
+  pub dead-known : Bytes s → (n k at : ℕ) (end : State) → n ≤ 65536 → (r : Ran (transitions s n) k (start at) end) → noneDead n (r .got) ≡ leb n (end .tally)
+  dead-known b n k at end small r =
+      dead-first s n at (r .got) (read-rising b n k at (r .got) small (r .there)) ∙ ap (λ (st : State). leb n (st .tally)) (r .ends)
 
 -- ---- whole messages
 

@@ -18,7 +18,7 @@ use Rattle.model.specs.Message as m
 use Rattle.model.specs.Answers.{checked}
 use Rattle.model.proofs.Good.{header-good}
 use Rattle.model.proofs.Answered.{counted-model, counted-refused}
-use Rattle.model.proofs.Dead.{dead-known}
+use Rattle.model.proofs.Exact.{dead-known}
 use Rattle.model.proofs.check.Statement.{statement}
 use Rattle.model.proofs.check.Tie as tie
 
@@ -41,7 +41,7 @@ dead-is : (c : tie.After-known-told3) → let k = c .before .before .before .bef
 dead-is c =
     let h = c .before .before .before .before .before .before .before in
     let small = header-good _ _ (head-good h) .states-most in
-    dead-known _ _ _ _ _ (λ i. omega (arith, h .before .before .before .before .shared-slice-known .given i)) (omega arith) (run-good _ _ _ _ (transitions-next c))
+    dead-known _ (λ i. omega (arith, h .before .before .before .before .shared-slice-known .given i)) _ _ _ _ (omega arith) (run-good _ _ _ _ (transitions-next c))
 
 header-requires : tie.Need-header-requires
 header-requires c κs = search needs
