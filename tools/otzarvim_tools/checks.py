@@ -20,17 +20,20 @@ class Complaint(NamedTuple):
     mistake: Mistake
 
 
-def _outside(what: str, count: int, place: Place) -> Iterator[Complaint]:
+def _outside(what: str, count: int, place: Place, more: str = "") -> Iterator[Complaint]:
     least, most = LIMITS[what]
     if not least <= count <= most:
-        yield Complaint(LIMIT, Mistake(place, f"{count} {what}: {least} to {most:,} are allowed"))
+        yield Complaint(LIMIT, Mistake(place, f"{count} {what}: {least} to {most:,} are allowed{more}"))
 
 
-def of_model(model: Model) -> Iterator[Complaint]:
-    """Counts outside their limits, and states without a transition."""
+def of_model(model: Model, named: int = 0) -> Iterator[Complaint]:
+    """Counts outside their limits, and states without a transition.
+
+    So many of the propositions are states that the formula names.
+    """
     place = Place(model.path)
     yield from _outside("states", len(model.states), place)
-    yield from _outside("propositions", len(model.propositions), place)
+    yield from _outside("propositions", len(model.propositions), place, f" ({named} for states that the formula names)" if named else "")
     yield from _outside("transitions", len(model.transitions), place)
     for state in model.dead():
         name = model.states[state]

@@ -54,7 +54,10 @@ def _question(model: Model, formula: str, raw: bool) -> Question:
 
 def _complaints(question: Question) -> Iterator[Complaint]:
     propositions = len(question.model.propositions)
-    return chain(checks.of_model(question.model), checks.of_formula(question.formula, propositions, question.place))
+    return chain(
+        checks.of_model(question.model, propositions - question.names.own),
+        checks.of_formula(question.formula, propositions, question.place),
+    )
 
 
 def _bytes(question: Question) -> bytes:

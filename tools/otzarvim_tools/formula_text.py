@@ -43,7 +43,9 @@ def _tokens(text: str, path: str) -> List[_Token]:
                 raise Mistake(place, f"'{line[at]}' has no place in a formula{more}", line)
             found.append(_Token(match.group(), place, line))
             at = match.end()
-    found.append(_Token("", Place(path, len(lines), len(lines[-1]) + 1), lines[-1]))
+    # the end is told as the place behind the last word
+    end = (found[-1].place, found[-1].excerpt, len(found[-1].word)) if found else (Place(path, 1, 1), "", 0)
+    found.append(_Token("", Place(path, end[0].line, (end[0].column or 0) + end[2]), end[1]))
     return found
 
 
@@ -141,7 +143,7 @@ def _brackets(sign: str) -> str:
 
 
 def _found(token: _Token) -> str:
-    return f"not '{token.word}'" if token.word else "and the formula ends"
+    return f"not '{token.word}'" if token.word else "and the text ends"
 
 
 def read_formula(text: str, path: str, number_of: NumberOf) -> Formula:

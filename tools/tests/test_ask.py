@@ -89,6 +89,12 @@ class Asking(Case):
         self.assertIn("refused 2, LENGTH: ", out)
         self.assertIn("8,832 bytes together", out)
 
+    def test_states_in_a_formula_count_as_propositions(self):
+        full = self.write("full.otz", "a: " + ", ".join(f"x{i}" for i in range(32)) + "\na -> a 1\n")
+        status, _, err = self.otz("ask", full, "a", "--program", FAKE)
+        self.assertEqual((status, err), (2, f"{full}: 33 propositions: 0 to 32 are allowed (1 for states that the formula names)\n"))
+        self.assertEqual(self.otz("ask", full, "p31", "--program", FAKE)[0], 0)
+
     def test_raw_leaves_refusing_to_the_program(self):
         dead = self.write("dead.otz", "a -> b 1")
         for model, formula, number, said in (

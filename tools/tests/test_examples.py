@@ -3,6 +3,7 @@
 import re
 import subprocess
 
+from otzarvim_tools import checks
 from otzarvim_tools.model_text import read_model
 
 from .common import FAKE, ROOT, Case, program_environment
@@ -85,6 +86,13 @@ class Pages(Case):
                     self.assertEqual(self.shell(command), output, f"{page}: {command}")
                     shown += 1
             self.assertGreaterEqual(shown, least, page)
+
+    def test_the_model_on_the_page(self):
+        text = (ROOT / "tools/README.md").read_text()
+        block = re.search(r"^```\n(propositions .*?)^```$", text, re.M | re.S).group(1)
+        model = read_model(block, "page")
+        self.assertEqual((model.states, model.propositions), (["cold", "hot", "spent"], ["idle", "warm"]))
+        self.assertEqual(list(checks.of_model(model)), [])
 
     def shell(self, command):
         done = subprocess.run(["sh", "-c", command], cwd=ROOT, env=program_environment(), stdout=subprocess.PIPE, stderr=subprocess.STDOUT, text=True)

@@ -1,6 +1,9 @@
 """Reading and writing the text of formulas."""
 
+import random
+
 from otzarvim_tools.formula import Row
+from otzarvim_tools.mistakes import Mistake
 from otzarvim_tools.question import read_question
 
 from .common import M, Case, formula, model
@@ -43,7 +46,7 @@ class Reading(Case):
 
     def test_mistakes_have_their_column(self):
         for text, column, said in (
-            ("", 1, "the formula ends"),
+            ("", 1, "the text ends"),
             ("p0 &", 4, "(x & y)"),
             ("p0 p1", 4, "complete before 'p1'"),
             ("(p0)", 4, "'&' or '|' is expected"),
@@ -74,6 +77,21 @@ class Reading(Case):
     def test_a_mistake_shows_its_place(self):
         found = self.mistake(lambda: formula("(p0 &\n\tonne)"))
         self.assertEqual(str(found), "formula:2:2: no proposition or state has the name onne (did you mean one?)\n    \tonne)\n    \t^")
+
+
+    def test_the_end_is_behind_the_last_word(self):
+        found = self.mistake(lambda: formula("E[p0 U\n  p1\n\n"), "']' is expected")
+        self.assertEqual((found.place.line, found.place.column), (2, 5))
+
+    def test_no_text_is_worse_than_a_mistake(self):
+        chance = random.Random(5)
+        words = "true false p0 p7 one x E A [ ] U <= 3 ( ) & | ! EX AX \n # @ é".split(" ")
+        for _ in range(1000):
+            text = chance.choice(("", " ")).join(chance.choice(words) for _ in range(chance.randint(0, 9)))
+            try:
+                self.assertEqual(formula(formula(text).text().replace("p2", "one")), formula(text))
+            except Mistake:
+                pass
 
 
 class Named(Case):

@@ -7,7 +7,7 @@ from otzarvim_tools.compiler import compile_formula, compile_model
 from otzarvim_tools.decoder import decode
 from otzarvim_tools.formula import Formula
 from otzarvim_tools.formula_text import read_formula
-from otzarvim_tools.mistakes import Place
+from otzarvim_tools.mistakes import Mistake, Place
 from otzarvim_tools.model import Model, Transition
 from otzarvim_tools.model_text import read_model, write_model
 from otzarvim_tools.names import plain_number
@@ -129,6 +129,17 @@ class Faults(Case):
         ):
             data = M_BYTES + self.change(UNTIL_BYTES, at, value)
             self.mistake(lambda: decode(data, "x.bin"), said)
+
+    def test_changed_bytes_are_a_fault_or_another_message(self):
+        chance = random.Random(3)
+        whole = M_BYTES + UNTIL_BYTES
+        for _ in range(1000):
+            data = self.change(whole, chance.randrange(len(whole)), chance.choice((0, 1, 2, 3, 9, 10, 255)))
+            try:
+                shown, understood = decode(data, "x")
+            except Mistake:
+                continue
+            self.assertEqual(compile_model(shown) + compile_formula(understood), data)
 
     def test_raw_passes_over_what_text_can_say(self):
         dead = self.change(M_BYTES, 38, 0)
