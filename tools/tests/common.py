@@ -7,13 +7,16 @@ import stat
 import tempfile
 import unittest
 from pathlib import Path
+from unittest import mock
 
 from otzarvim_tools.cli import main
 from otzarvim_tools.formula import Formula
 from otzarvim_tools.mistakes import Mistake
 from otzarvim_tools.model_text import read_model
 from otzarvim_tools.question import read_question
-from otzarvim_tools.running import VARIABLE
+from otzarvim_tools.running import VARIABLE, run
+
+from . import fake_otzarvim
 
 ROOT = Path(__file__).resolve().parents[2]
 FAKE = Path(__file__).resolve().parent / "fake_otzarvim.py"
@@ -28,10 +31,15 @@ one -> one 0
 """
 
 
-def program_environment():
-    """The environment of a command: the program that OTZARVIM names, or else the stand-in."""
+def program():
+    """The program that OTZARVIM names, or else the stand-in."""
     given = os.environ.get(VARIABLE)
-    return {**os.environ, VARIABLE: str(Path(given).resolve() if given else FAKE)}
+    return str(Path(given).resolve() if given else FAKE)
+
+
+def quick_run(path, data):
+    """Runs a program, but the stand-in within this process: starting Python each time is slow."""
+    return fake_otzarvim.answer(data) if path == FAKE else run(path, data)
 
 
 class Case(unittest.TestCase):
@@ -56,7 +64,7 @@ class Case(unittest.TestCase):
     def otz(self, *words):
         """Status, standard output and standard error of a command."""
         out, err = io.StringIO(), io.StringIO()
-        with contextlib.redirect_stdout(out), contextlib.redirect_stderr(err):
+        with contextlib.redirect_stdout(out), contextlib.redirect_stderr(err), mock.patch("otzarvim_tools.cli.run", quick_run):
             try:
                 status = main([str(word) for word in words])
             except SystemExit as end:

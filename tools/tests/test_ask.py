@@ -1,9 +1,12 @@
 """The commands: answers and refusals in names, mistakes, exit statuses."""
 
+import subprocess
+import sys
+
 from otzarvim_tools.answers import Answer, Refused, read_answer
 from otzarvim_tools.paper import REFUSALS
 
-from .common import FAKE, M, Case
+from .common import FAKE, M, ROOT, Case
 
 NAMES = "BUDGET LENGTH VERSION LIMIT ORDER NAME DEAD SIZE ROOM FORM".split()
 
@@ -30,6 +33,11 @@ class Asking(Case):
         for formula, rounds, zero, one in (("E[p0 U<=2 p1]", 4, "yes", "yes"), ("E[p0 U<=1 p1]", 3, "no", "yes"), ("A[p0 U p1]", 3, "no", "yes")):
             status, out, _ = self.otz("ask", self.model, formula, "--program", FAKE)
             self.assertEqual((status, out), (0, f"formula  {formula}\nmessage  {formula}\nrounds   {rounds}\n\nzero  {zero}\none   {one}\n"))
+
+    def test_the_command_and_a_program_as_processes(self):
+        words = [sys.executable, ROOT / "tools" / "otz", "ask", self.model, "E[zero U<=2 p1]", "--program", FAKE]
+        done = subprocess.run([str(word) for word in words], stdout=subprocess.PIPE, text=True)
+        self.assertEqual((done.returncode, done.stdout), (0, "formula  E[zero U<=2 p1]\nmessage  E[p2 U<=2 p1]\nrounds   4\n\nzero  yes\none   yes\n"))
 
     def test_names_and_one_state(self):
         canned = self.says("AX<=3 p2\\nrounds 7\\n0 no\\n1 yes\\n")
