@@ -1,7 +1,8 @@
 -- What the builder answers, and what it leaves in the room.
 use Prim.Native.Nat.{ℕ, _≤_}
 use mathlib.Core.List.{List, _++_}
-use mathlib.Core.Bool.{Bool, cond, _&&_}
+use mathlib.Core.Path.{_≡_}
+use mathlib.Core.Bool.{Bool, true, cond, _&&_}
 use lib.ListN.{length, drop}
 use lib.Dec.{leb, ltb}
 use Rattle.lists.specs.Lists.{all}
@@ -29,3 +30,10 @@ builtOf g b =
 -- the graph stands at the front of its room, the rest untouched; a refusal leaves the room as it came
 unfoldable pub roomOf : Graph → List ℕ → List ℕ
 roomOf g b = cond (fits g) (cond (ltb (length b) (length (writeGraph g))) b (writeGraph g ++ drop (length (writeGraph g)) b)) b
+
+-- the graph passes no limit, its counts are these, and its bytes fit
+pub record Writable (g : Graph) (hypers long : ℕ) (b : List ℕ) : Type 0 where
+  pub fits : fits g ≡ true
+  pub hypers-are : hypers ≡ length (g .hypers)
+  pub long-is : long ≡ length (writeGraph g)
+  pub room : length (writeGraph g) ≤ length b
