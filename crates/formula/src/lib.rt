@@ -217,26 +217,25 @@ pub fn row_at(s: &[u8], at: usize) -> Row
 }
 
 // One use more of a row.
-fn count_use(counts: &mut [u32; 64], row: u32)
-    requires { ⌜ (row < 64) × (getD (now counts) row 0 < 128) ⌝ }
-    ensures { λ _. ⌜ ((i : ℕ) → getD (now (counts .exit)) i 0 ≡ getD (now (counts .entry)) i 0 + rows.times i (row ∷ [])) ⌝ }
+fn count_use(counts: [u32; 64], row: u32) -> [u32; 64]
+    requires { ⌜ (row < 64) × (getD counts row 0 < 256) ⌝ }
+    ensures { λ r. ⌜ ((i : ℕ) → getD r i 0 ≡ getD counts i 0 + rows.times i (row ∷ [])) ⌝ }
 {
+    let mut more = counts;
     let k = row as usize;
-    counts[k] = counts[k] + 1;
+    more[k] = more[k] + 1;
+    more
 }
 
 // The uses that a row makes of others.
-fn count_row(counts: &mut [u32; 64], row: Row)
-    requires { ⌜ ((l : ℕ) → l ∈ rows.operands row → l < 64) × ((i : ℕ) → getD (now counts) i 0 < 127) ⌝ }
-    ensures { λ _. ⌜ ((i : ℕ) → getD (now (counts .exit)) i 0 ≡ getD (now (counts .entry)) i 0 + rows.times i (rows.operands row)) ⌝ }
+fn count_row(counts: [u32; 64], row: Row) -> [u32; 64]
+    requires { ⌜ ((l : ℕ) → l ∈ rows.operands row → l < 64) × ((i : ℕ) → getD counts i 0 < 255) ⌝ }
+    ensures { λ r. ⌜ ((i : ℕ) → getD r i 0 ≡ getD counts i 0 + rows.times i (rows.operands row)) ⌝ }
 {
     match row {
-        Row::True | Row::False | Row::Proposition(_) | Row::Negation(_) => {}
+        Row::True | Row::False | Row::Proposition(_) | Row::Negation(_) => counts,
         Row::Next(_, l, _) => count_use(counts, l),
-        Row::And(l, r) | Row::Or(l, r) | Row::Until(_, l, r, _) => {
-            count_use(counts, l);
-            count_use(counts, r);
-        }
+        Row::And(l, r) | Row::Or(l, r) | Row::Until(_, l, r, _) => count_use(count_use(counts, l), r),
     }
 }
 
@@ -250,7 +249,8 @@ fn count_rows(s: &[u8], f: u32) -> [u32; 64]
     let mut at = 7;
     let mut k = f;
     while 0 < k {
-        count_row(&mut counts, row_at(s, at));
+        let more = count_row(counts, row_at(s, at));
+        counts = more;
         at += 8;
         k -= 1;
     }
