@@ -1,11 +1,15 @@
 -- What a good reading says: each field is there, each demand is met. Assumes nothing.
-use Prim.Native.Nat.{ℕ, _+_, _*_, _≤_}
+use Prim.Native.Nat.{ℕ, _+_, _*_, _<_, _≤_}
 use mathlib.Core.List.{List}
 use mathlib.Core.Bool.{true}
-use mathlib.Core.Path.{_≡_, sym, ap, _∙_}
+use mathlib.Core.Path.{_≡_, refl, sym, ap, subst, _∙_}
+use lib.Dec.{ltb}
 use lib.ListN.{length}
-use borrow.Author.Tests.{leb-true, eqb-true}
+use borrow.Author.Tests.{ltb-true, lt-ltb, leb-true, le-leb, eqb-true}
 use native.Mathlib.Omega.{arith}
+use Rattle.lists.specs.Lists.{_∈_, all}
+use Rattle.lists.proofs.Tests.{and-left, and-right}
+use Rattle.lists.proofs.Lists.{all-true, true-all}
 use Rattle.wire.specs.declared.Field.the-variants.{Number}
 use Rattle.wire.specs.declared.State.{State}
 use Rattle.wire.specs.Field.{fieldAt}
@@ -15,17 +19,36 @@ use Rattle.wire.specs.Start.{readStart}
 use Rattle.wire.proofs.Fields.{value-inside}
 use Rattle.wire.proofs.Reading.{bind-good, and-good, demand-good, field-good, good-same}
 use Rattle.wire.proofs.Readers.{all-length}
-use Rattle.wire.proofs.Exact.{all-there}
+use Rattle.wire.proofs.Exact.{good-bind, good-demand, all-there}
 use Rattle.formula.specs.declared.Row.{Row}
-use Rattle.formula.specs.Rows.{rowOf, spareZero, named, usedOnce}
+use Rattle.formula.specs.Rows.{rowOf, spareZero, operands, propositions, named, usedOnce}
 use Rattle.formula.specs.Message.{judgeRow, readRow, rows, readHeader, readFormula}
+
+-- the names of a row exist: its propositions are below p, and its operands are earlier rows
+pub record Named (p place : ℕ) (row : Row) : Type 0 where
+  pub existing : {q : ℕ} → q ∈ propositions row → q < p
+  pub earlier : {l : ℕ} → l ∈ operands row → l < place
+
+pub named-names : (p place : ℕ) (row : Row) → named p place row ≡ true → Named p place row
+named-names p place row e =
+    let qs = all (λ q. ltb q p) (propositions row) in
+    let ls = all (λ l. ltb l place) (operands row) in
+    record {
+      existing = λ {q} m. ltb-true q p (all-true _ _ (and-left qs ls e) q m);
+      earlier = λ {l} m. ltb-true l place (all-true _ _ (and-right qs ls e) l m);
+    }
+
+pub names-named : (p place : ℕ) (row : Row) → Named p place row → named p place row ≡ true
+names-named p place row n =
+    rw (true-all (λ q. ltb q p) (propositions row) (λ q m. lt-ltb q p (n .existing m)))
+    (true-all (λ l. ltb l place) (operands row) (λ l m. lt-ltb l place (n .earlier m)))
 
 -- what a good judgement says of the fields
 pub record Fine (p place operator left right zero bound : ℕ) (row : Row) : Type 0 where
   pub known : operator ≤ 9
   pub is : rowOf operator left right bound ≡ row
   pub spare : spareZero row left right zero bound ≡ true
-  pub named : named p place row ≡ true
+  pub names : Named p place row
 
 pub judge-good : (p place o l r z b : ℕ) (row : Row) → judgeRow p place o l r z b ≡ good row → Fine p place o l r z b row
 unfolding judgeRow
@@ -34,7 +57,7 @@ judge-good p place o l r z b row e =
     let spare = demand-good _ _ _ (known .1) in
     let named = demand-good _ _ _ (spare .1) in
     let same : rowOf o l r b ≡ row = good-same (named .1) in
-    record { known = leb-true _ _ (known .0); is = same; spare = rw (← same) (spare .0); named = rw (← same) (named .0) }
+    record { known = leb-true _ _ (known .0); is = same; spare = rw (← same) (spare .0); names = named-names p place row (rw (← same) (named .0)) }
 
 module _ (s : List ℕ) (p : ℕ) where
   -- what a good row says of the bytes
@@ -105,3 +128,32 @@ header-good s f e =
       f-most = rw (← same) (leb-true _ _ (most .0));
       long = rw (← same) (eqb-true _ _ (long .0));
     }
+
+-- where the rows start
+abbrev pub first : State
+first = record { at = 7; prev = 0; tally = 0 }
+
+-- what a good message says of its parts
+pub record FormulaAt (p : ℕ) (s : List ℕ) (rs : List Row) : Type 0 where
+  pub p-most : p ≤ 32
+  pub header : readHeader s ≡ good (length rs)
+  pub rows-there : readAll (rows s p) (length rs) first ≡ good rs
+  pub used : usedOnce rs ≡ true
+
+pub formula-good : (p : ℕ) (s : List ℕ) (rs : List Row) → readFormula p s ≡ good rs → FormulaAt p s rs
+unfolding readFormula
+formula-good p s rs e =
+    let p-most = demand-good _ _ _ e in
+    let header = bind-good _ _ (p-most .1) in
+    let there = bind-good _ _ (header .rest) in
+    let used = demand-good _ _ _ (there .rest) in
+    subst (FormulaAt p s) (good-same (used .1)) (record {
+      p-most = leb-true _ _ (p-most .0);
+      header = header .first ∙ ap good (sym (all-length _ _ _ _ (there .first)));
+      rows-there = all-there _ _ _ _ (there .first);
+      used = used .0;
+    })
+
+pub good-formula : (p : ℕ) (s : List ℕ) (rs : List Row) → FormulaAt p s rs → readFormula p s ≡ good rs
+unfolding readFormula
+good-formula p s rs g = good-demand _ (le-leb _ _ (g .p-most)) (good-bind _ (g .header) (good-bind _ (g .rows-there) (good-demand _ (g .used) refl)))
