@@ -1,0 +1,6 @@
+pub mod Answered
+pub mod Good
+pub mod Uses
+pub mod Accepted
+pub mod Spelt
+pub mod Exact
