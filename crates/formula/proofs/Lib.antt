@@ -4,3 +4,5 @@ pub mod Uses
 pub mod Accepted
 pub mod Spelt
 pub mod Exact
+pub mod Sums
+pub mod Trees
