@@ -85,12 +85,15 @@ module _ (s : List ℕ) (p : ℕ) where
           zero-there = value-stands 1 b (g .zero-there) .0;
           bound-there = code .0;
         }) in
-        rw (← is) (rw (by-fields .written) there, record {
-          names = rw is (g .fine .names);
-          sayable = by-fields .sayable (code .1);
-          left-byte = by-fields .left-below 256 (omega arith) (l .1);
-          right-byte = by-fields .right-below 256 (omega arith) (r .1);
-        });
+        rw (← is) (
+          rw (by-fields .written) there,
+          record {
+            names = rw is (g .fine .names);
+            sayable = by-fields .sayable (code .1);
+            left-byte = by-fields .left-below 256 (omega arith) (l .1);
+            right-byte = by-fields .right-below 256 (omega arith) (r .1);
+          },
+        );
     written = λ st row stands f.
         let w = spelt row in
         let there = fields-laid (w .operator) (left row) (right row) 0 (w .code) (rw (w .written) at stands) in
@@ -169,8 +172,7 @@ accepted-written p s rs b e =
     let all = all-reads (rows-exact s p) b _ first _ (g .rows-there) in
     let body : Stands s 6 (writeBody rs) = stands-both (simp length-bytes) (value-stands 1 b (header .f-there) .0) (all .0) in
     let rest : drop 6 s ≡ writeBody rs = stands-last body (omega (arith, body-length rs, header .long)) in
-    let at : (i : ℕ) (row : Row) → RowAt rs i row → RowFits p i row = λ i row e. rw zero-add at (fits-at s p (all .1) i e) in
-    (
+    let at : (i : ℕ) (row : Row) → RowAt rs i row → RowFits p i row = λ i row e. rw zero-add at (fits-at s p (all .1) i e) in (
       started .whole ∙ ap (message 1 3) rest,
       record {
         propositions-fit = g .p-most;

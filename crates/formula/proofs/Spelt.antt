@@ -85,8 +85,7 @@ by-operator P p0 p1 p2 p3 p4 p5 p6 p7 p8 p9 (suc (suc (suc (suc (suc (suc (suc (
 zeros : (l r z b : ℕ) → (eqb l 0 && (eqb r 0 && (eqb z 0 && eqb b 0))) ≡ true → (l ≡ 0) × (r ≡ 0) × (z ≡ 0) × (b ≡ 0)
 zeros l r z b e =
     let rest = and-right (eqb l 0) (eqb r 0 && (eqb z 0 && eqb b 0)) e in
-    let last = and-right (eqb r 0) (eqb z 0 && eqb b 0) rest in
-    (
+    let last = and-right (eqb r 0) (eqb z 0 && eqb b 0) rest in (
       eqb-true l 0 (and-left (eqb l 0) (eqb r 0 && (eqb z 0 && eqb b 0)) e),
       eqb-true r 0 (and-left (eqb r 0) (eqb z 0 && eqb b 0) rest),
       eqb-true z 0 (and-left (eqb z 0) (eqb b 0) last),
