@@ -9,6 +9,13 @@ use lib.ListN.{length, getElem?}
 use Rattle.lists.specs.Lists.{_∈_}
 
 module _ {A : Type 0} where
+  -- the first element and the second stand in their list
+  pub first : {a : A} {l : List A} → a ∈ (a ∷ l)
+  first = List·Memᴰ·head refl
+
+  pub second : {a b : A} {l : List A} → b ∈ (a ∷ b ∷ l)
+  second = List·Memᴰ·tail first
+
   -- an element stands before the end, and before the end stands an element
   pub place-lt : (l : List A) (i : ℕ) {a : A} → getElem? l i ≡ some a → i < length l
   place-lt [] i q = let z : _≡_ {A = ℕ} 0 1 = cc in absurd (omega arith)
