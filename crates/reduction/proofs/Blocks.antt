@@ -158,6 +158,17 @@ module _ (M : Model) (rows : List Row) where
   abbrev s : ℕ
   s = M .states
 
+  -- rows and helpers of states are nodes
+  abbrev pub places : ℕ
+  places = length rows + length (untils rows)
+
+  pub node-lt : {a r : ℕ} → a < s → r < places → a + s * r < g .nodes
+  unfolding graphOf
+  node-lt {a} {r} l h = let p = apart s a 0 r places l h in omega arith
+
+  pub helper-lt : (r : ℕ) {q : Quantifier} {j k : ℕ} {b : Bound} → RowAt rows r (Until q j k b) → helperAt rows r < places
+  helper-lt r at = let h = place-lt (untils rows) (length (untils (take r rows))) (until-place rows r at refl) in omega arith
+
   -- the target lists of the rows' nodes, as the layout takes them
   abbrev pub edges : Row → ℕ → ℕ → List (List Target)
   edges row r a = rowEdges M row a

@@ -3,7 +3,11 @@
 --     Trees      the formula of a row is its operator over the formulas of its operands
 --     Blocks     which edges a node of the built graph has, and so why it is at most d after a round
 --     Sound      a number in any round is no empty promise
+--     Complete   where a formula holds, an assignment that obeys the rules is 0
+--     Verdict    settled rounds have 0 where the formula holds, and infinity where not
 pub mod Out
 pub mod Trees
 pub mod Blocks
 pub mod Sound
+pub mod Complete
+pub mod Verdict
