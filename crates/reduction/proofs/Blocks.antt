@@ -16,6 +16,7 @@ use Rattle.lists.specs.Making.{keep, span}
 use Rattle.lists.proofs.Tests.{by-test}
 use Rattle.lists.proofs.Making.{∈-span, span-∈}
 use Rattle.lists.proofs.Places.{first, place-lt}
+use Rattle.lists.proofs.Each.{Each}
 use Rattle.value.specs.declared.Bound.{Bound}
 use Rattle.value.specs.Value.{plus, meets, _≼_}
 use Rattle.rules.specs.Graph.{Graph, Target, Hyper, Cover}
@@ -149,7 +150,7 @@ until-place (row₀ ∷ rows) (suc r) {row} q u = go (isUntil row₀) (until-pla
 
 -- each target's weight plus value is at most d
 abbrev pub Cheap : Assignment → ℕ → List Target → Type 0
-Cheap x d ts = (t : Target) → t ∈ ts → plus (t .weight) (x (t .node)) ≼ d
+Cheap x d ts = Each (λ t. plus (t .weight) (x (t .node)) ≼ d) ts
 
 module _ (M : Model) (rows : List Row) where
   abbrev g : Graph
@@ -229,7 +230,7 @@ module _ (M : Model) (rows : List Row) where
             let (p, q) = same-node s (z .state) a (z .place) r (z .below) l (ap (λ (c : Cover). c .source) (sym (z .made)) ∙ e) in
             let same : row ≡ Until (z .quantifier) (z .left) (z .right) (z .bound) = cc in
             by-limit (z .quantifier) (z .left) (z .right) (z .bound) same (rw (z .made, p, q) at h)
-        go (by-hyper h m e t) = by-edge (h .targets) (edge (hyper-stands m) e) t
+        go (by-hyper h m e t) = by-edge (h .targets) (edge (hyper-stands m) e) (record { at = t })
 
     pub row-why : {row : Row} {d : ℕ} → RowAt rows r row → Why row d → round g x (a + s * r) ≼ d
     unfolding graphOf
@@ -238,7 +239,7 @@ module _ (M : Model) (rows : List Row) where
           (standing cover s (rowCovers M rows) 0 rows r (rw same at at) (omega arith) l first) refl e)
     row-why at (by-edge ts m t) =
         at-most g x (a + s * r) (by-hyper (hyper (a + s * r) ts) 
-          (Memᴰ·append-left (layout hyper s (helperEdges M) (length rows) (untils rows)) (standing hyper s edges 0 rows r at (omega arith) l m)) refl t)
+          (Memᴰ·append-left (layout hyper s (helperEdges M) (length rows) (untils rows)) (standing hyper s edges 0 rows r at (omega arith) l m)) refl (t .at))
 
     -- a helper's node has no cover edge
     module _ (q : Quantifier) (j k : ℕ) (b : Bound) (at : RowAt rows r (Until q j k b)) where
@@ -258,10 +259,10 @@ module _ (M : Model) (rows : List Row) where
               let z = cover-stands m in
               let (p, q) = same-node s (z .state) a (z .place) H (z .below) l (ap (λ (c : Cover). c .source) (sym (z .made)) ∙ e) in
               let h = place-lt rows (z .place) (z .at) in absurd (omega arith)
-          go (by-hyper h m e t) = (h .targets, edge (hyper-stands m) e, t)
+          go (by-hyper h m e t) = (h .targets, edge (hyper-stands m) e, record { at = t })
 
       pub helper-why : {d : ℕ} (ts : List Target) → ts ∈ helperEdges M (Until q j k b) H a → Cheap x d ts → round g x (a + s * H) ≼ d
       unfolding graphOf
       helper-why ts m t =
           at-most g x (a + s * H) (by-hyper (hyper (a + s * H) ts)
-          (Memᴰ·append-right (layout hyper s edges 0 rows) (standing hyper s (helperEdges M) (length rows) (untils rows) (length (untils (take r rows))) (until-place rows r at refl) refl l m)) refl t)
+          (Memᴰ·append-right (layout hyper s edges 0 rows) (standing hyper s (helperEdges M) (length rows) (untils rows) (length (untils (take r rows))) (until-place rows r at refl) refl l m)) refl (t .at))

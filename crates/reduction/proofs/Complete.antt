@@ -7,9 +7,10 @@ use mathlib.Core.Path.{_≡_, refl}
 use mathlib.Core.Logic.{inl, inr}
 use mathlib.Core.Bool.{true}
 use mathlib.Core.Option.{some}
-use mathlib.Core.List.{List, [], _∷_, map, List·Memᴰ·head, List·Memᴰ·tail, Memᴰ·map, Memᴰ·of-map}
+use mathlib.Core.List.{List, [], _∷_, map, List·Memᴰ·tail, Memᴰ·map}
 use Rattle.lists.specs.Lists.{_∈_}
-use Rattle.lists.proofs.Places.{first, second, place-lt, element}
+use Rattle.lists.proofs.Places.{first, second, element}
+use Rattle.lists.proofs.Each.{each-none, each-more, each-map}
 use Rattle.value.specs.declared.Bound.{Bound}
 use Rattle.value.specs.Value.{Value, plus, meets, _≼_}
 use Rattle.value.proofs.Values.{plus-≼}
@@ -34,18 +35,6 @@ use Rattle.reduction.proofs.Out.{leads-out, out-leads, leads-near, near
 use Rattle.reduction.proofs.Trees.{Ordered, formula-of-row}
 use Rattle.reduction.proofs.Blocks.{Cheap, Why, by-limit, by-edge, row-why, helper-why, node-lt, helper-lt}
 use Rattle.reduction.proofs.Sound.{φ}
-
--- the targets of a list one by one, and of a list that is made
-module _ (x : Assignment) (d : ℕ) where
-  none : Cheap x d []
-  none t m = elim m [ ]
-
-  more : {t : Target} {ts : List Target} → plus (t .weight) (x (t .node)) ≼ d → Cheap x d ts → Cheap x d (t ∷ ts)
-  more p q u (List·Memᴰ·head e) = rw e p
-  more p q u (List·Memᴰ·tail m) = q u m
-
-  each : (f : Target → Target) (l : List Target) → ((t : Target) → t ∈ l → plus (f t .weight) (x (f t .node)) ≼ d) → Cheap x d (map f l)
-  each f l p u m = let (t, n, e) = Memᴰ·of-map f l m in rw (← e) (p t n)
 
 module _ (M : Model) (rows : List Row) (ok : Proper M) (order : Ordered rows) (x : Assignment) (obeys : Obeys (graphOf M rows) x) where
   abbrev s : ℕ
@@ -73,7 +62,7 @@ module _ (M : Model) (rows : List Row) (ok : Proper M) (order : Ordered rows) (x
 
     -- it is 0 where right holds
     start : (q : Quantifier) → RowAt rows r (Until q j k b) → (a : ℕ) → a < s → φ M rows k a → value a ≼ 0
-    start q at a l h = value-≼ q at l (to 0 (a + s * k) ∷ []) first (more x 0 (zero-sum 0 k right a l h) (none x 0))
+    start q at a l h = value-≼ q at l (to 0 (a + s * k) ∷ []) first (each-more (zero-sum 0 k right a l h) each-none)
 
     -- where left holds it climbs along a step by no more than the weight
     abbrev Climbs : ℕ → ℕ → ℕ → Type 0
@@ -85,7 +74,7 @@ module _ (M : Model) (rows : List Row) (ok : Proper M) (order : Ordered rows) (x
         let d = w + e in
         value-≼ Some at l (to 0 (a + s * j) ∷ to w (c + s * H) ∷ [])
         (List·Memᴰ·tail (Memᴰ·map (λ (t : Target). to 0 (a + s * j) ∷ to (t .weight) (t .node + s * H) ∷ []) (leads-out M a m)))
-        (more x d (zero-sum d j left a l h) (more x d (plus-≼ w (value c) p (le-refl d)) (none x d)))
+        (each-more (zero-sum d j left a l h) (each-more (plus-≼ w (value c) p (le-refl d)) each-none))
 
     -- A: along a step with the greatest weight plus helper value
     A-climb : RowAt rows r (Until Every j k b) → (a : ℕ) → a < s → (m : Move M a) × Climbs a (m .weight) (m .state)
@@ -95,8 +84,8 @@ module _ (M : Model) (rows : List Row) (ok : Proper M) (order : Ordered rows) (x
         (record { weight = p .top .weight; state = p .top .node; step = go (out-leads M a (p .there)) }, λ h e v.
         let d = p .top .weight + e in
         value-≼ Every at l (to 0 (a + s * j) ∷ map (λ (t : Target). to (t .weight) (t .node + s * H)) (out M a)) second
-        (more x d (zero-sum d j left a l h) (each x d (λ (t : Target). to (t .weight) (t .node + s * H)) (out M a)
-        (λ t n. p .above t n .carries (plus-≼ (p .top .weight) (value (p .top .node)) v (le-refl d))))))
+        (each-more (zero-sum d j left a l h) (each-map (λ (t : Target). to (t .weight) (t .node + s * H)) (out M a)
+        (λ t n. p .above .at t n .carries (plus-≼ (p .top .weight) (value (p .top .node)) v (le-refl d))))))
 
     -- where the until holds, the helper's value is within the bound
     helper-complete : (q : Quantifier) → RowAt rows r (Until q j k b) → (a : ℕ) → a < s → sat.Until M q (φ M rows j) (φ M rows k) b a → meets b (value a) ≡ true
@@ -106,21 +95,21 @@ module _ (M : Model) (rows : List Row) (ok : Proper M) (order : Ordered rows) (x
   -- where a row's formula holds there is a reason for 0
   row-complete : (r : ℕ) (row : Row) → RowAt rows r row → ((l : ℕ) → l ∈ operands row → RowZero l) → (a : ℕ) (l : a < s) → Sat M (grow (some row) (formulaOf rows)) a
       → Why M rows x r l row 0
-  row-complete r True at op a l h = by-edge [] first (none x 0)
+  row-complete r True at op a l h = by-edge [] first each-none
   row-complete r False at op a l h = absurd h
-  row-complete r (Proposition i) at op a l h = by-edge [] (rw h first) (none x 0)
-  row-complete r (Negation i) at op a l h = by-edge [] (rw h first) (none x 0)
+  row-complete r (Proposition i) at op a l h = by-edge [] (rw h first) each-none
+  row-complete r (Negation i) at op a l h = by-edge [] (rw h first) each-none
   row-complete r (And j k) at op a l h =
       by-edge (to 0 (a + s * j) ∷ to 0 (a + s * k) ∷ []) first
-      (more x 0 (zero-sum 0 j (op j first) a l (h .0)) (more x 0 (zero-sum 0 k (op k second) a l (h .1)) (none x 0)))
-  row-complete r (Or j k) at op a l (inl h) = by-edge (to 0 (a + s * j) ∷ []) first (more x 0 (zero-sum 0 j (op j first) a l h) (none x 0))
-  row-complete r (Or j k) at op a l (inr h) = by-edge (to 0 (a + s * k) ∷ []) second (more x 0 (zero-sum 0 k (op k second) a l h) (none x 0))
+      (each-more (zero-sum 0 j (op j first) a l (h .0)) (each-more (zero-sum 0 k (op k second) a l (h .1)) each-none))
+  row-complete r (Or j k) at op a l (inl h) = by-edge (to 0 (a + s * j) ∷ []) first (each-more (zero-sum 0 j (op j first) a l h) each-none)
+  row-complete r (Or j k) at op a l (inr h) = by-edge (to 0 (a + s * k) ∷ []) second (each-more (zero-sum 0 k (op k second) a l h) each-none)
   row-complete r (Next Some j b) at op a l (w, c, m, i, h) =
       by-edge (to 0 (c + s * j) ∷ []) (Memᴰ·map (λ (t : Target). to 0 (t .node + s * j) ∷ []) (leads-near M a b m i))
-      (more x 0 (zero-sum 0 j (op j first) c (ok .target m) h) (none x 0))
+      (each-more (zero-sum 0 j (op j first) c (ok .target m) h) each-none)
   row-complete r (Next Every j b) at op a l h =
       by-edge (map (λ (t : Target). to 0 (t .node + s * j)) (near M b a)) first
-      (each x 0 (λ (t : Target). to 0 (t .node + s * j)) (near M b a)
+      (each-map (λ (t : Target). to 0 (t .node + s * j)) (near M b a)
       (λ t n. let (m, i) = near-leads M a b n in zero-sum 0 j (op j first) (t .node) (ok .target m) (h (t .weight) (t .node) m i)))
   row-complete r (Until q j k b) at op a l h = by-limit q j k b refl (helper-complete r j k b (op j first) (op k second) q at a l h)
 

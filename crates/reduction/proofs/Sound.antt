@@ -60,7 +60,7 @@ module _ (M : Model) (rows : List Row) where
   module _ (ok : Proper M) (y : Assignment) where
     -- a row's target at weight 0
     target-sound : (l : ℕ) → RowSound y l → {c d : ℕ} {ts : List Target} → c < s → Cheap y d ts → to 0 (c + s * l) ∈ ts → φ l c
-    target-sound l op {c} {d} b p m = op c b (d - 0) (≼-plus 0 (y (c + s * l)) (p (to 0 (c + s * l)) m) .1)
+    target-sound l op {c} {d} b p m = op c b (d - 0) (≼-plus 0 (y (c + s * l)) (p .at (to 0 (c + s * l)) m) .1)
 
     -- a hyperedge of a row's node has a number: its formula holds
     edge-sound : (row : Row) → ((l : ℕ) → l ∈ operands row → RowSound y l) → (a : ℕ) → a < s → (d : ℕ) (ts : List Target)
@@ -91,7 +91,7 @@ module _ (M : Model) (rows : List Row) where
       next-sound : (q : Quantifier) → HelperSound y r q j k → {a w c d : ℕ} {ts : List Target} → Leads M a w c → Cheap y d ts
           → to w (c + s * H) ∈ ts → (e : ℕ) × sat.Until M q (φ j) (φ k) (Within e) c × (w + e ≤ d)
       next-sound q hp {w = w} {c} {d} h p m =
-          let u = ≼-plus w (y (c + s * H)) (p (to w (c + s * H)) m) in
+          let u = ≼-plus w (y (c + s * H)) (p .at (to w (c + s * H)) m) in
           (d - w, hp c (ok .target h) (d - w) (u .1), omega arith)
 
       -- a hyperedge of a helper's node is at most d: the until holds within d
