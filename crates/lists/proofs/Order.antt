@@ -1,7 +1,6 @@
 -- Numbers that rise between two ends, one list behind another. Assumes nothing.
 use Prim.Native.Nat.{ℕ, _≤_}
 use native.Mathlib.Nat.{le-refl, le-trans}
-use native.Mathlib.Omega.{arith}
 use mathlib.Core.List.{List, [], _∷_, _++_}
 use Rattle.lists.specs.Order.{RisingFrom}
 
@@ -10,15 +9,16 @@ pub data Between (c : ℕ) : ℕ → List ℕ → Type 0 where
   done : {b : ℕ} → b ≤ c → Between c b []
   next : {b v : ℕ} {l : List ℕ} → b ≤ v → Between c v l → Between c b (v ∷ l)
 
-wider : {b b′ c c′ : ℕ} {l : List ℕ} → b′ ≤ b → c ≤ c′ → Between c b l → Between c′ b′ l
-wider {b′ = b′} {c′ = c′} p q (done h) = let k : b′ ≤ c′ = omega arith in done k
-wider {b′ = b′} p q (next {v = v} h m) = let k : b′ ≤ v = omega arith in next k (wider (le-refl v) q m)
+-- from a lower end, to a higher one
+wider : {b b′ c c′ : ℕ} {l : List ℕ} → b′ ≤ b → Between c b l → c ≤ c′ → Between c′ b′ l
+wider p (done h) q = done (le-trans p (le-trans h q))
+wider p (next {v = v} h m) q = next (le-trans p h) (wider (le-refl v) m q)
 
-pub between-append : {b c c′ d d′ : ℕ} {l k : List ℕ} → Between c b l → c ≤ c′ → Between d c′ k → d ≤ d′ → Between d′ b (l ++ k)
-between-append (done h) p m q = wider (le-trans h p) q m
-between-append (next h n) p m q = next h (between-append n p m q)
+pub between-append : {b b′ c c′ d d′ : ℕ} {l k : List ℕ} → b′ ≤ b → Between c b l → c ≤ c′ → Between d c′ k → d ≤ d′ → Between d′ b′ (l ++ k)
+between-append p (done h) q n r = wider (le-trans p (le-trans h q)) n r
+between-append p (next {v = v} h m) q n r = next (le-trans p h) (between-append (le-refl v) m q n r)
 
-pub between-rising : {b c : ℕ} {l : List ℕ} → Between c b l → RisingFrom b l
+pub between-rising : {b b′ c : ℕ} {l : List ℕ} → b′ ≤ b → Between c b l → RisingFrom b′ l
 unfolding RisingFrom
-between-rising (done h) = tt
-between-rising (next h m) = (h, between-rising m)
+between-rising p (done h) = tt
+between-rising p (next {v = v} h m) = (le-trans p h, between-rising (le-refl v) m)

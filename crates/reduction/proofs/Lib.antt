@@ -5,9 +5,11 @@
 --     Sound      a number in any round is no empty promise
 --     Complete   where a formula holds, an assignment that obeys the rules is 0
 --     Verdict    settled rounds have 0 where the formula holds, and infinity where not
+--     Built      the built graph is well-formed where it fits; its lists from the front
 pub mod Out
 pub mod Trees
 pub mod Blocks
 pub mod Sound
 pub mod Complete
 pub mod Verdict
+pub mod Built
