@@ -5,3 +5,9 @@
 pub mod Tests
 pub mod Lists
 pub mod Places
+--     Making     the elements of lists that are made by a test or number by number
+--     Each       what holds of each element
+--     Order      numbers that rise between two ends
+pub mod Making
+pub mod Each
+pub mod Order
