@@ -29,7 +29,7 @@ use Rattle.runs.specs.Runs.{Leads}
 use Rattle.runs.proofs.Proper.{Proper, proper}
 use Rattle.reduction.specs.Built.{to, out, near, rowEdges, stepEdges, helperEdges, rowCovers, isUntil, untils, layout, hyper, cover, graphOf, Fits}
 use Rattle.reduction.proofs.Out.{out-leads, near-leads}
-use Rattle.reduction.proofs.Trees.{Ordered, ordered}
+use Rattle.formula.proofs.Trees.{Ordered, ordered}
 use Rattle.reduction.proofs.Blocks.{Stands, of-until, hyper-stands, cover-stands, edges, places, node-lt, helper-lt}
 
 -- a layout in two parts

@@ -32,7 +32,7 @@ use Rattle.runs.proofs.Proper.{Proper}
 use Rattle.runs.proofs.Walks.{Move, E-value, A-value}
 use Rattle.reduction.specs.Built.{to, out, near, helperEdges, helperAt, graphOf}
 use Rattle.reduction.proofs.Out.{leads-out, out-leads, leads-near, near-leads}
-use Rattle.reduction.proofs.Trees.{Ordered, formula-of-row}
+use Rattle.formula.proofs.Trees.{Ordered, formula-of-row}
 use Rattle.reduction.proofs.Blocks.{Cheap, Why, by-limit, by-edge, row-why, helper-why, node-lt, helper-lt}
 use Rattle.reduction.proofs.Sound.{φ}
 

@@ -1,6 +1,5 @@
 -- Why the built graph answers the question.
 --     Out        the list of a state's transitions
---     Trees      the formula of a row is its operator over the formulas of its operands
 --     Blocks     which edges a node of the built graph has, and so why it is at most d after a round
 --     Sound      a number in any round is no empty promise
 --     Complete   where a formula holds, an assignment that obeys the rules is 0
@@ -8,7 +7,6 @@
 --     Built      the built graph is well-formed where it fits; its lists from the front
 --     Known      on model M, T13 to T15 hold and fail as the paper says
 pub mod Out
-pub mod Trees
 pub mod Blocks
 pub mod Sound
 pub mod Complete

@@ -16,7 +16,7 @@ use Rattle.formula.specs.Formula.{formulaOf}
 use Rattle.runs.specs.Sat.{Sat}
 use Rattle.runs.proofs.Proper.{Proper}
 use Rattle.reduction.specs.Built.{graphOf}
-use Rattle.reduction.proofs.Trees.{Ordered}
+use Rattle.formula.proofs.Trees.{Ordered}
 use Rattle.reduction.proofs.Sound.{sound}
 use Rattle.reduction.proofs.Complete.{complete}
 
