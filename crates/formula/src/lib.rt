@@ -85,7 +85,7 @@ fn all_zero(a: u32, b: u32, c: u32, d: u32) -> bool
     d == 0
 }
 
-// Whether the fields that the row doesn't use are zero; one that it uses may be anything.
+// Whether the fields that the row doesn't use are zero: one that it uses counts as zero.
 fn spare_zero(row: Row, left: u32, right: u32, zero: u32, bound: u32) -> bool
     ensures { λ r. ⌜ r ≡ rows.spareZero row left right zero bound ⌝ }
 {
