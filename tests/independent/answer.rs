@@ -34,7 +34,11 @@ fn shape(letter: u8) -> Option<(usize, usize)> {
 impl Call {
     fn new(letter: u8, numbers: &[u32], messages: &[&[u8]]) -> Call {
         let messages = messages.iter().map(|message| message.to_vec()).collect();
-        Call { letter, numbers: numbers.to_vec(), messages }
+        Call {
+            letter,
+            numbers: numbers.to_vec(),
+            messages,
+        }
     }
 
     pub fn graph(message: &[u8]) -> Call {
@@ -58,7 +62,12 @@ impl Call {
     }
 
     pub fn verdict(question: &Question, graph_room: usize, value_room: usize) -> Call {
-        let numbers = [question.state, question.budget, graph_room as u32, value_room as u32];
+        let numbers = [
+            question.state,
+            question.budget,
+            graph_room as u32,
+            value_room as u32,
+        ];
         Call::new(b'V', &numbers, &[question.model, question.formula])
     }
 
@@ -95,7 +104,10 @@ impl Call {
     }
 
     pub fn within_limits(&self) -> bool {
-        let short = self.messages.iter().all(|message| message.len() <= MOST_BYTES);
+        let short = self
+            .messages
+            .iter()
+            .all(|message| message.len() <= MOST_BYTES);
         short && self.byte_room() <= MOST_BYTES && self.value_room() <= MOST_VALUES
     }
 }
@@ -122,9 +134,17 @@ fn read_call(letter: u8, input: &mut &[u8]) -> Option<Call> {
     let (numbers, messages) = shape(letter)?;
     let size = take_number(input)?;
     let mut body = take(input, size as usize)?;
-    let numbers = (0..numbers).map(|_| take_number(&mut body)).collect::<Option<_>>()?;
-    let messages = (0..messages).map(|_| take_message(&mut body)).collect::<Option<_>>()?;
-    let call = Call { letter, numbers, messages };
+    let numbers = (0..numbers)
+        .map(|_| take_number(&mut body))
+        .collect::<Option<_>>()?;
+    let messages = (0..messages)
+        .map(|_| take_message(&mut body))
+        .collect::<Option<_>>()?;
+    let call = Call {
+        letter,
+        numbers,
+        messages,
+    };
     (body.is_empty() && call.within_limits()).then_some(call)
 }
 
@@ -154,12 +174,23 @@ pub fn answer_batch(input: &[u8]) -> String {
 /// A call for a reader's eyes: its letter and numbers, its messages in hex, the expected line and
 /// the rule that refused.
 pub fn shown(call: &Call) -> String {
-    let hex = |message: &Vec<u8>| message.iter().map(|byte| format!("{byte:02x}")).collect::<String>();
+    let hex = |message: &Vec<u8>| {
+        message
+            .iter()
+            .map(|byte| format!("{byte:02x}"))
+            .collect::<String>()
+    };
     let messages: Vec<String> = call.messages.iter().map(hex).collect();
     let expected = answer(call);
-    let rule = expected.fault.map_or(String::new(), |fault| format!(" ({}: {})", fault.subject, fault.place));
+    let rule = expected.fault.map_or(String::new(), |fault| {
+        format!(" ({}: {})", fault.subject, fault.place)
+    });
     let head = format!("{} {:?}", call.letter as char, call.numbers);
-    format!("{head}\n{}\nexpected: {}{rule}", messages.join("\n"), expected.line)
+    format!(
+        "{head}\n{}\nexpected: {}{rule}",
+        messages.join("\n"),
+        expected.line
+    )
 }
 
 /// The expected line, and the rule that refused.
@@ -175,7 +206,10 @@ pub fn answer(call: &Call) -> Expected {
         b'R' => answer_rounds(call),
         _ => answer_verdict(call),
     };
-    Expected { line: format!("{} {fields}", call.letter as char), fault }
+    Expected {
+        line: format!("{} {fields}", call.letter as char),
+        fault,
+    }
 }
 
 type Line = (String, Option<Fault>);
@@ -197,7 +231,10 @@ fn check(call: &Call) -> Result<(), Fault> {
         b'M' => message::model(&bytes::model(message)?),
         _ => message::formula(&bytes::formula(call.numbers[0], message)?),
     };
-    assert_eq!(&written.bytes, message, "an accepted message is not the writing of what was read");
+    assert_eq!(
+        &written.bytes, message,
+        "an accepted message is not the writing of what was read"
+    );
     Ok(())
 }
 
@@ -215,7 +252,10 @@ fn answer_rounds(call: &Call) -> Line {
         Ok(report) => (spent(verdict::number_of(&report)), report.rounds),
         Err(fault) => (Some(fault), 0),
     };
-    (format!("{} {count} {}", number(fault), sum_of_values(&room)), fault)
+    (
+        format!("{} {count} {}", number(fault), sum_of_values(&room)),
+        fault,
+    )
 }
 
 fn answer_verdict(call: &Call) -> Line {
@@ -236,7 +276,10 @@ fn answer_verdict(call: &Call) -> Line {
     };
     let word = yes.map_or("none", |yes| if yes { "yes" } else { "no" });
     let rooms = format!("{} {}", sum(&graph), sum_of_values(&values));
-    (format!("{} {word} {count} {length} {rooms}", number(fault)), fault)
+    (
+        format!("{} {word} {count} {length} {rooms}", number(fault)),
+        fault,
+    )
 }
 
 fn spent(number: Number) -> Option<Fault> {
@@ -265,5 +308,8 @@ pub fn sum(bytes: &[u8]) -> String {
 
 /// "numbers of a value room as 8 bytes each, big-endian"
 fn sum_of_values(room: &[u64]) -> String {
-    sum(&room.iter().flat_map(|number| number.to_be_bytes()).collect::<Vec<u8>>())
+    sum(&room
+        .iter()
+        .flat_map(|number| number.to_be_bytes())
+        .collect::<Vec<u8>>())
 }

@@ -12,7 +12,10 @@ pub struct Layout {
 
 impl Layout {
     pub fn of(model: &Model, rows: &[Row]) -> Layout {
-        Layout { states: model.states(), rows: rows.len() }
+        Layout {
+            states: model.states(),
+            rows: rows.len(),
+        }
     }
 
     pub fn node(&self, state: usize, row: usize) -> usize {
@@ -26,7 +29,9 @@ impl Layout {
 
 /// The indices of the until rows; the j-th of them has helper j.
 pub fn until_rows(rows: &[Row]) -> Vec<usize> {
-    (0..rows.len()).filter(|row| matches!(rows[*row], Row::Until(..))).collect()
+    (0..rows.len())
+        .filter(|row| matches!(rows[*row], Row::Until(..)))
+        .collect()
 }
 
 /// "With u the number of until rows, n is s times (f + u)." "Hyperedges stand by rising source"
@@ -34,16 +39,32 @@ pub fn graph(model: &Model, rows: &[Row]) -> Graph {
     let layout = Layout::of(model, rows);
     let untils = until_rows(rows);
     let nodes = model.states() * (rows.len() + untils.len());
-    let mut graph = Graph { nodes, hyperedges: vec![], covers: vec![] };
+    let mut graph = Graph {
+        nodes,
+        hyperedges: vec![],
+        covers: vec![],
+    };
     for row in 0..rows.len() {
         for state in 0..model.states() {
-            add_row(&mut graph, model, &layout, &rows[row], layout.node(state, row));
+            add_row(
+                &mut graph,
+                model,
+                &layout,
+                &rows[row],
+                layout.node(state, row),
+            );
         }
     }
     for (until, row) in untils.iter().enumerate() {
         for state in 0..model.states() {
             let source = layout.node(state, *row);
-            add_until(&mut graph, model, &layout, &rows[*row], (source, layout.helper(state, until)));
+            add_until(
+                &mut graph,
+                model,
+                &layout,
+                &rows[*row],
+                (source, layout.helper(state, until)),
+            );
         }
     }
     graph
@@ -82,9 +103,13 @@ fn add_row(graph: &mut Graph, model: &Model, layout: &Layout, row: &Row, source:
         }
         Row::Next(runs, bound, operand) => {
             let steps = model.leaving(state).filter(|step| within(step, bound));
-            let next: Vec<Target> = steps.map(|step| free(layout.node(step.to, operand))).collect();
+            let next: Vec<Target> = steps
+                .map(|step| free(layout.node(step.to, operand)))
+                .collect();
             match runs {
-                Runs::Some => next.into_iter().for_each(|target| graph.add(source, vec![target])),
+                Runs::Some => next
+                    .into_iter()
+                    .for_each(|target| graph.add(source, vec![target])),
                 Runs::All => graph.add(source, next),
             }
         }
@@ -96,15 +121,24 @@ fn add_row(graph: &mut Graph, model: &Model, layout: &Layout, row: &Row, source:
 /// for E, per transition, {left at 0, the successor's helper at its weight}; for A, a single one
 /// {left at 0, then all successors' helpers}."
 fn add_until(graph: &mut Graph, model: &Model, layout: &Layout, row: &Row, ends: (usize, usize)) {
-    let Row::Until(runs, bound, left, right) = *row else { return };
+    let Row::Until(runs, bound, left, right) = *row else {
+        return;
+    };
     let (source, helper) = ends;
     let state = source % model.states();
     let base = helper - state;
-    graph.covers.push(Cover { source, bound, target: helper });
+    graph.covers.push(Cover {
+        source,
+        bound,
+        target: helper,
+    });
     graph.add(helper, vec![free(layout.node(state, right))]);
     let left = free(layout.node(state, left));
     let steps = model.leaving(state);
-    let next = steps.map(|step| Target { weight: step.weight, node: base + step.to });
+    let next = steps.map(|step| Target {
+        weight: step.weight,
+        node: base + step.to,
+    });
     match runs {
         Runs::Some => next.for_each(|target| graph.add(helper, vec![left.clone(), target])),
         Runs::All => graph.add(helper, std::iter::once(left).chain(next).collect()),
@@ -117,8 +151,16 @@ pub fn within_limits(graph: &Graph) -> Result<(), Fault> {
     let counts = graph.hyperedges.iter().map(|edge| edge.targets.len());
     let (all, most) = counts.fold((0, 0), |(all, most), count| (all + count, count.max(most)));
     CALL.demand(graph.nodes <= limit::N, Number::Size, "n to be built")?;
-    CALL.demand(graph.hyperedges.len() <= limit::H, Number::Size, "h to be built")?;
-    CALL.demand(graph.covers.len() <= limit::C, Number::Size, "c to be built")?;
+    CALL.demand(
+        graph.hyperedges.len() <= limit::H,
+        Number::Size,
+        "h to be built",
+    )?;
+    CALL.demand(
+        graph.covers.len() <= limit::C,
+        Number::Size,
+        "c to be built",
+    )?;
     CALL.demand(all <= limit::TARGETS, Number::Size, "targets to be built")?;
     let one = most <= limit::TARGETS_OF_ONE;
     CALL.demand(one, Number::Size, "targets of one hyperedge to be built")

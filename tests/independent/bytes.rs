@@ -64,7 +64,9 @@ impl Model {
 
     /// The transitions that leave a state, in model order.
     pub fn leaving(&self, state: usize) -> impl Iterator<Item = &Transition> {
-        self.transitions.iter().filter(move |step| step.from == state)
+        self.transitions
+            .iter()
+            .filter(move |step| step.from == state)
     }
 }
 
@@ -118,7 +120,9 @@ impl Cursor<'_> {
     fn take(&mut self, width: usize) -> u32 {
         let field = &self.bytes[self.at..self.at + width];
         self.at += width;
-        field.iter().fold(0, |number, byte| number << 8 | u32::from(*byte))
+        field
+            .iter()
+            .fold(0, |number, byte| number << 8 | u32::from(*byte))
     }
 
     fn take_name(&mut self, width: usize) -> usize {
@@ -131,14 +135,24 @@ impl Cursor<'_> {
 fn open(judge: Judge, bytes: &[u8], header: usize, kind: u32) -> Result<Cursor<'_>, Fault> {
     judge.demand(bytes.len() >= header, Number::Length, "header bytes")?;
     let mut cursor = Cursor { bytes, at: 0 };
-    judge.demand(cursor.take_name(4) == bytes.len(), Number::Length, "length field")?;
+    judge.demand(
+        cursor.take_name(4) == bytes.len(),
+        Number::Length,
+        "length field",
+    )?;
     judge.demand(cursor.take(1) == 1, Number::Version, "version")?;
     judge.demand(cursor.take(1) == kind, Number::Version, "kind")?;
     Ok(cursor)
 }
 
 /// "4 LIMIT: a count outside the table above"
-fn limited(judge: Judge, count: usize, least: usize, most: usize, place: &'static str) -> Result<usize, Fault> {
+fn limited(
+    judge: Judge,
+    count: usize,
+    least: usize,
+    most: usize,
+    place: &'static str,
+) -> Result<usize, Fault> {
     judge.demand((least..=most).contains(&count), Number::Limit, place)?;
     Ok(count)
 }
@@ -160,14 +174,22 @@ pub mod limit {
 /// over."
 pub fn graph(bytes: &[u8]) -> Result<Graph, Fault> {
     let mut cursor = open(GRAPH, bytes, 14, 1)?;
-    let (n, h, c) = (cursor.take_name(2), cursor.take_name(4), cursor.take_name(2));
+    let (n, h, c) = (
+        cursor.take_name(2),
+        cursor.take_name(4),
+        cursor.take_name(2),
+    );
     let nodes = limited(GRAPH, n, 1, limit::N, "n")?;
     let h = limited(GRAPH, h, 0, limit::H, "h")?;
     let c = limited(GRAPH, c, 0, limit::C, "c")?;
     let hyperedges = hyperedges(&mut cursor, nodes, h)?;
     let covers = covers(&mut cursor, nodes, c)?;
     GRAPH.demand(cursor.left() == 0, Number::Length, "bytes left over")?;
-    Ok(Graph { nodes, hyperedges, covers })
+    Ok(Graph {
+        nodes,
+        hyperedges,
+        covers,
+    })
 }
 
 /// "Hyperedge: its 4 fixed bytes fit; source NAME; ORDER; running target total LIMIT; target bytes
@@ -176,12 +198,22 @@ fn hyperedges(cursor: &mut Cursor, nodes: usize, h: usize) -> Result<Vec<Hypered
     let mut read: Vec<Hyperedge> = Vec::new();
     let mut total = 0;
     for _ in 0..h {
-        GRAPH.demand(cursor.left() >= 4, Number::Length, "hyperedge's fixed bytes")?;
+        GRAPH.demand(
+            cursor.left() >= 4,
+            Number::Length,
+            "hyperedge's fixed bytes",
+        )?;
         let (source, count) = (cursor.take_name(2), cursor.take_name(2));
         GRAPH.demand(source < nodes, Number::Name, "hyperedge's source")?;
         let before = read.last().map_or(0, |edge| edge.source);
         GRAPH.demand(before <= source, Number::Order, "hyperedge's order")?;
-        total = limited(GRAPH, total + count, 0, limit::TARGETS, "targets of all hyperedges")?;
+        total = limited(
+            GRAPH,
+            total + count,
+            0,
+            limit::TARGETS,
+            "targets of all hyperedges",
+        )?;
         GRAPH.demand(cursor.left() >= 6 * count, Number::Length, "target bytes")?;
         let targets = targets(cursor, nodes, count)?;
         read.push(Hyperedge { source, targets });
@@ -211,7 +243,11 @@ fn covers(cursor: &mut Cursor, nodes: usize, c: usize) -> Result<Vec<Cover>, Fau
         let before = read.last().map_or(0, |edge| edge.source);
         GRAPH.demand(before <= source, Number::Order, "cover edge's order")?;
         GRAPH.demand(target < nodes, Number::Name, "cover edge's target")?;
-        read.push(Cover { source, bound: bound_of(bound), target });
+        read.push(Cover {
+            source,
+            bound: bound_of(bound),
+            target,
+        });
     }
     Ok(read)
 }
@@ -220,14 +256,26 @@ fn covers(cursor: &mut Cursor, nodes: usize, c: usize) -> Result<Vec<Cover>, Fau
 /// must then have exactly 13 + 4s + 8t bytes". "After all of them, DEAD."
 pub fn model(bytes: &[u8]) -> Result<Model, Fault> {
     let mut cursor = open(MODEL, bytes, 13, 2)?;
-    let (s, p, t) = (cursor.take_name(2), cursor.take_name(1), cursor.take_name(4));
+    let (s, p, t) = (
+        cursor.take_name(2),
+        cursor.take_name(1),
+        cursor.take_name(4),
+    );
     let s = limited(MODEL, s, 1, limit::S, "s")?;
     let p = limited(MODEL, p, 0, limit::P, "p")?;
     let t = limited(MODEL, t, 0, limit::T, "t")?;
-    MODEL.demand(bytes.len() == 13 + 4 * s + 8 * t, Number::Length, "exact length")?;
+    MODEL.demand(
+        bytes.len() == 13 + 4 * s + 8 * t,
+        Number::Length,
+        "exact length",
+    )?;
     let labels = labels(&mut cursor, s, p)?;
     let transitions = transitions(&mut cursor, s, t)?;
-    let model = Model { propositions: p as u32, labels, transitions };
+    let model = Model {
+        propositions: p as u32,
+        labels,
+        transitions,
+    };
     let alive = (0..s).all(|state| model.leaving(state).next().is_some());
     MODEL.demand(alive, Number::Dead, "dead state")?;
     Ok(model)
@@ -312,10 +360,22 @@ fn uses_bound(operator: u32) -> bool {
 /// "the first unused field not zero FORM"
 fn unused_are_zero(fields: &Fields) -> Result<(), Fault> {
     let operator = fields.operator;
-    FORMULA.demand(uses_left(operator) || fields.left == 0, Number::Form, "left unused")?;
-    FORMULA.demand(uses_right(operator) || fields.right == 0, Number::Form, "right unused")?;
+    FORMULA.demand(
+        uses_left(operator) || fields.left == 0,
+        Number::Form,
+        "left unused",
+    )?;
+    FORMULA.demand(
+        uses_right(operator) || fields.right == 0,
+        Number::Form,
+        "right unused",
+    )?;
     FORMULA.demand(fields.zero == 0, Number::Form, "zero")?;
-    FORMULA.demand(uses_bound(operator) || fields.bound == 0, Number::Form, "bound unused")
+    FORMULA.demand(
+        uses_bound(operator) || fields.bound == 0,
+        Number::Form,
+        "bound unused",
+    )
 }
 
 /// "then left and right NAME. An operand must be an earlier row."

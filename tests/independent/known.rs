@@ -12,7 +12,11 @@ pub fn graph(nodes: usize, hyperedges: &[Edge], covers: &[(usize, Bound, usize)]
         let targets = targets.iter().map(target).collect();
         Hyperedge { source, targets }
     };
-    let cover = |&(source, bound, target): &(usize, Bound, usize)| Cover { source, bound, target };
+    let cover = |&(source, bound, target): &(usize, Bound, usize)| Cover {
+        source,
+        bound,
+        target,
+    };
     Graph {
         nodes,
         hyperedges: hyperedges.iter().map(hyperedge).collect(),
@@ -23,7 +27,11 @@ pub fn graph(nodes: usize, hyperedges: &[Edge], covers: &[(usize, Bound, usize)]
 /// A model from its labels and transitions (from, weight, to).
 pub fn model(propositions: u32, labels: &[u32], transitions: &[(usize, u32, usize)]) -> Model {
     let step = |&(from, weight, to): &(usize, u32, usize)| Transition { from, weight, to };
-    Model { propositions, labels: labels.to_vec(), transitions: transitions.iter().map(step).collect() }
+    Model {
+        propositions,
+        labels: labels.to_vec(),
+        transitions: transitions.iter().map(step).collect(),
+    }
 }
 
 /// A known graph, its settled values and its count.
@@ -42,7 +50,12 @@ fn fin(number: u64) -> Value {
 
 /// "Graph G: 0 covers 1 with bound 5; 1 has {(3,2),(1,3)} and {(7,3)}; 2 has {(1,3)}; 3 has {}."
 pub fn graph_g() -> Graph {
-    let hyperedges: [Edge; 4] = [(1, &[(3, 2), (1, 3)]), (1, &[(7, 3)]), (2, &[(1, 3)]), (3, &[])];
+    let hyperedges: [Edge; 4] = [
+        (1, &[(3, 2), (1, 3)]),
+        (1, &[(7, 3)]),
+        (2, &[(1, 3)]),
+        (3, &[]),
+    ];
     graph(4, &hyperedges, &[(0, Some(5), 1)])
 }
 
@@ -62,7 +75,12 @@ pub fn rounds_of_g() -> [[Value; 4]; 4] {
 }
 
 fn known(name: &'static str, graph: Graph, values: &[Value], count: u32) -> Known {
-    Known { name, graph, values: values.to_vec(), count }
+    Known {
+        name,
+        graph,
+        values: values.to_vec(),
+        count,
+    }
 }
 
 /// T4 to T12 and the graph marked "Run" whose weights don't fit 32 bits when added.
@@ -74,7 +92,12 @@ pub fn graphs() -> Vec<Known> {
         known("T6", graph(1, &[(0, &[])], &[]), &[fin(0)], 1),
         known("T7", graph(1, &[(0, &[(0, 0)])], &[]), &[INF], 0),
         known("T8", graph(2, &[], &[(0, None, 1)]), &[INF, INF], 0),
-        known("T9", graph(2, &[(1, &[])], &[(0, None, 1)]), &[fin(0), fin(0)], 2),
+        known(
+            "T9",
+            graph(2, &[(1, &[])], &[(0, None, 1)]),
+            &[fin(0), fin(0)],
+            2,
+        ),
         known("T10", chain_of_t10(5, false), &[fin(0), fin(5), fin(0)], 3),
         known("T11", chain_of_t10(4, false), &[INF, fin(5), fin(0)], 2),
         known("T12", chain_of_t10(5, true), &[fin(0), fin(0), fin(0)], 4),
@@ -118,7 +141,12 @@ pub struct KnownQuestion {
 
 /// T13 to T15.
 pub fn questions() -> Vec<KnownQuestion> {
-    let question = |name, rows, yes, count| KnownQuestion { name, rows, yes, count };
+    let question = |name, rows, yes, count| KnownQuestion {
+        name,
+        rows,
+        yes,
+        count,
+    };
     vec![
         question("T13", until(Runs::Some, Some(2)), [true, true], 4),
         question("T14", until(Runs::Some, Some(1)), [false, true], 3),

@@ -55,13 +55,25 @@ fn decimal<T: std::str::FromStr>(word: &str) -> Result<T, String> {
 }
 
 fn make(seed: &str, calls: &str, stdin: &str, stdout: &str, letters: &str) -> Result<(), String> {
-    if letters.is_empty() || letters.chars().any(|letter| letter != '?' && !answer::LETTERS.contains(letter)) {
-        return Err(format!("letters are some of {}? and not {letters}", answer::LETTERS));
+    if letters.is_empty()
+        || letters
+            .chars()
+            .any(|letter| letter != '?' && !answer::LETTERS.contains(letter))
+    {
+        return Err(format!(
+            "letters are some of {}? and not {letters}",
+            answer::LETTERS
+        ));
     }
     let (input, lines) = batch::make(decimal(seed)?, decimal(calls)?, letters);
     write(stdin, &input)?;
     write(stdout, lines.as_bytes())?;
-    println!("{} calls, {} bytes, {} bytes of lines", lines.lines().count(), input.len(), lines.len());
+    println!(
+        "{} calls, {} bytes, {} bytes of lines",
+        lines.lines().count(),
+        input.len(),
+        lines.len()
+    );
     Ok(())
 }
 
@@ -71,19 +83,25 @@ fn write(path: &str, bytes: &[u8]) -> Result<(), String> {
 
 fn read_input() -> Result<Vec<u8>, String> {
     let mut input = vec![];
-    io::stdin().read_to_end(&mut input).map_err(|error| error.to_string())?;
+    io::stdin()
+        .read_to_end(&mut input)
+        .map_err(|error| error.to_string())?;
     Ok(input)
 }
 
 fn answer() -> Result<(), String> {
     let lines = answer::answer_batch(&read_input()?);
-    io::stdout().write_all(lines.as_bytes()).map_err(|error| error.to_string())
+    io::stdout()
+        .write_all(lines.as_bytes())
+        .map_err(|error| error.to_string())
 }
 
 fn show(line: &str) -> Result<(), String> {
     let line: usize = decimal(line)?;
     let input = read_input()?;
-    let call = line.checked_sub(1).and_then(|index| answer::calls(&input).nth(index));
+    let call = line
+        .checked_sub(1)
+        .and_then(|index| answer::calls(&input).nth(index));
     match call {
         Some(Ok(call)) => println!("{}", answer::shown(&call)),
         Some(Err(letter)) => println!("no call, letter {letter}"),

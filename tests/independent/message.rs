@@ -93,7 +93,11 @@ fn numbers(row: &Row) -> (u64, usize, usize, u32) {
 
 impl Message {
     fn start(kind: u64) -> Message {
-        let mut out = Message { bytes: vec![], fields: vec![], lists: vec![] };
+        let mut out = Message {
+            bytes: vec![],
+            fields: vec![],
+            lists: vec![],
+        };
         out.put(4, 0);
         out.put(1, 1);
         out.put(1, kind);
@@ -101,8 +105,12 @@ impl Message {
     }
 
     fn put(&mut self, width: usize, number: u64) -> Field {
-        let field = Field { at: self.bytes.len(), width };
-        self.bytes.extend_from_slice(&number.to_be_bytes()[8 - width..]);
+        let field = Field {
+            at: self.bytes.len(),
+            width,
+        };
+        self.bytes
+            .extend_from_slice(&number.to_be_bytes()[8 - width..]);
         self.fields.push(field);
         field
     }
@@ -125,7 +133,9 @@ impl Message {
     /// The number that a field holds.
     pub fn value(&self, field: Field) -> u32 {
         let bytes = &self.bytes[field.at..field.at + field.width];
-        bytes.iter().fold(0, |number, byte| number << 8 | u32::from(*byte))
+        bytes
+            .iter()
+            .fold(0, |number, byte| number << 8 | u32::from(*byte))
     }
 
     /// The message's bytes with another number in a field.

@@ -36,7 +36,11 @@ pub const CALL: Judge = Judge("call");
 
 impl Judge {
     pub fn fault(self, number: Number, place: &'static str) -> Fault {
-        Fault { number, subject: self.0, place }
+        Fault {
+            number,
+            subject: self.0,
+            place,
+        }
     }
 
     /// "the first fault found is the answer and nothing after it is read"

@@ -7,13 +7,21 @@ pub type Value = Option<u64>;
 
 /// "infinity is stored as 18,446,744,073,709,551,615"
 pub fn stored(value: Value) -> u64 {
-    assert_ne!(value, Some(u64::MAX), "a finite value stands where infinity is stored");
+    assert_ne!(
+        value,
+        Some(u64::MAX),
+        "a finite value stands where infinity is stored"
+    );
     value.unwrap_or(u64::MAX)
 }
 
 /// "Infinity plus any weight is infinity."
 pub fn plus(value: Value, weight: u32) -> Value {
-    value.map(|number| number.checked_add(u64::from(weight)).expect("a sum past 64 bits"))
+    value.map(|number| {
+        number
+            .checked_add(u64::from(weight))
+            .expect("a sum past 64 bits")
+    })
 }
 
 /// "with bound k has a target of value at most k; with no bound, a target that is finite"
@@ -45,22 +53,36 @@ fn edges_by_node(graph: &Graph) -> Vec<Edges<'_>> {
 
 /// "the greatest weight plus target value. A hyperedge with no target gives 0."
 fn greatest(edge: &Hyperedge, before: &[Value]) -> Value {
-    let sums = edge.targets.iter().map(|target| plus(before[target.node], target.weight));
+    let sums = edge
+        .targets
+        .iter()
+        .map(|target| plus(before[target.node], target.weight));
     sums.fold(Some(0), |worst, sum| Some(worst?.max(sum?)))
 }
 
 /// "0 if some cover edge of it ..; otherwise the least, over its hyperedges, of the greatest weight
 /// plus target value. .. No hyperedge gives infinity."
 fn worked_out(edges: &Edges, before: &[Value]) -> Value {
-    if edges.covers.iter().any(|edge| within(before[edge.target], edge.bound)) {
+    if edges
+        .covers
+        .iter()
+        .any(|edge| within(before[edge.target], edge.bound))
+    {
         return Some(0);
     }
-    edges.hyperedges.iter().filter_map(|edge| greatest(edge, before)).min()
+    edges
+        .hyperedges
+        .iter()
+        .filter_map(|edge| greatest(edge, before))
+        .min()
 }
 
 /// "In round i + 1 each node is worked out from round i only"
 pub fn next_round(graph: &Graph, before: &[Value]) -> Vec<Value> {
-    edges_by_node(graph).iter().map(|edges| worked_out(edges, before)).collect()
+    edges_by_node(graph)
+        .iter()
+        .map(|edges| worked_out(edges, before))
+        .collect()
 }
 
 /// What stands after the work: m, whether round m changed nothing more, rounds m and m + 1.
@@ -83,7 +105,12 @@ pub fn run(graph: &Graph, budget: u32) -> Report {
         let settled = at == after;
         if settled || rounds == budget {
             check_count(graph, rounds);
-            return Report { rounds, settled, at, after };
+            return Report {
+                rounds,
+                settled,
+                at,
+                after,
+            };
         }
         at = after;
         rounds += 1;
@@ -99,6 +126,10 @@ fn check_count(graph: &Graph, rounds: u32) {
 impl Report {
     /// The first 2n numbers of the value room.
     pub fn numbers(&self) -> Vec<u64> {
-        self.at.iter().chain(&self.after).map(|value| stored(*value)).collect()
+        self.at
+            .iter()
+            .chain(&self.after)
+            .map(|value| stored(*value))
+            .collect()
     }
 }

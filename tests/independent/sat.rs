@@ -13,7 +13,10 @@ pub struct Meaning {
 }
 
 pub fn meaning(model: &Model, rows: &[Row]) -> Meaning {
-    let mut meaning = Meaning { holds: vec![], weights: vec![] };
+    let mut meaning = Meaning {
+        holds: vec![],
+        weights: vec![],
+    };
     for row in rows {
         let weights = until_weights(model, row, &meaning.holds);
         let satisfies = |state: usize| state_satisfies(model, row, &meaning.holds, &weights, state);
@@ -32,7 +35,13 @@ fn until_weights(model: &Model, row: &Row, holds: &[Vec<bool>]) -> Vec<Value> {
     }
 }
 
-fn state_satisfies(model: &Model, row: &Row, holds: &[Vec<bool>], weights: &[Value], state: usize) -> bool {
+fn state_satisfies(
+    model: &Model,
+    row: &Row,
+    holds: &[Vec<bool>],
+    weights: &[Value],
+    state: usize,
+) -> bool {
     let has = |proposition: usize| model.labels[state] >> proposition & 1 == 1;
     match *row {
         Row::True => true,
@@ -49,7 +58,9 @@ fn state_satisfies(model: &Model, row: &Row, holds: &[Vec<bool>], weights: &[Val
 /// "EX: some transition of weight within the bound leads to a state that satisfies the operand. AX:
 /// all such transitions do."
 fn next(model: &Model, runs: Runs, bound: Bound, operand: &[bool], state: usize) -> bool {
-    let mut steps = model.leaving(state).filter(|step| within(Some(u64::from(step.weight)), bound));
+    let mut steps = model
+        .leaving(state)
+        .filter(|step| within(Some(u64::from(step.weight)), bound));
     match runs {
         Runs::Some => steps.any(|step| operand[step.to]),
         Runs::All => steps.all(|step| operand[step.to]),
@@ -65,7 +76,11 @@ fn least(model: &Model, left: &[bool], right: &[bool]) -> Vec<Value> {
     let mut open: Vec<bool> = vec![true; model.states()];
     while let Some(state) = nearest(&weight, &open) {
         open[state] = false;
-        for step in model.transitions.iter().filter(|step| step.to == state && left[step.from]) {
+        for step in model
+            .transitions
+            .iter()
+            .filter(|step| step.to == state && left[step.from])
+        {
             let through = plus(weight[state], step.weight);
             if weight[step.from].is_none_or(|known| through.is_some_and(|sum| sum < known)) {
                 weight[step.from] = through;
@@ -95,10 +110,18 @@ enum Seen {
 /// repeated for ever, whatever the weights: a run without right.
 fn worst(model: &Model, left: &[bool], right: &[bool]) -> Vec<Value> {
     let mut seen = vec![Seen::Never; model.states()];
-    (0..model.states()).map(|state| worst_from(model, left, right, &mut seen, state)).collect()
+    (0..model.states())
+        .map(|state| worst_from(model, left, right, &mut seen, state))
+        .collect()
 }
 
-fn worst_from(model: &Model, left: &[bool], right: &[bool], seen: &mut [Seen], state: usize) -> Value {
+fn worst_from(
+    model: &Model,
+    left: &[bool],
+    right: &[bool],
+    seen: &mut [Seen],
+    state: usize,
+) -> Value {
     match seen[state] {
         Seen::Known(value) => return value,
         Seen::OnTheWalk => return None,

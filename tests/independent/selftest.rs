@@ -40,7 +40,13 @@ fn report(what: &str, count: usize) {
 fn known_graphs() {
     let hex: String = known::GRAPH_G_HEX.split_whitespace().collect();
     let written = message::graph(&known::graph_g()).bytes;
-    assert_eq!(written.iter().map(|byte| format!("{byte:02X}")).collect::<String>(), hex);
+    assert_eq!(
+        written
+            .iter()
+            .map(|byte| format!("{byte:02X}"))
+            .collect::<String>(),
+        hex
+    );
     let mut at: Vec<Value> = vec![None; 4];
     for round in known::rounds_of_g() {
         at = rounds::next_round(&known::graph_g(), &at);
@@ -48,12 +54,25 @@ fn known_graphs() {
     }
     for known in known::graphs() {
         let settled = rounds::run(&known.graph, u32::MAX);
-        assert_eq!((settled.at, settled.rounds), (known.values, known.count), "{}", known.name);
-        assert_eq!(bytes::graph(&message::graph(&known.graph).bytes), Ok(known.graph), "{}", known.name);
+        assert_eq!(
+            (settled.at, settled.rounds),
+            (known.values, known.count),
+            "{}",
+            known.name
+        );
+        assert_eq!(
+            bytes::graph(&message::graph(&known.graph).bytes),
+            Ok(known.graph),
+            "{}",
+            known.name
+        );
     }
     let spent = rounds::run(&known::graph_g(), 3);
     assert!(!spent.settled && spent.rounds == 3, "budget 3 is BUDGET");
-    assert_eq!([spent.at, spent.after].concat(), known::rounds_of_g()[2..].concat());
+    assert_eq!(
+        [spent.at, spent.after].concat(),
+        known::rounds_of_g()[2..].concat()
+    );
     report("known graphs", known::graphs().len());
 }
 
@@ -62,7 +81,12 @@ fn known_questions() {
     for known in known::questions() {
         let formula = message::formula(&known.rows).bytes;
         for state in 0..2 {
-            let question = Question { model: &model, formula: &formula, state, budget: known.count };
+            let question = Question {
+                model: &model,
+                formula: &formula,
+                state,
+                budget: known.count,
+            };
             let found = verdict::decide(&question, &mut [0; 200], &mut [0; 16]).expect("a verdict");
             assert_eq!(found.yes, Some(known.yes[state as usize]), "{}", known.name);
             assert_eq!(found.report.rounds, known.count, "{}", known.name);
@@ -88,21 +112,38 @@ fn number<T>(read: Result<T, crate::refusal::Fault>) -> Number {
 
 fn long_messages() {
     let wide = |counts: &[usize]| {
-        let targets: Vec<Vec<(u32, usize)>> = counts.iter().map(|count| vec![(1, 0); *count]).collect();
-        let edges: Vec<known::Edge> = targets.iter().map(|targets| (0, targets.as_slice())).collect();
+        let targets: Vec<Vec<(u32, usize)>> =
+            counts.iter().map(|count| vec![(1, 0); *count]).collect();
+        let edges: Vec<known::Edge> = targets
+            .iter()
+            .map(|targets| (0, targets.as_slice()))
+            .collect();
         message::graph(&graph(1, &edges, &[])).bytes
     };
     let four = [65_535; 4];
-    assert_eq!(number(bytes::graph(&wide(&[&four[..], &[4]].concat()))), Number::Ok);
+    assert_eq!(
+        number(bytes::graph(&wide(&[&four[..], &[4]].concat()))),
+        Number::Ok
+    );
     let mut past = wide(&[&four[..], &[5]].concat());
     assert_eq!(number(bytes::graph(&past)), Number::Limit);
     past.truncate(past.len() - 30);
     message::mend_length(&mut past);
-    assert_eq!(number(bytes::graph(&past)), Number::Limit, "LIMIT comes before the target bytes fit");
+    assert_eq!(
+        number(bytes::graph(&past)),
+        Number::Limit,
+        "LIMIT comes before the target bytes fit"
+    );
     assert_eq!(number(bytes::graph(&wide(&vec![0; 65_535]))), Number::Ok);
     assert_eq!(number(bytes::graph(&wide(&vec![0; 65_536]))), Number::Limit);
-    assert_eq!(number(bytes::model(&message::model(&loops(65_535)).bytes)), Number::Ok);
-    assert_eq!(number(bytes::model(&message::model(&loops(65_536)).bytes)), Number::Limit);
+    assert_eq!(
+        number(bytes::model(&message::model(&loops(65_535)).bytes)),
+        Number::Ok
+    );
+    assert_eq!(
+        number(bytes::model(&message::model(&loops(65_536)).bytes)),
+        Number::Limit
+    );
     report("long messages", 7);
 }
 
@@ -111,13 +152,26 @@ fn loops(transitions: usize) -> Model {
 }
 
 fn large_graphs() {
-    let built = |transitions: usize, rows: &Formula| number(build::within_limits(&build::graph(&loops(transitions), rows)));
+    let built = |transitions: usize, rows: &Formula| {
+        number(build::within_limits(&build::graph(
+            &loops(transitions),
+            rows,
+        )))
+    };
     let next = vec![Row::True, Row::Next(Runs::All, None, 0)];
     assert_eq!(built(65_535, &next), Number::Ok);
     assert_eq!(built(65_534, &known::until(Runs::All, None)), Number::Ok);
-    assert_eq!(built(65_535, &known::until(Runs::All, None)), Number::Size, "65,536 targets of one hyperedge");
+    assert_eq!(
+        built(65_535, &known::until(Runs::All, None)),
+        Number::Size,
+        "65,536 targets of one hyperedge"
+    );
     assert_eq!(built(65_533, &known::until(Runs::Some, None)), Number::Ok);
-    assert_eq!(built(65_534, &known::until(Runs::Some, None)), Number::Size, "65,536 hyperedges");
+    assert_eq!(
+        built(65_534, &known::until(Runs::Some, None)),
+        Number::Size,
+        "65,536 hyperedges"
+    );
     report("large graphs", 5);
 }
 
@@ -135,7 +189,10 @@ fn runs_by_unrolling(random: &mut Random, times: usize) {
         for row in build::until_rows(&rows) {
             for state in 0..model.states() {
                 let by_walks = until_by_walks(&model, &meaning.holds, &rows[row], state);
-                assert_eq!(meaning.holds[row][state], by_walks, "row {row}, state {state}\n{model:?}\n{rows:?}");
+                assert_eq!(
+                    meaning.holds[row][state], by_walks,
+                    "row {row}, state {state}\n{model:?}\n{rows:?}"
+                );
                 untils += 1;
             }
         }
@@ -144,7 +201,9 @@ fn runs_by_unrolling(random: &mut Random, times: usize) {
 }
 
 fn until_by_walks(model: &Model, holds: &[Vec<bool>], row: &Row, state: usize) -> bool {
-    let Row::Until(runs, bound, left, right) = *row else { unreachable!() };
+    let Row::Until(runs, bound, left, right) = *row else {
+        unreachable!()
+    };
     let meets = |walk: &Vec<(usize, u64)>| {
         (0..walk.len()).any(|at| {
             let (state, weight) = walk[at];
@@ -198,11 +257,19 @@ fn largest_assignments(random: &mut Random, times: usize) {
     for _ in 0..times {
         let graph = small_graph(random);
         let settled = rounds::run(&graph, u32::MAX).at;
-        assert_eq!(rounds::next_round(&graph, &settled), settled, "settled values obey the rules");
+        assert_eq!(
+            rounds::next_round(&graph, &settled),
+            settled,
+            "settled values obey the rules"
+        );
         for assignment in assignments(graph.nodes) {
             if rounds::next_round(&graph, &assignment) == assignment {
-                let below = |(one, other): (&Value, &Value)| rounds::stored(*one) <= rounds::stored(*other);
-                assert!(assignment.iter().zip(&settled).all(below), "{graph:?} {assignment:?}");
+                let below =
+                    |(one, other): (&Value, &Value)| rounds::stored(*one) <= rounds::stored(*other);
+                assert!(
+                    assignment.iter().zip(&settled).all(below),
+                    "{graph:?} {assignment:?}"
+                );
                 obeying += 1;
             }
         }
@@ -212,9 +279,15 @@ fn largest_assignments(random: &mut Random, times: usize) {
 
 fn small_graph(random: &mut Random) -> Graph {
     let mut graph = generate::graph(random, 3);
-    let targets = graph.hyperedges.iter_mut().flat_map(|edge| &mut edge.targets);
+    let targets = graph
+        .hyperedges
+        .iter_mut()
+        .flat_map(|edge| &mut edge.targets);
     targets.for_each(|target| target.weight %= 3);
-    graph.covers.iter_mut().for_each(|edge| edge.bound = edge.bound.map(|bound| bound % 6));
+    graph
+        .covers
+        .iter_mut()
+        .for_each(|edge| edge.bound = edge.bound.map(|bound| bound % 6));
     graph
 }
 
@@ -222,7 +295,12 @@ fn small_graph(random: &mut Random) -> Graph {
 fn assignments(nodes: usize) -> Vec<Vec<Value>> {
     let values: Vec<Value> = (0..7).map(Some).chain([None]).collect();
     (0..nodes).fold(vec![vec![]], |shorter, _| {
-        let longer = |start: &Vec<Value>| values.iter().map(|value| [&start[..], &[*value]].concat()).collect::<Vec<_>>();
+        let longer = |start: &Vec<Value>| {
+            values
+                .iter()
+                .map(|value| [&start[..], &[*value]].concat())
+                .collect::<Vec<_>>()
+        };
         shorter.iter().flat_map(longer).collect()
     })
 }
@@ -252,7 +330,9 @@ fn take(text: &mut &str, word: &str) -> bool {
 }
 
 fn read_number(text: &mut &str) -> u32 {
-    let digits = text.find(|letter: char| !letter.is_ascii_digit()).unwrap_or(text.len());
+    let digits = text
+        .find(|letter: char| !letter.is_ascii_digit())
+        .unwrap_or(text.len());
     let (number, rest) = text.split_at(digits);
     assert!(number == "0" || !number.starts_with('0'), "a leading zero");
     *text = rest;
@@ -277,7 +357,11 @@ fn read_row(text: &mut &str, rows: &mut Formula) -> usize {
     } else if take(text, "(") {
         read_pair(text, rows)
     } else {
-        let runs = if take(text, "E") { Runs::Some } else { Runs::All };
+        let runs = if take(text, "E") {
+            Runs::Some
+        } else {
+            Runs::All
+        };
         let _ = take(text, "A");
         read_quantified(runs, text, rows)
     };
@@ -314,7 +398,11 @@ fn read_quantified(runs: Runs, text: &mut &str, rows: &mut Formula) -> Row {
 
 /// The rows below a row, left before right, each after its operands: the order of reading.
 fn operands_first(rows: &[Row], index: usize, out: &mut Formula) -> usize {
-    let names: Vec<usize> = rows[index].operands().iter().map(|operand| operands_first(rows, *operand, out)).collect();
+    let names: Vec<usize> = rows[index]
+        .operands()
+        .iter()
+        .map(|operand| operands_first(rows, *operand, out))
+        .collect();
     out.push(match rows[index] {
         Row::And(..) => Row::And(names[0], names[1]),
         Row::Or(..) => Row::Or(names[0], names[1]),
@@ -334,37 +422,65 @@ fn every_rule() {
     let broken: BTreeSet<(char, &str, &str)> = calls.iter().filter_map(rule_broken).collect();
     for (subject, place, letters) in RULES {
         for letter in letters.chars() {
-            assert!(broken.contains(&(letter, subject, place)), "{letter} never breaks: {subject}, {place}");
+            assert!(
+                broken.contains(&(letter, subject, place)),
+                "{letter} never breaks: {subject}, {place}"
+            );
         }
     }
     let allowed = |(letter, subject, place): &(char, &str, &str)| {
-        RULES.iter().any(|rule| rule.0 == *subject && rule.1 == *place && rule.2.contains(*letter))
+        RULES
+            .iter()
+            .any(|rule| rule.0 == *subject && rule.1 == *place && rule.2.contains(*letter))
     };
-    assert!(broken.iter().all(allowed), "a rule that the table lacks: {broken:?}");
+    assert!(
+        broken.iter().all(allowed),
+        "a rule that the table lacks: {broken:?}"
+    );
     for letter in LETTERS.bytes() {
         let well = |call: &&Call| call.letter == letter && answer(call).fault.is_none();
-        assert!(calls.iter().any(|call| well(&call)), "{} never goes well", letter as char);
+        assert!(
+            calls.iter().any(|call| well(&call)),
+            "{} never goes well",
+            letter as char
+        );
     }
     report("systematic calls", calls.len());
     report("rules broken, by letter", broken.len());
 }
 
 fn rule_broken(call: &Call) -> Option<(char, &'static str, &'static str)> {
-    answer(call).fault.map(|fault| (call.letter as char, fault.subject, fault.place))
+    answer(call)
+        .fault
+        .map(|fault| (call.letter as char, fault.subject, fault.place))
 }
 
 fn batches(seed: u64) {
     let calls = batch::systematic().len() + 5_000;
     let (input, lines) = batch::make(seed, calls, LETTERS);
     assert_eq!(lines.lines().count(), calls);
-    assert_eq!(batch::make(seed, calls, LETTERS).0, input, "a seed makes one batch");
+    assert_eq!(
+        batch::make(seed, calls, LETTERS).0,
+        input,
+        "a seed makes one batch"
+    );
     let (input, lines) = batch::make(seed, 100, "GV");
-    assert_eq!(lines.lines().filter(|line| line.starts_with(['G', 'V'])).count(), 100);
+    assert_eq!(
+        lines
+            .lines()
+            .filter(|line| line.starts_with(['G', 'V']))
+            .count(),
+        100
+    );
     for bytes in batch::no_calls() {
         let ended = answer_batch(&[&input[..], &bytes].concat());
         assert_eq!(ended, format!("{lines}? {}\n", bytes[0]));
     }
-    assert_eq!(answer_batch(&[b"x", &input[..]].concat()), "? 120\n", "nothing follows");
+    assert_eq!(
+        answer_batch(&[b"x", &input[..]].concat()),
+        "? 120\n",
+        "nothing follows"
+    );
     assert!(batch::make(seed, 9, "?").1.starts_with("? "));
     report("calls in a batch", calls);
 }

@@ -21,7 +21,13 @@ fn row_text(rows: &[Row], index: usize) -> String {
             format!("{}X{} {}", letter(runs), bound_text(bound), part(operand))
         }
         Row::Until(runs, bound, left, right) => {
-            format!("{}[{} U{} {}]", letter(runs), part(left), bound_text(bound), part(right))
+            format!(
+                "{}[{} U{} {}]",
+                letter(runs),
+                part(left),
+                bound_text(bound),
+                part(right)
+            )
         }
     }
 }

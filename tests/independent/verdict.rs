@@ -64,7 +64,11 @@ pub struct Answer {
 
 /// "After a verdict or BUDGET, the graph stands at the front of its room, the rest untouched, and its
 /// length is the returned length."
-pub fn decide(question: &Question, graph_room: &mut [u8], value_room: &mut [u64]) -> Result<Answer, Fault> {
+pub fn decide(
+    question: &Question,
+    graph_room: &mut [u8],
+    value_room: &mut [u64],
+) -> Result<Answer, Fault> {
     let model = bytes::model(question.model)?;
     let rows = bytes::formula(model.propositions, question.formula)?;
     let state = question.state as usize;
@@ -72,7 +76,11 @@ pub fn decide(question: &Question, graph_room: &mut [u8], value_room: &mut [u64]
     let graph = build::graph(&model, &rows);
     build::within_limits(&graph)?;
     let written = message::graph(&graph).bytes;
-    CALL.demand(written.len() <= graph_room.len(), Number::Room, "graph room")?;
+    CALL.demand(
+        written.len() <= graph_room.len(),
+        Number::Room,
+        "graph room",
+    )?;
     has_room(graph.nodes, value_room)?;
     graph_room[..written.len()].copy_from_slice(&written);
     let report = run_in(&graph, question.budget, value_room);
@@ -80,7 +88,11 @@ pub fn decide(question: &Question, graph_room: &mut [u8], value_room: &mut [u64]
         check_by_runs(&model, &rows, &report);
         is_yes(&model, &rows, state, &report)
     });
-    Ok(Answer { report, yes, length: written.len() })
+    Ok(Answer {
+        report,
+        yes,
+        length: written.len(),
+    })
 }
 
 /// "The verdict is yes when the root row's node of the state has value 0."
@@ -99,12 +111,18 @@ pub fn check_by_runs(model: &Model, rows: &[Row], report: &Report) {
         for row in 0..rows.len() {
             let by_runs = meaning.holds[row][state].then_some(0);
             let by_graph = report.at[layout.node(state, row)];
-            assert_eq!(by_graph, by_runs, "state {state}, row {row}\n{model:?}\n{rows:?}");
+            assert_eq!(
+                by_graph, by_runs,
+                "state {state}, row {row}\n{model:?}\n{rows:?}"
+            );
         }
         for (until, row) in build::until_rows(rows).iter().enumerate() {
             let by_runs = meaning.weights[*row][state];
             let by_graph = report.at[layout.helper(state, until)];
-            assert_eq!(by_graph, by_runs, "state {state}, helper {until}\n{model:?}\n{rows:?}");
+            assert_eq!(
+                by_graph, by_runs,
+                "state {state}, helper {until}\n{model:?}\n{rows:?}"
+            );
         }
     }
 }

@@ -10,7 +10,14 @@ use crate::random::Random;
 use crate::text;
 
 pub fn calls() -> Vec<Call> {
-    let parts = [refusals(), propositions_handed_in(), propositions_named(), uses(), texts(), large()];
+    let parts = [
+        refusals(),
+        propositions_handed_in(),
+        propositions_named(),
+        uses(),
+        texts(),
+        large(),
+    ];
     parts.into_iter().flatten().collect()
 }
 
@@ -69,9 +76,17 @@ fn refusals() -> Vec<Call> {
         changes(),
     ];
     let checked: Vec<Vec<u8>> = parts.into_iter().flatten().collect();
-    let mut calls: Vec<Call> = checked.iter().map(|message| Call::formula(2, message)).collect();
+    let mut calls: Vec<Call> = checked
+        .iter()
+        .map(|message| Call::formula(2, message))
+        .collect();
     calls.extend(changes().iter().map(|message| text_of(2, message)));
-    calls.extend(sweep::lengths(&base).iter().step_by(5).map(|message| text_of(2, message)));
+    calls.extend(
+        sweep::lengths(&base)
+            .iter()
+            .step_by(5)
+            .map(|message| text_of(2, message)),
+    );
     let accepted = of_all.iter().filter(|message| judged(message).is_none());
     calls.extend(accepted.map(|message| text_of(2, message)));
     calls
@@ -80,9 +95,32 @@ fn refusals() -> Vec<Call> {
 /// "that p's LIMIT comes before any byte": p beside a formula, a damaged one and none.
 fn propositions_handed_in() -> Vec<Call> {
     let good = message::formula(&vec![Row::Has(0)]);
-    let messages = [good.bytes.clone(), good.with(good.fields[1], 2), good.with(good.fields[3], 0), vec![]];
+    let messages = [
+        good.bytes.clone(),
+        good.with(good.fields[1], 2),
+        good.with(good.fields[3], 0),
+        vec![],
+    ];
     let mut calls = vec![];
-    for p in [0, 1, 2, 31, 32, 33, 34, 64, 255, 256, 257, 288, 65_536, 65_568, 1 << 31, u32::MAX - 1, u32::MAX] {
+    for p in [
+        0,
+        1,
+        2,
+        31,
+        32,
+        33,
+        34,
+        64,
+        255,
+        256,
+        257,
+        288,
+        65_536,
+        65_568,
+        1 << 31,
+        u32::MAX - 1,
+        u32::MAX,
+    ] {
         for message in &messages {
             calls.push(Call::formula(p, message));
             calls.push(Call::text(p, 5, message));
@@ -95,7 +133,9 @@ fn propositions_handed_in() -> Vec<Call> {
 fn propositions_named() -> Vec<Call> {
     let mut calls = vec![];
     for p in 0..=32 {
-        for (proposition, row) in [p.max(1) - 1, p, p + 1].map(|name| (name, Row::Has(name as usize))) {
+        for (proposition, row) in
+            [p.max(1) - 1, p, p + 1].map(|name| (name, Row::Has(name as usize)))
+        {
             calls.push(Call::formula(p, &message::formula(&vec![row]).bytes));
             let negated = message::formula(&vec![Row::HasNot(proposition as usize)]).bytes;
             calls.push(text_of(p, &negated));
@@ -111,17 +151,30 @@ fn uses() -> Vec<Call> {
     let mut formulas: Vec<Formula> = vec![];
     for choice in 0..5 * 5 * 5 * 5 {
         let [a, b, c, d] = [choice % 5, choice / 5 % 5, choice / 25 % 5, choice / 125];
-        let rows = vec![Row::True, Row::False, Row::True, Row::And(a, b), Row::Until(Runs::All, None, c, d)];
+        let rows = vec![
+            Row::True,
+            Row::False,
+            Row::True,
+            Row::And(a, b),
+            Row::Until(Runs::All, None, c, d),
+        ];
         if choice % 7 == 0 || bytes::formula(0, &message::formula(&rows).bytes).is_ok() {
             formulas.push(rows);
         }
     }
     formulas.push(vec![Row::True, Row::True]);
-    formulas.push(vec![Row::True, Row::Next(Runs::Some, None, 0), Row::Next(Runs::Some, None, 0)]);
+    formulas.push(vec![
+        Row::True,
+        Row::Next(Runs::Some, None, 0),
+        Row::Next(Runs::Some, None, 0),
+    ]);
     formulas.push(vec![Row::True, Row::Next(Runs::Some, None, 1)]);
     formulas.push(vec![Row::Next(Runs::Some, None, 0)]);
     formulas.push(vec![Row::And(0, 0)]);
-    formulas.iter().map(|rows| Call::formula(0, &message::formula(rows).bytes)).collect()
+    formulas
+        .iter()
+        .map(|rows| Call::formula(0, &message::formula(rows).bytes))
+        .collect()
 }
 
 /// A formula's text with rooms around its length.
@@ -129,13 +182,22 @@ fn around(p: u32, rows: &Formula) -> Vec<Call> {
     let message = message::formula(rows).bytes;
     let length = text::text(rows).len();
     let rooms = [0, length - 1, length, length + 1, length + 300];
-    rooms.iter().map(|room| Call::text(p, *room, &message)).collect()
+    rooms
+        .iter()
+        .map(|room| Call::text(p, *room, &message))
+        .collect()
 }
 
 /// Every operator with every kind of bound; numbers of every number of digits; deep formulas.
 fn texts() -> Vec<Call> {
-    let mut calls: Vec<Call> = known::questions().iter().flat_map(|known| around(2, &known.rows)).collect();
-    calls.extend(around(2, &bytes::formula(2, &every_operator().bytes).unwrap()));
+    let mut calls: Vec<Call> = known::questions()
+        .iter()
+        .flat_map(|known| around(2, &known.rows))
+        .collect();
+    calls.extend(around(
+        2,
+        &bytes::formula(2, &every_operator().bytes).unwrap(),
+    ));
     for proposition in [0, 1, 9, 10, 11, 29, 30, 31] {
         calls.extend(around(32, &vec![Row::Has(proposition)]));
         calls.extend(around(32, &vec![Row::HasNot(proposition)]));
@@ -159,7 +221,14 @@ fn bounds() -> Vec<Bound> {
     let mut bounds: Vec<Bound> = EXTREMES.map(bound_of).to_vec();
     for digits in 1..10 {
         let first_longer = 10u32.pow(digits);
-        bounds.extend([first_longer - 1, first_longer, first_longer + first_longer / 10].map(Some));
+        bounds.extend(
+            [
+                first_longer - 1,
+                first_longer,
+                first_longer + first_longer / 10,
+            ]
+            .map(Some),
+        );
     }
     bounds.push(Some(4_000_000_000));
     bounds
@@ -178,7 +247,11 @@ pub fn nested(runs: Runs, bound: Bound, untils: usize, on_the_right: bool) -> Fo
     for _ in 0..untils {
         let below = formula.len() - 1;
         formula.push(Row::True);
-        let (left, right) = if on_the_right { (below + 1, below) } else { (below, below + 1) };
+        let (left, right) = if on_the_right {
+            (below + 1, below)
+        } else {
+            (below, below + 1)
+        };
         formula.push(Row::Until(runs, bound, left, right));
     }
     formula
@@ -188,7 +261,11 @@ pub fn nested(runs: Runs, bound: Bound, untils: usize, on_the_right: bool) -> Fo
 fn large() -> Vec<Call> {
     let most = Some(u32::MAX - 1);
     let mut calls = vec![];
-    for rows in [tower(Runs::Some, most, 63), tower(Runs::All, None, 64), nested(Runs::All, most, 31, true)] {
+    for rows in [
+        tower(Runs::Some, most, 63),
+        tower(Runs::All, None, 64),
+        nested(Runs::All, most, 31, true),
+    ] {
         calls.push(Call::formula(0, &message::formula(&rows).bytes));
         calls.extend(around(0, &rows));
     }
@@ -199,7 +276,11 @@ fn large() -> Vec<Call> {
     for rows in [40, 62, 63, 64, 64, 64] {
         calls.extend(around(32, &generate::formula(&mut random, 32, rows)));
     }
-    calls.push(Call::text(0, 65_536, &message::formula(&vec![Row::True]).bytes));
+    calls.push(Call::text(
+        0,
+        65_536,
+        &message::formula(&vec![Row::True]).bytes,
+    ));
     calls.push(Call::formula(0, &message_of_zeros(65_536)));
     calls
 }

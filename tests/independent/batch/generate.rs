@@ -1,6 +1,8 @@
 //! Random graphs, models and formulas that are well formed.
 
-use crate::bytes::{bound_of, Bound, Cover, Formula, Graph, Hyperedge, Model, Row, Runs, Target, Transition};
+use crate::bytes::{
+    bound_of, Bound, Cover, Formula, Graph, Hyperedge, Model, Row, Runs, Target, Transition,
+};
 use crate::random::Random;
 
 /// Weights and bounds at the ends and in the middle of 4 bytes.
@@ -45,13 +47,23 @@ pub fn graph(random: &mut Random, most: usize) -> Graph {
 
 fn hyperedge(random: &mut Random, nodes: usize) -> Hyperedge {
     let count = random.pick(&[0, 1, 1, 1, 1, 2, 2, 2, 3, 5]);
-    let mut target = || Target { weight: weight(random), node: random.below(nodes) };
+    let mut target = || Target {
+        weight: weight(random),
+        node: random.below(nodes),
+    };
     let targets = (0..count).map(|_| target()).collect();
-    Hyperedge { source: random.below(nodes), targets }
+    Hyperedge {
+        source: random.below(nodes),
+        targets,
+    }
 }
 
 fn cover(random: &mut Random, nodes: usize) -> Cover {
-    Cover { source: random.below(nodes), bound: bound(random), target: random.below(nodes) }
+    Cover {
+        source: random.below(nodes),
+        bound: bound(random),
+        target: random.below(nodes),
+    }
 }
 
 /// A model of at most so many states. Half of the models go forward to a last state, so that A
@@ -65,11 +77,23 @@ pub fn model(random: &mut Random, most: usize) -> Model {
     let mut transitions = vec![];
     for from in 0..states {
         for _ in 0..random.pick(&[1, 1, 1, 2, 2, 3]) {
-            let to = if forward { random.between((from + 1).min(states - 1), states - 1) } else { random.below(states) };
-            transitions.push(Transition { from, weight: weight(random), to });
+            let to = if forward {
+                random.between((from + 1).min(states - 1), states - 1)
+            } else {
+                random.below(states)
+            };
+            transitions.push(Transition {
+                from,
+                weight: weight(random),
+                to,
+            });
         }
     }
-    Model { propositions, labels, transitions }
+    Model {
+        propositions,
+        labels,
+        transitions,
+    }
 }
 
 /// A formula of exactly so many rows over so many propositions. Its rows stand in some order in
@@ -121,7 +145,11 @@ fn shuffle(random: &mut Random, tree: &[Row]) -> Formula {
     let mut placed: Vec<Option<usize>> = vec![None; tree.len()];
     let mut rows = vec![];
     while rows.len() < tree.len() {
-        let is_ready = |row: &Row| row.operands().iter().all(|operand| placed[*operand].is_some());
+        let is_ready = |row: &Row| {
+            row.operands()
+                .iter()
+                .all(|operand| placed[*operand].is_some())
+        };
         let free = |index: &usize| placed[*index].is_none() && is_ready(&tree[*index]);
         let ready: Vec<usize> = (0..tree.len()).filter(free).collect();
         let index = random.pick(&ready);

@@ -9,7 +9,14 @@ use crate::message::{self, Message};
 use crate::rounds;
 
 pub fn calls() -> Vec<Call> {
-    let parts = [known_graphs(), special_graphs(), extremes(), refusals(), room_before_budget(), large()];
+    let parts = [
+        known_graphs(),
+        special_graphs(),
+        extremes(),
+        refusals(),
+        room_before_budget(),
+        large(),
+    ];
     parts.into_iter().flatten().collect()
 }
 
@@ -33,7 +40,11 @@ fn around(graph: &Graph) -> Vec<Call> {
     budgets.sort_unstable();
     budgets.dedup();
     let mut calls = vec![Call::graph(&message)];
-    calls.extend(budgets.iter().map(|budget| Call::rounds(*budget, room, &message)));
+    calls.extend(
+        budgets
+            .iter()
+            .map(|budget| Call::rounds(*budget, room, &message)),
+    );
     for other in [0, 1, room - 1, room + 1, room + 9] {
         calls.push(Call::rounds(count, other, &message));
     }
@@ -41,7 +52,10 @@ fn around(graph: &Graph) -> Vec<Call> {
 }
 
 fn known_graphs() -> Vec<Call> {
-    known::graphs().iter().flat_map(|known| around(&known.graph)).collect()
+    known::graphs()
+        .iter()
+        .flat_map(|known| around(&known.graph))
+        .collect()
 }
 
 /// Graphs in which one rule of the rounds matters.
@@ -54,21 +68,54 @@ fn special_graphs() -> Vec<Call> {
         graph(2, &[(0, &[(5, 1)]), (1, &[])], &[(0, Some(5), 0)]),
         // cover edges in a cycle
         graph(2, &[], &[(0, None, 1), (1, None, 0)]),
-        graph(3, &[(1, &[(2, 2)]), (2, &[])], &[(0, Some(2), 1), (1, Some(0), 0)]),
+        graph(
+            3,
+            &[(1, &[(2, 2)]), (2, &[])],
+            &[(0, Some(2), 1), (1, Some(0), 0)],
+        ),
         // a cover edge beside hyperedges: it holds, it doesn't, it holds later
         graph(2, &[(0, &[(9, 1)]), (1, &[])], &[(0, Some(0), 1)]),
-        graph(3, &[(0, &[(9, 2)]), (1, &[(3, 2)]), (2, &[])], &[(0, Some(2), 1)]),
-        graph(3, &[(0, &[(9, 2)]), (1, &[(3, 2)]), (2, &[])], &[(0, Some(3), 1)]),
+        graph(
+            3,
+            &[(0, &[(9, 2)]), (1, &[(3, 2)]), (2, &[])],
+            &[(0, Some(2), 1)],
+        ),
+        graph(
+            3,
+            &[(0, &[(9, 2)]), (1, &[(3, 2)]), (2, &[])],
+            &[(0, Some(3), 1)],
+        ),
         // several cover edges of one node, the last of which holds; repeated records
-        graph(3, &[(1, &[(4, 2)]), (2, &[])], &[(0, Some(3), 1), (0, None, 0), (0, Some(4), 1)]),
-        graph(2, &[(0, &[(1, 1), (1, 1)]), (0, &[(1, 1), (1, 1)]), (1, &[]), (1, &[])], &[]),
+        graph(
+            3,
+            &[(1, &[(4, 2)]), (2, &[])],
+            &[(0, Some(3), 1), (0, None, 0), (0, Some(4), 1)],
+        ),
+        graph(
+            2,
+            &[
+                (0, &[(1, 1), (1, 1)]),
+                (0, &[(1, 1), (1, 1)]),
+                (1, &[]),
+                (1, &[]),
+            ],
+            &[],
+        ),
         // one target infinite, first or last; all of the hyperedges infinite but one
         graph(3, &[(0, &[(1, 1), (1, 2)]), (2, &[])], &[]),
         graph(3, &[(0, &[(1, 2), (1, 1)]), (2, &[])], &[]),
-        graph(3, &[(0, &[(1, 1)]), (0, &[(8, 2)]), (0, &[(1, 0)]), (2, &[])], &[]),
+        graph(
+            3,
+            &[(0, &[(1, 1)]), (0, &[(8, 2)]), (0, &[(1, 0)]), (2, &[])],
+            &[],
+        ),
         // zero cycles with and without a way out
         graph(2, &[(0, &[(0, 1)]), (1, &[(0, 0)])], &[]),
-        graph(3, &[(0, &[(0, 1)]), (1, &[(0, 0)]), (1, &[(6, 2)]), (2, &[])], &[]),
+        graph(
+            3,
+            &[(0, &[(0, 1)]), (1, &[(0, 0)]), (1, &[(6, 2)]), (2, &[])],
+            &[],
+        ),
         // a hyperedge without targets beside a dearer one
         graph(2, &[(0, &[(7, 1)]), (0, &[]), (1, &[])], &[]),
     ];
@@ -80,28 +127,52 @@ fn special_graphs() -> Vec<Call> {
 /// Nodes in a row, the last of value 0: a count of as many rounds as nodes.
 fn chain(nodes: usize, weight: u32) -> Graph {
     let edge = |source: usize| {
-        let next = Target { weight, node: source + 1 };
-        Hyperedge { source, targets: if source + 1 < nodes { vec![next] } else { vec![] } }
+        let next = Target {
+            weight,
+            node: source + 1,
+        };
+        Hyperedge {
+            source,
+            targets: if source + 1 < nodes {
+                vec![next]
+            } else {
+                vec![]
+            },
+        }
     };
-    Graph { nodes, hyperedges: (0..nodes).map(edge).collect(), covers: vec![] }
+    Graph {
+        nodes,
+        hyperedges: (0..nodes).map(edge).collect(),
+        covers: vec![],
+    }
 }
 
 /// A chain whose end gets cheaper in stages: each cover edge waits until the whole chain has
 /// settled, and then starts it anew. The count is about stages times length.
-fn staged(stages: usize, length: usize) -> Graph {
+pub fn staged(stages: usize, length: usize) -> Graph {
     let price = |stage: usize| 100 * (stages - stage) as u32;
     let switch = |stage: usize| length + stage;
     let mut graph = chain(length, 1);
     graph.nodes = length + stages;
     let end = |stage: usize| Hyperedge {
         source: length - 1,
-        targets: vec![Target { weight: price(stage), node: switch(stage) }],
+        targets: vec![Target {
+            weight: price(stage),
+            node: switch(stage),
+        }],
     };
     graph.hyperedges.pop();
     graph.hyperedges.extend((0..stages).map(end));
-    graph.hyperedges.push(Hyperedge { source: switch(0), targets: vec![] });
+    graph.hyperedges.push(Hyperedge {
+        source: switch(0),
+        targets: vec![],
+    });
     let settled = |stage: usize| Some(length as u32 - 1 + price(stage - 1));
-    let cover = |stage: usize| Cover { source: switch(stage), bound: settled(stage), target: 0 };
+    let cover = |stage: usize| Cover {
+        source: switch(stage),
+        bound: settled(stage),
+        target: 0,
+    };
     graph.covers = (1..stages).map(cover).collect();
     graph
 }
@@ -176,11 +247,20 @@ fn large() -> Vec<Call> {
         let small = graph(nodes, &[(0, &[(6, last)]), (last, &[])], &[(1, Some(6), 0)]);
         let message = message::graph(&small).bytes;
         calls.push(Call::graph(&message));
-        for room in [MOST_VALUES, MOST_VALUES - 1, MOST_VALUES - 2, MOST_VALUES - 3] {
+        for room in [
+            MOST_VALUES,
+            MOST_VALUES - 1,
+            MOST_VALUES - 2,
+            MOST_VALUES - 3,
+        ] {
             calls.push(Call::rounds(9, room, &message));
         }
     }
-    calls.push(Call::rounds(5, MOST_VALUES, &message::graph(&chain(4_096, u32::MAX)).bytes));
+    calls.push(Call::rounds(
+        5,
+        MOST_VALUES,
+        &message::graph(&chain(4_096, u32::MAX)).bytes,
+    ));
     calls.push(rounds_on(&message::graph(&chain(300, u32::MAX)).bytes));
     calls.push(rounds_on(&message::graph(&covered(4_096)).bytes));
     calls.push(Call::graph(&message::graph(&covered(4_097)).bytes));
@@ -196,7 +276,11 @@ fn covered(count: usize) -> Graph {
     let nodes = 100;
     let cover = |index: usize| {
         let source = index * nodes / count;
-        Cover { source, bound: Some(index as u32 % 3), target: (source + 1 + index % 7) % nodes }
+        Cover {
+            source,
+            bound: Some(index as u32 % 3),
+            target: (source + 1 + index % 7) % nodes,
+        }
     };
     let mut graph = chain(nodes, 1);
     graph.covers = (0..count).map(cover).collect();
@@ -205,15 +289,35 @@ fn covered(count: usize) -> Graph {
 
 /// One hyperedge with so many targets.
 fn wide(count: usize) -> Graph {
-    let targets = (0..count).map(|weight| Target { weight: weight as u32, node: 0 }).collect();
-    Graph { nodes: 1, hyperedges: vec![Hyperedge { source: 0, targets }], covers: vec![] }
+    let targets = (0..count)
+        .map(|weight| Target {
+            weight: weight as u32,
+            node: 0,
+        })
+        .collect();
+    Graph {
+        nodes: 1,
+        hyperedges: vec![Hyperedge { source: 0, targets }],
+        covers: vec![],
+    }
 }
 
 /// A graph of exactly 65,536 bytes: 16,379 hyperedges, the last with one target.
 fn full() -> Graph {
-    let mut hyperedges: Vec<Hyperedge> =
-        (0..16_379).map(|index| Hyperedge { source: index / 1_100, targets: vec![] }).collect();
-    hyperedges.push(Hyperedge { source: 15, targets: vec![Target { weight: 3, node: 0 }] });
+    let mut hyperedges: Vec<Hyperedge> = (0..16_379)
+        .map(|index| Hyperedge {
+            source: index / 1_100,
+            targets: vec![],
+        })
+        .collect();
+    hyperedges.push(Hyperedge {
+        source: 15,
+        targets: vec![Target { weight: 3, node: 0 }],
+    });
     hyperedges.remove(0);
-    Graph { nodes: 16, hyperedges, covers: vec![] }
+    Graph {
+        nodes: 16,
+        hyperedges,
+        covers: vec![],
+    }
 }

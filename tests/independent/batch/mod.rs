@@ -15,11 +15,19 @@ use std::collections::BTreeSet;
 
 /// The calls that don't depend on a seed, each once.
 pub fn systematic() -> Vec<Call> {
-    let parts = [graphs::calls(), models::calls(), formulas::calls(), verdicts::calls()];
+    let parts = [
+        graphs::calls(),
+        models::calls(),
+        formulas::calls(),
+        verdicts::calls(),
+    ];
     let mut calls: Vec<Call> = parts.into_iter().flatten().collect();
     let mut seen = BTreeSet::new();
     calls.retain(|call| seen.insert(call.clone()));
-    assert!(calls.iter().all(Call::within_limits), "a call past the limits of trials");
+    assert!(
+        calls.iter().all(Call::within_limits),
+        "a call past the limits of trials"
+    );
     calls
 }
 

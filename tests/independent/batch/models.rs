@@ -9,7 +9,10 @@ use crate::message::{self, Message};
 pub fn calls() -> Vec<Call> {
     let parts = [refusals(), labels(), dead_states(), large()];
     let messages: Vec<Vec<u8>> = parts.into_iter().flatten().collect();
-    messages.iter().map(|message| Call::model(message)).collect()
+    messages
+        .iter()
+        .map(|message| Call::model(message))
+        .collect()
 }
 
 /// A model with a state of several transitions and two propositions.
@@ -41,7 +44,10 @@ fn refusals() -> Vec<Vec<u8>> {
 fn labels() -> Vec<Vec<u8>> {
     let mut messages = vec![];
     for p in 0..=32 {
-        for bit in [p as i32 - 1, p as i32, 31].into_iter().filter(|bit| (0..32).contains(bit)) {
+        for bit in [p as i32 - 1, p as i32, 31]
+            .into_iter()
+            .filter(|bit| (0..32).contains(bit))
+        {
             messages.push(message::model(&model(p, &[1 << bit], &[(0, 0, 0)])).bytes);
         }
     }
@@ -55,12 +61,19 @@ fn labels() -> Vec<Vec<u8>> {
 fn dead_states() -> Vec<Vec<u8>> {
     let ring = |states: usize, dead: &dyn Fn(usize) -> bool| {
         let alive = (0..states).filter(|state| !dead(*state));
-        let steps: Vec<(usize, u32, usize)> = alive.map(|state| (state, 1, (state + 1) % states)).collect();
+        let steps: Vec<(usize, u32, usize)> = alive
+            .map(|state| (state, 1, (state + 1) % states))
+            .collect();
         message::model(&model(0, &vec![0; states], &steps)).bytes
     };
     let mut messages: Vec<Vec<u8>> = (0..5).map(|dead| ring(5, &|state| state == dead)).collect();
     messages.extend((0..5).map(|alive| ring(5, &|state| state != alive)));
-    messages.extend([ring(1, &|_| false), ring(1, &|_| true), ring(5, &|_| true), ring(5, &|_| false)]);
+    messages.extend([
+        ring(1, &|_| false),
+        ring(1, &|_| true),
+        ring(5, &|_| true),
+        ring(5, &|_| false),
+    ]);
     messages
 }
 
@@ -78,7 +91,11 @@ pub fn full(states: usize, transitions: usize) -> Model {
 fn large() -> Vec<Vec<u8>> {
     let written = |model: Model| message::model(&model).bytes;
     let mut last_dead = full(256, 255);
-    last_dead.transitions.iter_mut().enumerate().for_each(|(index, step)| step.from = index);
+    last_dead
+        .transitions
+        .iter_mut()
+        .enumerate()
+        .for_each(|(index, step)| step.from = index);
     vec![
         written(full(255, 255)),
         written(full(256, 256)),

@@ -13,7 +13,10 @@ pub type Judged<'a> = &'a dyn Fn(&[u8]) -> Option<Fault>;
 fn candidates(current: u32, width: usize) -> Vec<u32> {
     let near = [32, 64, 128, 256, 4_096, 32_768, 65_536];
     let mut numbers: Vec<u32> = (0..=12).collect();
-    numbers.extend(near.iter().flat_map(|limit| [limit - 2, limit - 1, *limit, limit + 1, limit + 2]));
+    numbers.extend(
+        near.iter()
+            .flat_map(|limit| [limit - 2, limit - 1, *limit, limit + 1, limit + 2]),
+    );
     numbers.extend([(1 << 31) - 1, 1 << 31, u32::MAX - 1, u32::MAX]);
     numbers.extend([current.wrapping_sub(1), current, current.wrapping_add(1)]);
     numbers.retain(|number| u64::from(*number) >> (8 * width) == 0);
@@ -28,9 +31,13 @@ fn borders(message: &Message, field: Field, judged: Judged) -> Vec<(u32, Option<
     let numbers = candidates(message.value(field), field.width);
     let outcome = |number: &u32| (*number, judged(&message.with(field, *number)));
     let all: Vec<(u32, Option<Fault>)> = numbers.iter().map(outcome).collect();
-    let differs = |index: usize, other: usize| all.get(other).is_none_or(|next| next.1 != all[index].1);
+    let differs =
+        |index: usize, other: usize| all.get(other).is_none_or(|next| next.1 != all[index].1);
     let kept = |index: &usize| differs(*index, index.wrapping_sub(1)) || differs(*index, index + 1);
-    (0..all.len()).filter(kept).map(|index| all[index]).collect()
+    (0..all.len())
+        .filter(kept)
+        .map(|index| all[index])
+        .collect()
 }
 
 /// Each field with each of its border numbers.
@@ -78,8 +85,14 @@ pub fn pairs(message: &Message, judged: Judged) -> Vec<Vec<u8>> {
 /// bytes behind it.
 pub fn lengths(message: &Message) -> Vec<Vec<u8>> {
     let whole = message.bytes.len();
-    let mut changed: Vec<Vec<u8>> = (0..whole).map(|length| damage::cut(message, length, true)).collect();
-    changed.extend((0..whole).step_by(4).map(|length| damage::cut(message, length, false)));
+    let mut changed: Vec<Vec<u8>> = (0..whole)
+        .map(|length| damage::cut(message, length, true))
+        .collect();
+    changed.extend(
+        (0..whole)
+            .step_by(4)
+            .map(|length| damage::cut(message, length, false)),
+    );
     for more in [1, 2, 4, 8] {
         changed.push(damage::extend(message, &vec![0; more], true));
         changed.push(damage::extend(message, &vec![0; more], false));

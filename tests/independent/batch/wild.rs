@@ -14,13 +14,15 @@ use crate::verdict::Question;
 /// A call with one of the letters, and none where no letter is known.
 pub fn call(random: &mut Random, letters: &str) -> Option<Call> {
     let weighted = "GGMMFFTTTRRRRRVVVVVVV".bytes();
-    let usable: Vec<u8> = weighted.filter(|letter| letters.contains(*letter as char)).collect();
+    let usable: Vec<u8> = weighted
+        .filter(|letter| letters.contains(*letter as char))
+        .collect();
     if usable.is_empty() {
         return None;
     }
     Some(match random.pick(&usable) {
-        b'G' => Call::graph(&checked(random, graph)),
-        b'M' => Call::model(&checked(random, model)),
+        b'G' => graph_call(random),
+        b'M' => model_call(random),
         b'F' => formula_call(random),
         b'T' => text_call(random),
         b'R' => rounds_call(random),
@@ -28,38 +30,36 @@ pub fn call(random: &mut Random, letters: &str) -> Option<Call> {
     })
 }
 
-/// A size up to the first number; once in many up to the second.
-fn size(random: &mut Random, usual: usize, large: usize) -> usize {
-    if random.once_in(150) {
-        random.between(usual, large)
-    } else {
-        usual
-    }
+/// Once in many calls a message is large.
+fn large(random: &mut Random) -> bool {
+    random.once_in(150)
 }
 
+/// A graph; now and then one that takes many rounds.
 fn graph(random: &mut Random) -> Message {
-    let most = size(random, 8, 900);
+    if random.once_in(60) {
+        let (stages, length) = (random.between(1, 7), random.between(1, 9));
+        return message::graph(&graphs::staged(stages, length));
+    }
+    let most = if large(random) { 900 } else { 8 };
     message::graph(&generate::graph(random, most))
 }
 
-fn model(random: &mut Random) -> Message {
-    let most = size(random, 7, 256);
-    message::model(&generate::model(random, most))
+fn model(random: &mut Random, large: bool) -> Message {
+    message::model(&generate::model(random, if large { 256 } else { 7 }))
 }
 
-fn formula(random: &mut Random, p: u32) -> Message {
-    let most = size(random, 11, 64);
-    let rows = random.between(1, most);
+fn formula(random: &mut Random, p: u32, large: bool) -> Message {
+    let rows = random.between(1, if large { 64 } else { 11 });
     message::formula(&generate::formula(random, p, rows))
 }
 
 /// A message for a check alone, damaged twice out of three times.
-fn checked(random: &mut Random, make: impl Fn(&mut Random) -> Message) -> Vec<u8> {
-    let message = make(random);
+fn checked(random: &mut Random, message: &Message) -> Vec<u8> {
     if random.once_in(3) {
-        message.bytes
+        message.bytes.clone()
     } else {
-        damaged(random, &message)
+        damaged(random, message)
     }
 }
 
@@ -75,9 +75,15 @@ fn maybe_damaged(random: &mut Random, message: &Message, times: usize) -> Vec<u8
 /// A change of the records, of a field or of the length; sometimes bytes changed on top.
 fn damaged(random: &mut Random, message: &Message) -> Vec<u8> {
     let mut bytes = match random.below(8) {
-        0 => damage::cut(message, random.below(message.bytes.len()), random.once_in(2)),
+        0 => damage::cut(
+            message,
+            random.below(message.bytes.len()),
+            random.once_in(2),
+        ),
         1 => {
-            let more: Vec<u8> = (0..random.between(1, 12)).map(|_| random.below(3) as u8).collect();
+            let more: Vec<u8> = (0..random.between(1, 12))
+                .map(|_| random.below(3) as u8)
+                .collect();
             damage::extend(message, &more, random.once_in(2))
         }
         2..=3 => in_records(random, message),
@@ -86,7 +92,14 @@ fn damaged(random: &mut Random, message: &Message) -> Vec<u8> {
     };
     if random.once_in(3) && !bytes.is_empty() {
         let at = random.below(bytes.len());
-        bytes[at] = random.pick(&[0, 1, 255, bytes[at] ^ 1, bytes[at] ^ 128, bytes[at].wrapping_add(1)]);
+        bytes[at] = random.pick(&[
+            0,
+            1,
+            255,
+            bytes[at] ^ 1,
+            bytes[at] ^ 128,
+            bytes[at].wrapping_add(1),
+        ]);
     }
     if random.once_in(8) {
         message::mend_length(&mut bytes);
@@ -115,9 +128,23 @@ fn in_fields(random: &mut Random, message: &Message) -> Vec<u8> {
     let mut bytes = message.bytes.clone();
     for _ in 0..random.between(1, 2) {
         let field = random.pick(&message.fields);
-        let near = message.value(field).wrapping_add(random.below(7) as u32).wrapping_sub(3);
+        let near = message
+            .value(field)
+            .wrapping_add(random.below(7) as u32)
+            .wrapping_sub(3);
         let small = random.below(12) as u32;
-        let number = random.pick(&[near, near, small, small, 33, 65, 257, 4_097, EXTREMES[2], EXTREMES[4]]);
+        let number = random.pick(&[
+            near,
+            near,
+            small,
+            small,
+            33,
+            65,
+            257,
+            4_097,
+            EXTREMES[2],
+            EXTREMES[4],
+        ]);
         set(&mut bytes, field, number);
     }
     bytes
@@ -130,17 +157,34 @@ fn propositions(random: &mut Random) -> (u32, u32) {
     (p, if random.once_in(8) { other } else { p })
 }
 
-fn formula_call(random: &mut Random) -> Call {
+fn graph_call(random: &mut Random) -> Call {
+    let message = graph(random);
+    Call::graph(&checked(random, &message))
+}
+
+fn model_call(random: &mut Random) -> Call {
+    let large = large(random);
+    let message = model(random, large);
+    Call::model(&checked(random, &message))
+}
+
+/// A formula, and the p handed in beside it.
+fn formula_with_p(random: &mut Random) -> (Message, u32) {
     let (p, handed_in) = propositions(random);
-    Call::formula(handed_in, &checked(random, |random| formula(random, p)))
+    let large = large(random);
+    (formula(random, p, large), handed_in)
+}
+
+fn formula_call(random: &mut Random) -> Call {
+    let (message, p) = formula_with_p(random);
+    Call::formula(p, &checked(random, &message))
 }
 
 fn text_call(random: &mut Random) -> Call {
-    let (p, handed_in) = propositions(random);
-    let message = formula(random, p);
+    let (message, p) = formula_with_p(random);
     let message = maybe_damaged(random, &message, 4);
-    let needed = bytes::formula(handed_in, &message).map_or(30, |rows| text::text(&rows).len());
-    Call::text(handed_in, room(random, needed, MOST_BYTES), &message)
+    let needed = bytes::formula(p, &message).map_or(30, |rows| text::text(&rows).len());
+    Call::text(p, room(random, needed, MOST_BYTES), &message)
 }
 
 fn rounds_call(random: &mut Random) -> Call {
@@ -152,12 +196,21 @@ fn rounds_call(random: &mut Random) -> Call {
 }
 
 fn verdict_call(random: &mut Random) -> Call {
-    let model = model(random);
+    let parts = if large(random) {
+        random.between(1, 3)
+    } else {
+        0
+    };
+    let model = model(random, parts & 1 != 0);
     let p = model.value(model.fields[4]);
-    let formula = formula(random, p);
-    let (model, formula) = (maybe_damaged(random, &model, 9), maybe_damaged(random, &formula, 9));
-    let (length, values, count) = verdicts::needs(&model, &formula)
-        .map_or((90, 20, 3), |needs| (needs.length, needs.values, needs.count));
+    let formula = formula(random, p, parts & 2 != 0);
+    let (model, formula) = (
+        maybe_damaged(random, &model, 9),
+        maybe_damaged(random, &formula, 9),
+    );
+    let (length, values, count) = verdicts::needs(&model, &formula).map_or((90, 20, 3), |needs| {
+        (needs.length, needs.values, needs.count)
+    });
     let states = bytes::model(&model).map_or(1, |model| model.states());
     let question = Question {
         model: &model,
