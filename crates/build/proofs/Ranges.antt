@@ -7,12 +7,15 @@ use mathlib.Core.Path.{_≡_, refl, sym, ap, _∙_}
 use native.Mathlib.Omega.{arith}
 use lib.ListN.{length, take, drop}
 use lib.Dec.{eqb}
-use borrow.Author.Tests.{eqb-true, eqb-false, ne-eqb}
+use borrow.Author.Tests.{eqb-true, eqb-false, eq-eqb, ne-eqb}
 use Rattle.lists.specs.Making.{keep}
 use Rattle.lists.specs.Order.{RisingFrom}
 use Rattle.lists.proofs.Tests.{by-test}
+use Rattle.wire.specs.Bytes.{number}
+use Rattle.wire.specs.Layout.{items}
+use Rattle.wire.proofs.Layouts.{items-more}
 use Rattle.model.specs.Model.{Transition}
-use Rattle.build.specs.Held.{leading}
+use Rattle.build.specs.Held.{transitionLayout, transitionsFrom, leading}
 
 -- the transitions of a state
 abbrev pub of : ℕ → List Transition → List Transition
@@ -70,3 +73,25 @@ leading-other a c (u ∷ us) h =
     let more : 1 + leading a us ≡ suc (leading a us) = omega arith in
     rw (e, more, ne-eqb (u .from) c (omega arith)) (leading-other a c us h))
     (λ e. rw e)
+
+-- ---- a loop over the transitions from one on
+
+module _ (m : List ℕ) (n t a i : ℕ) (h : i < t) where
+  here : transitionsFrom m n i (t - i) ≡ transitionLayout m .item (13 + n * 4 + i * 8) ∷ transitionsFrom m n (i + 1) (t - (i + 1))
+  here =
+      let left : t - i - 1 ≡ t - (i + 1) = omega arith in
+      let next : 13 + n * 4 + i * 8 + 8 ≡ 13 + n * 4 + (i + 1) * 8 = omega arith in
+      items-more (transitionLayout m) (t - i) (13 + n * 4 + i * 8) (omega arith) ∙ rw (left, next)
+
+  -- one more that leaves state a, and one that doesn't
+  pub leading-more : number 2 m (13 + n * 4 + i * 8) ≡ a → leading a (transitionsFrom m n i (t - i)) ≡ 1 + leading a (transitionsFrom m n (i + 1) (t - (i + 1)))
+  unfolding leading
+  leading-more e = ap (leading a) here ∙ rw (eq-eqb (number 2 m (13 + n * 4 + i * 8)) a e)
+
+  pub leading-stop : ¬ (number 2 m (13 + n * 4 + i * 8) ≡ a) → leading a (transitionsFrom m n i (t - i)) ≡ 0
+  unfolding leading
+  leading-stop e = ap (leading a) here ∙ rw (ne-eqb (number 2 m (13 + n * 4 + i * 8)) a e)
+
+pub leading-none : (m : List ℕ) (n t a i : ℕ) → t ≤ i → leading a (transitionsFrom m n i (t - i)) ≡ 0
+unfolding leading items
+leading-none m n t a i h = let none : t - i ≡ 0 = omega arith in rw none

@@ -10,8 +10,7 @@ use lib.Dec.{leb}
 use borrow.Author.Tests.{leb-true, leb-false, le-leb, lt-leb}
 use Rattle.lists.specs.Lists.{all}
 use Rattle.lists.specs.Making.{keep, span}
-use Rattle.lists.proofs.Tests.{by-test, clash}
-use Rattle.value.specs.declared.Bound.{Bound}
+use Rattle.lists.proofs.Tests.{by-test}
 use Rattle.wire.specs.Bytes.{bytes}
 use Rattle.wire.specs.Write.{writeAll, message}
 use Rattle.wire.proofs.Bytes.{length-bytes}
@@ -20,12 +19,12 @@ use Rattle.rules.specs.Graph.{Graph, Hyper, Target, Cover}
 use Rattle.graph.specs.WellFormed.{targetsOf}
 use Rattle.graph.specs.Write.{writeTarget, writeHyper, writeCover, writeBody, writeGraph}
 use Rattle.model.specs.Model.{Model}
-use Rattle.formula.specs.declared.Quantifier.{Quantifier}
 use Rattle.formula.specs.declared.Row.{Row}
 use Rattle.formula.specs.declared.Row.the-variants.{True, False, Proposition, Negation, And, Or, Next, Until}
-use Rattle.reduction.specs.Built.{rowEdges, helperEdges, ifUntil, isUntil, untils, rowCovers, layout, hyper, cover, Limit, graphOf}
+use Rattle.reduction.specs.Built.{rowEdges, helperEdges, isUntil, untils, rowCovers, layout, hyper, cover, Limit, graphOf}
 use Rattle.build.specs.declared.Size.{Size}
 use Rattle.build.specs.Size.{noSize, addSize, sizeOf, stateEdges, rowsEdges}
+use Rattle.build.proofs.Untils.{other-row}
 use Rattle.build.proofs.Sizes.{none-add, add-swap, size-append, size-span, size-spans, size-nothing, helper-size}
 
 -- ---- hyperedges by their target lists
@@ -72,17 +71,6 @@ layout-size s f r row rows =
     let here = span (λ a. map (hyper (a + s * r)) (f row r a)) 0 s in
     ap sizeOf (map-append (λ h. h .targets) here (layout hyper s f (suc r) rows) ∙ ap (λ x. x ++ listsOf (layout hyper s f (suc r) rows)) (lists-span (λ a. a + s * r) (f row r) 0 s))
     ∙ size-append (span (f row r) 0 s) (listsOf (layout hyper s f (suc r) rows))
-
--- a row that is no until
-other-row : {X : Type 0} (row : Row) (f : Quantifier → ℕ → ℕ → Bound → X) (x : X) → isUntil row ≡ false → ifUntil row f x ≡ x
-other-row True f x e = refl
-other-row False f x e = refl
-other-row (Proposition i) f x e = refl
-other-row (Negation i) f x e = refl
-other-row (And l r) f x e = refl
-other-row (Or l r) f x e = refl
-other-row (Next q l b) f x e = refl
-other-row (Until q l r b) f x e = clash refl e
 
 module _ (M : Model) where
   -- the helpers of a list of rows; where they stand does not matter
