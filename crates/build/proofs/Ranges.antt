@@ -4,8 +4,10 @@ use Prim.Native.Nat.{ℕ, suc, _+_, _*_, _-_, _<_, _≤_}
 use mathlib.Core.List.{List, [], _∷_, map}
 use mathlib.Core.Bool.{true, false}
 use mathlib.Core.Path.{_≡_, refl, sym, ap, _∙_}
+use native.Mathlib.Numerals.{add-one}
 use native.Mathlib.Omega.{arith}
-use lib.ListN.{length, take, drop}
+use lib.ListN.{length, getD, set, take, drop}
+use lib.Seq.{getD-set-same, getD-set-other}
 use lib.Dec.{eqb}
 use borrow.Author.Tests.{eqb-true, eqb-false, eq-eqb, ne-eqb}
 use Rattle.lists.specs.Making.{keep}
@@ -15,7 +17,8 @@ use Rattle.wire.specs.Bytes.{number}
 use Rattle.wire.specs.Layout.{items}
 use Rattle.wire.proofs.Layouts.{items-more}
 use Rattle.model.specs.Model.{Transition}
-use Rattle.build.specs.Held.{transitionLayout, transitionsFrom, leading}
+use Rattle.build.specs.Held.{transitionLayout, transitionsFrom, leading, Starts, Own}
+use Rattle.build.proofs.Stride.{items-length, items-take, items-drop}
 
 -- the transitions of a state
 abbrev pub of : ℕ → List Transition → List Transition
@@ -95,3 +98,84 @@ module _ (m : List ℕ) (n t a i : ℕ) (h : i < t) where
 pub leading-none : (m : List ℕ) (n t a i : ℕ) → t ≤ i → leading a (transitionsFrom m n i (t - i)) ≡ 0
 unfolding leading items
 leading-none m n t a i h = let none : t - i ≡ 0 = omega arith in rw none
+
+-- ---- a table of where each state's transitions start
+
+-- it stands for the states below a, and the transitions from the first on are those of the others
+pub record Found (m : List ℕ) (n t a first : ℕ) (table : List ℕ) : Type 0 where
+  pub last : getD table a 0 ≡ first
+  pub inside : (c : ℕ) → c ≤ a → getD table c 0 ≤ t
+  pub rising : (c : ℕ) → c < a → getD table c 0 ≤ getD table (suc c) 0
+  pub each : (c : ℕ) → c < a → of c (transitionsFrom m n 0 t) ≡ transitionsFrom m n (getD table c 0) (getD table (suc c) 0 - getD table c 0)
+  pub rest : RiseFrom a (transitionsFrom m n first (t - first))
+  pub others : (c : ℕ) → a ≤ c → of c (transitionsFrom m n 0 t) ≡ of c (transitionsFrom m n first (t - first))
+
+pub found-none : (m : List ℕ) (n t : ℕ) (table : List ℕ) → getD table 0 0 ≡ 0 → RiseFrom 0 (transitionsFrom m n 0 t) → Found m n t 0 0 table
+found-none m n t table e r =
+    let all : t - 0 ≡ t = omega arith in
+    record {
+      last = e;
+      inside = λ c h. let zero : c ≡ 0 = omega arith in rw (zero, e) (omega arith);
+      rising = λ c h. absurd (omega arith);
+      each = λ c h. absurd (omega arith);
+      rest = rw all r;
+      others = λ c h. rw all;
+    }
+
+-- by whether a number is the last
+by-last : {C : Type 0} (c a : ℕ) → c < a + 1 → (c < a → C) → (c ≡ a → C) → C
+by-last c a h f g = by-test (eqb c a) (λ e. g (eqb-true c a e)) (λ e. f (omega (arith, eqb-false)))
+
+module _ {m : List ℕ} {n t a first : ℕ} {table : List ℕ} (f : Found m n t a first table) (next : ℕ) (room : a + 1 < length table)
+    (low : first ≤ t) (is : next ≡ first + leading a (transitionsFrom m n first (t - first))) where
+  abbrev many : ℕ
+  many = leading a (transitionsFrom m n first (t - first))
+
+  few : many ≤ t - first
+  few = omega (arith, leading-le a (transitionsFrom m n first (t - first)), items-length (transitionLayout m) (t - first) (13 + n * 4 + first * 8))
+
+  -- the entries of the table
+  newest : getD (set table (a + 1) next) (a + 1) 0 ≡ next
+  newest = getD-set-same table (a + 1) next 0 room
+
+  older : (c : ℕ) → c < a + 1 → getD (set table (a + 1) next) c 0 ≡ getD table c 0
+  older c h = getD-set-other table (a + 1) c next 0 (omega arith)
+
+  -- the transitions at the front, and those behind
+  front : take many (transitionsFrom m n first (t - first)) ≡ transitionsFrom m n first many
+  front = items-take (transitionLayout m) 8 (λ at. refl) many (t - first) (13 + n * 4 + first * 8) few
+
+  behind : drop many (transitionsFrom m n first (t - first)) ≡ transitionsFrom m n next (t - next)
+  behind =
+      let left : t - first - many ≡ t - next = omega arith in
+      let place : 13 + n * 4 + first * 8 + many * 8 ≡ 13 + n * 4 + next * 8 = omega arith in
+      items-drop (transitionLayout m) 8 (λ at. refl) many (t - first) (13 + n * 4 + first * 8) few ∙ rw (left, place)
+
+  pub found-next : Found m n t (a + 1) next (set table (a + 1) next)
+  found-next = record {
+    last = newest;
+    inside = λ c h. by-last c (a + 1) (omega arith) (λ l. rw (older c l) (f .inside c (omega arith))) (λ e. rw (e, newest) (omega (arith, few)));
+    rising = λ c h. by-last c a h
+        (λ l. rw (older c h, older (suc c) (omega arith)) (f .rising c l))
+        (λ e. let past : suc c ≡ a + 1 = omega arith in rw (older c h, past, newest, e, f .last) (omega arith));
+    each = λ c h. by-last c a h
+        (λ l. rw (older c h, older (suc c) (omega arith)) (f .each c l))
+        (λ e. let past : suc c ≡ a + 1 = omega arith in
+        let width : next - first ≡ many = omega arith in
+        rw (older c h, past, newest, e, f .last, width)
+        (f .others a (omega arith) ∙ leading-are a (transitionsFrom m n first (t - first)) (f .rest) ∙ front));
+    rest = rw behind at (leading-past a (transitionsFrom m n first (t - first)) (f .rest));
+    others = λ c h. f .others c (omega arith) ∙ leading-other a c (transitionsFrom m n first (t - first)) (omega arith) ∙ ap (of c) behind;
+  }
+
+pub found-all : {m : List ℕ} {n t first : ℕ} {table : List ℕ} → Found m n t n first table → Starts m n t table
+found-all f = record { inside = f .inside; rising = f .rising; each = f .each }
+
+-- what the table says of a state
+pub starts-own : {m : List ℕ} {n t : ℕ} {table : List ℕ} → Starts m n t table → (a : ℕ) → a < n
+    → Own m n t a (getD table a 0) (getD table (a + 1) 0 - getD table a 0)
+starts-own {m} {n} {t} {table} s a h = record {
+  state = h;
+  inside = rw add-one (omega (arith, s .inside (suc a) h, s .inside a (omega arith)));
+  are = rw add-one (s .each a h);
+}

@@ -93,6 +93,14 @@ size-turn f a n sum {w} whole h =
     rw (left, add-one) (size-append (f a) (span f (suc a) (n - suc a))) in
     add-assoc sum (sizeOf (f a)) (sizeOf (span f (a + 1) (n - (a + 1)))) ∙ ap (addSize sum) (sym more) ∙ whole
 
+-- and of a loop over rows
+pub rows-turn : (M : Model) (row : Row) (rows : List Row) (sum : Size) {w : Size} → addSize sum (sizeOf (rowsEdges M (row ∷ rows))) ≡ w
+    → addSize (addSize sum (sizeOf (span (stateEdges M row) 0 (M .states)))) (sizeOf (rowsEdges M rows)) ≡ w
+unfolding rowsEdges
+rows-turn M row rows sum whole =
+    let here = span (stateEdges M row) 0 (M .states) in
+    add-assoc sum (sizeOf here) (sizeOf (rowsEdges M rows)) ∙ ap (addSize sum) (sym (size-append here (rowsEdges M rows))) ∙ whole
+
 -- ---- a row's nodes and its helpers'
 
 -- the state's transitions
@@ -132,6 +140,10 @@ helper-size M (Until Some l r b) h a =
     ap (addSize (record { hypers = 1; targets = 1; most = 1 })) (size-map _ 2 (λ t. refl) (out M a)) ∙ same refl (omega arith) most
 helper-size M (Until Every l r b) h a =
     let n = length-map (out M a) (λ (t : Target). to (t .weight) (t .node + M .states * h)) in same refl (omega arith) (omega arith)
+
+pub state-size : (M : Model) (row : Row) (a : ℕ) → sizeOf (stateEdges M row a) ≡ addSize (sizeOf (rowEdges M row a)) (helperSize row (length (out M a)))
+unfolding stateEdges
+state-size M row a = size-append (rowEdges M row a) (helperEdges M row 0 a) ∙ ap (addSize (sizeOf (rowEdges M row a))) (helper-size M row 0 a)
 
 -- ---- no sum is large
 
@@ -189,19 +201,21 @@ module _ (M : Model) (few : length (M .transitions) ≤ 65535) where
   helper-small (Until q l r b) a = step-small q a
 
   state-small : (row : Row) (a : ℕ) → Small 262144 (sizeOf (stateEdges M row a))
-  unfolding stateEdges
-  state-small row a =
-      let here = row-small row a in
-      let helper = helper-small row a in
-      rw (size-append (rowEdges M row a) (helperEdges M row 0 a), helper-size M row 0 a) (omega arith)
+  state-small row a = let here = row-small row a in let helper = helper-small row a in rw (state-size M row a) (omega arith)
 
-  pub states-small : (row : Row) (a n : ℕ) → Small (n * 262144) (sizeOf (span (stateEdges M row) a n))
-  states-small row = small-span (stateEdges M row) 262144 (state-small row)
+  -- with at most 256 states
+  module _ (states : M .states ≤ 256) where
+    pub states-small : (row : Row) → Small 67108864 (sizeOf (span (stateEdges M row) 0 (M .states)))
+    states-small row = let h = small-span (stateEdges M row) 262144 (state-small row) 0 (M .states) in omega arith
 
-  pub rows-small : (rows : List Row) → Small (length rows * (M .states * 262144)) (sizeOf (rowsEdges M rows))
-  unfolding rowsEdges sizeOf
-  rows-small [] = omega arith
-  rows-small (row ∷ rows) =
-      let here = states-small row 0 (M .states) in
-      let rest = rows-small rows in
-      rw (size-append (span (stateEdges M row) 0 (M .states)) (rowsEdges M rows)) (omega arith)
+    pub rows-small : (rows : List Row) → Small (length rows * 67108864) (sizeOf (rowsEdges M rows))
+    unfolding rowsEdges sizeOf
+    rows-small [] = omega arith
+    rows-small (row ∷ rows) =
+        let here = states-small row in
+        let rest = rows-small rows in
+        rw (size-append (span (stateEdges M row) 0 (M .states)) (rowsEdges M rows)) (omega arith)
+
+-- the part of a small sum that is summed first is small
+pub small-part : {k : ℕ} (x y : Size) {w : Size} → addSize x y ≡ w → Small k w → Small k x
+small-part x y e h = omega (arith, ap (λ (z : Size). z .hypers) e, ap (λ (z : Size). z .targets) e, h .hypers, h .targets)
