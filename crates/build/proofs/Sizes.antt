@@ -84,14 +84,15 @@ size-nothing a zero = refl
 size-nothing a (suc n) = size-nothing (suc a) n
 
 -- a turn of a loop over a span: what is summed, and what is left, make the whole
-pub size-turn : (f : ℕ → List (List Target)) (a n : ℕ) (sum : Size) {w : Size} → addSize sum (sizeOf (span f a (n - a))) ≡ w → a < n
-    → addSize (addSize sum (sizeOf (f a))) (sizeOf (span f (a + 1) (n - (a + 1)))) ≡ w
+pub size-turn : (f : ℕ → List (List Target)) (a n : ℕ) (sum one : Size) {w : Size} → addSize sum (sizeOf (span f a (n - a))) ≡ w → a < n → sizeOf (f a) ≡ one
+    → addSize (addSize sum one) (sizeOf (span f (a + 1) (n - (a + 1)))) ≡ w
 unfolding span
-size-turn f a n sum {w} whole h =
+size-turn f a n sum one whole h is =
     let left : n - a ≡ suc (n - (a + 1)) = omega arith in
-    let more : sizeOf (span f a (n - a)) ≡ addSize (sizeOf (f a)) (sizeOf (span f (a + 1) (n - (a + 1)))) =
-    rw (left, add-one) (size-append (f a) (span f (suc a) (n - suc a))) in
-    add-assoc sum (sizeOf (f a)) (sizeOf (span f (a + 1) (n - (a + 1)))) ∙ ap (addSize sum) (sym more) ∙ whole
+    let rest = sizeOf (span f (a + 1) (n - (a + 1))) in
+    let more : sizeOf (span f a (n - a)) ≡ addSize one rest =
+    rw (left, add-one) (size-append (f a) (span f (suc a) (n - suc a)) ∙ ap (λ (z : Size). addSize z (sizeOf (span f (suc a) (n - suc a)))) is) in
+    add-assoc sum one rest ∙ ap (addSize sum) (sym more) ∙ whole
 
 -- and of a loop over rows
 pub rows-turn : (M : Model) (row : Row) (rows : List Row) (sum : Size) {w : Size} → addSize sum (sizeOf (rowsEdges M (row ∷ rows))) ≡ w
@@ -141,9 +142,12 @@ helper-size M (Until Some l r b) h a =
 helper-size M (Until Every l r b) h a =
     let n = length-map (out M a) (λ (t : Target). to (t .weight) (t .node + M .states * h)) in same refl (omega arith) (omega arith)
 
-pub state-size : (M : Model) (row : Row) (a : ℕ) → sizeOf (stateEdges M row a) ≡ addSize (sizeOf (rowEdges M row a)) (helperSize row (length (out M a)))
+-- both together, from the two
+pub state-size : (M : Model) (row : Row) (a : ℕ) {many : ℕ} {own helper : Size} → length (out M a) ≡ many → own ≡ sizeOf (rowEdges M row a) → helper ≡ helperSize row many
+    → sizeOf (stateEdges M row a) ≡ addSize own helper
 unfolding stateEdges
-state-size M row a = size-append (rowEdges M row a) (helperEdges M row 0 a) ∙ ap (addSize (sizeOf (rowEdges M row a))) (helper-size M row 0 a)
+state-size M row a e p q =
+    size-append (rowEdges M row a) (helperEdges M row 0 a) ∙ ap₂ addSize (sym p) (helper-size M row 0 a ∙ ap (helperSize row) e ∙ sym q)
 
 -- ---- no sum is large
 
@@ -201,7 +205,7 @@ module _ (M : Model) (few : length (M .transitions) ≤ 65535) where
   helper-small (Until q l r b) a = step-small q a
 
   state-small : (row : Row) (a : ℕ) → Small 262144 (sizeOf (stateEdges M row a))
-  state-small row a = let here = row-small row a in let helper = helper-small row a in rw (state-size M row a) (omega arith)
+  state-small row a = let here = row-small row a in let helper = helper-small row a in rw (state-size M row a refl refl refl) (omega arith)
 
   -- with at most 256 states
   module _ (states : M .states ≤ 256) where
