@@ -80,6 +80,11 @@ laid-put b at k n = rw (length-bytes k n)
 pub stored : {b b′ : List ℕ} (at k n : ℕ) → b′ ≡ put b at k n → Laid b at (bytes k n) b′ (at + k)
 stored {b} at k n e = record { room-is = e ∙ laid-put b at k n; next-is = rw length-bytes }
 
+-- bytes of a known length end that much further on, in a room as long as before
+pub sized : {b : List ℕ} {at : ℕ} {s b′ : List ℕ} {next : ℕ} → Laid b at s b′ next → (k : ℕ) → length s ≡ k → at + k ≤ length b
+    → (next ≡ at + k) × (length b′ ≡ length b)
+sized l k e h = (omega (arith, l .next-is), same-length l (omega arith))
+
 -- ---- what a loop has still to lay in
 
 -- laying the rest into the room as it is now makes the whole, and that fits
