@@ -17,7 +17,7 @@ use Rattle.wire.specs.Laid.{Laid}
 use Rattle.wire.specs.Layout.{Layout, items}
 use Rattle.wire.specs.Write.{writeAll}
 use Rattle.wire.proofs.Bytes.{length-bytes}
-use Rattle.wire.proofs.Laid.{Left, all-left, none-left, left-fits, left-then, then, said}
+use Rattle.wire.proofs.Laid.{Left, all-left, none-left, left-fits, left-then, nothing, then, said}
 use Rattle.wire.proofs.Layouts.{items-more}
 use Rattle.rules.specs.Graph.{Target}
 use Rattle.graph.specs.Write.{writeTarget, writeHyper}
@@ -136,3 +136,27 @@ module _ (m : List ℕ) (n : ℕ) (one : Transition → List ℕ) where
           named = λ {u} e. f .named {u = u} (rw here (List·Memᴰ·tail e));
           left = left-then (f .left) made _ parts l;
         }
+
+-- ---- the same, with nothing made of a transition beyond a bound
+
+-- what is made of a transition within the bound
+abbrev pub near : Bound → (Transition → List ℕ) → Transition → List ℕ
+near limit one u = cond (inside limit (u .weight)) (one u) []
+
+module _ (m : List ℕ) (n : ℕ) (one : Transition → List ℕ) (limit : Bound) {b : List ℕ} {at : ℕ} {whole b′ : List ℕ} {next p i : ℕ}
+    (f : Filling m n (near limit one) b at whole b′ next p i) (h : 0 < i) {w v : ℕ} (weight-is : w ≡ number 4 m (p + 2))
+    (to-is : v ≡ number 2 m (p + 6)) (small : w < infinite) {test : Bool} (is : test ≡ meets limit (meaning w)) where
+  abbrev it : List ℕ
+  it = one (record { from = number 2 m p; weight = w; to = v })
+
+  bytes-are : {t : Bool} → test ≡ t → cond (inside limit w) it [] ≡ cond t it []
+  bytes-are e = ap (λ (t : Bool). cond t it []) (sym (weight-within limit small) ∙ sym is ∙ e)
+
+  pub near-fits : test ≡ true → (k : ℕ) → length it ≡ k → next + k ≤ length b′
+  near-fits e k l = next-fits m n (near limit one) f h weight-is to-is k (ap length (bytes-are e) ∙ l)
+
+  pub near-filled : test ≡ true → {b″ : List ℕ} {end : ℕ} → Laid b′ next it b″ end → Filling m n (near limit one) b at whole b″ end (p + 8) (i - 1)
+  near-filled e l = next-filled m n (near limit one) f h weight-is to-is (said l (sym (bytes-are e)) refl)
+
+  pub far-filled : test ≡ false → Filling m n (near limit one) b at whole b′ next (p + 8) (i - 1)
+  far-filled e = next-filled m n (near limit one) f h weight-is to-is (said (nothing b′ next) (sym (bytes-are e)) refl)
