@@ -140,7 +140,7 @@ module _ (m : List ℕ) (n : ℕ) (one : Transition → List ℕ) where
 -- ---- the same, with nothing made of a transition beyond a bound
 
 -- what is made of a transition within the bound
-abbrev pub near : Bound → (Transition → List ℕ) → Transition → List ℕ
+unfoldable pub near : Bound → (Transition → List ℕ) → Transition → List ℕ
 near limit one u = cond (inside limit (u .weight)) (one u) []
 
 module _ (m : List ℕ) (n : ℕ) (one : Transition → List ℕ) (limit : Bound) {b : List ℕ} {at : ℕ} {whole b′ : List ℕ} {next p i : ℕ}
@@ -153,10 +153,13 @@ module _ (m : List ℕ) (n : ℕ) (one : Transition → List ℕ) (limit : Bound
   bytes-are e = ap (λ (t : Bool). cond t it []) (sym (weight-within limit small) ∙ sym is ∙ e)
 
   pub near-fits : test ≡ true → (k : ℕ) → length it ≡ k → next + k ≤ length b′
+  unfolding near
   near-fits e k l = next-fits m n (near limit one) f h weight-is to-is k (ap length (bytes-are e) ∙ l)
 
   pub near-filled : test ≡ true → {b″ : List ℕ} {end : ℕ} → Laid b′ next it b″ end → Filling m n (near limit one) b at whole b″ end (p + 8) (i - 1)
+  unfolding near
   near-filled e l = next-filled m n (near limit one) f h weight-is to-is (said l (sym (bytes-are e)) refl)
 
   pub far-filled : test ≡ false → Filling m n (near limit one) b at whole b′ next (p + 8) (i - 1)
+  unfolding near
   far-filled e = next-filled m n (near limit one) f h weight-is to-is (said (nothing b′ next) (sym (bytes-are e)) refl)
