@@ -1,8 +1,8 @@
 -- Edges laid into the room one after another, and the loops over transitions that do so. Assumes nothing.
-use Prim.Native.Nat.{ℕ, suc, _+_, _*_, _-_, _<_, _≤_}
-use mathlib.Core.List.{List, [], _∷_, _++_, map, append-assoc, append-nil, List·Memᴰ·head, List·Memᴰ·tail}
+use Prim.Native.Nat.{ℕ, _+_, _*_, _-_, _<_, _≤_}
+use mathlib.Core.List.{List, [], _∷_, _++_, map, append-nil, List·Memᴰ·head, List·Memᴰ·tail}
 use mathlib.Core.Bool.{Bool, true, false, cond}
-use mathlib.Core.Path.{_≡_, refl, sym, ap, ap₂, subst, _∙_}
+use mathlib.Core.Path.{_≡_, refl, sym, ap, subst, _∙_}
 use native.Mathlib.Omega.{arith}
 use lib.ListN.{length, length-append}
 use Rattle.lists.specs.Lists.{_∈_}
@@ -14,7 +14,7 @@ use Rattle.value.specs.Stored.{infinite, meaning}
 use Rattle.value.proofs.Stored.{meaning-finite}
 use Rattle.wire.specs.Bytes.{bytes, number}
 use Rattle.wire.specs.Laid.{Laid}
-use Rattle.wire.specs.Layout.{Layout, items}
+use Rattle.wire.specs.Layout.{items}
 use Rattle.wire.specs.Write.{writeAll}
 use Rattle.wire.proofs.Bytes.{length-bytes}
 use Rattle.wire.proofs.Laid.{Left, all-left, none-left, left-fits, left-then, nothing, then, said}

@@ -1,13 +1,11 @@
 -- `build::put_every_next` meets its contract: the targets of the transitions left, those within the bound, make the whole.
-use Prim.Native.Nat.{ℕ, _+_, _≤_, _<_}
+use Prim.Native.Nat.{ℕ, _+_, _≤_}
 use mathlib.Core.List.{List}
-use mathlib.Core.Path.{_≡_, refl, sym}
 use denote.Ref.{now}
 use native.Mathlib.Omega.{arith}
 use borrow.Author.Needs.{needs}
 use lib.ListN.{length}
 use Rattle.wire.specs.Write.{writeAll}
-use Rattle.wire.proofs.Laid.{Left}
 use Rattle.graph.specs.Write.{writeTarget}
 use Rattle.model.specs.Model.{Transition}
 use Rattle.reduction.specs.Built.{to}
@@ -16,12 +14,6 @@ use Rattle.build.specs.Bytes.{everyNext}
 use Rattle.build.proofs.Edges.{target-length, writeAll-map, writeAll-keep, Filling, filling-all, filling-none, next-readable, next-named, near, near-fits, near-filled, far-filled}
 use Rattle.build.proofs.put_every_next.Statement.{statement}
 use Rattle.build.proofs.put_every_next.Tie as tie
-use Rattle.build.proofs.put_every_next.Reads as reads
-use Rattle.build.proofs.put_every_next.Lts as lts
-use Rattle.build.proofs.put_target.Reads as put-target-reads
-use Rattle.build.proofs.transition_at.Reads as transition-at-reads
-use Rattle.value.proofs.Value.within.Reads as within-reads
-use Rattle.wire.proofs.number_at.Reads as number-at-reads
 
 -- the bytes of one transition
 abbrev one : ℕ → Transition → List ℕ

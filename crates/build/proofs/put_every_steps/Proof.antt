@@ -1,13 +1,10 @@
 -- `build::put_every_steps` meets its contract: the targets of the transitions left make the whole.
-use Prim.Native.Nat.{ℕ, _+_, _≤_, _<_}
+use Prim.Native.Nat.{ℕ, _+_, _≤_}
 use mathlib.Core.List.{List}
-use mathlib.Core.Path.{_≡_, refl, sym}
 use denote.Ref.{now}
 use native.Mathlib.Omega.{arith}
-use borrow.Author.Needs.{needs}
 use lib.ListN.{length}
 use Rattle.wire.specs.Write.{writeAll}
-use Rattle.wire.proofs.Laid.{Left}
 use Rattle.graph.specs.Write.{writeTarget}
 use Rattle.model.specs.Model.{Transition}
 use Rattle.reduction.specs.Built.{to}
@@ -16,11 +13,6 @@ use Rattle.build.specs.Bytes.{everySteps}
 use Rattle.build.proofs.Edges.{target-length, writeAll-map, Filling, filling-all, filling-none, next-readable, next-named, next-fits, next-filled}
 use Rattle.build.proofs.put_every_steps.Statement.{statement}
 use Rattle.build.proofs.put_every_steps.Tie as tie
-use Rattle.build.proofs.put_every_steps.Reads as reads
-use Rattle.build.proofs.put_every_steps.Lts as lts
-use Rattle.build.proofs.put_target.Reads as put-target-reads
-use Rattle.build.proofs.transition_at.Reads as transition-at-reads
-use Rattle.wire.proofs.number_at.Reads as number-at-reads
 
 -- the bytes of one transition
 abbrev one : ℕ → Transition → List ℕ

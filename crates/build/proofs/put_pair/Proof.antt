@@ -1,5 +1,4 @@
 -- `build::put_pair` meets its contract: the head of a hyperedge, and behind it its two targets.
-use mathlib.Core.List.{[], _∷_}
 use native.Mathlib.Omega.{arith}
 use borrow.Author.Needs.{needs}
 use Rattle.wire.proofs.Laid.{sized}

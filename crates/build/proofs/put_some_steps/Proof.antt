@@ -1,13 +1,9 @@
 -- `build::put_some_steps` meets its contract: the hyperedges of the transitions left make the whole.
-use Prim.Native.Nat.{ℕ, _+_, _≤_, _<_}
+use Prim.Native.Nat.{ℕ, _+_, _≤_}
 use mathlib.Core.List.{List, [], _∷_}
-use mathlib.Core.Path.{_≡_, refl, sym}
 use denote.Ref.{now}
 use native.Mathlib.Omega.{arith}
-use borrow.Author.Needs.{needs}
 use lib.ListN.{length}
-use Rattle.wire.specs.Write.{writeAll}
-use Rattle.wire.proofs.Laid.{Left}
 use Rattle.graph.specs.Write.{writeHyper}
 use Rattle.model.specs.Model.{Transition}
 use Rattle.reduction.specs.Built.{to, hyper}
@@ -16,11 +12,6 @@ use Rattle.build.specs.Bytes.{hypersBytes, someSteps}
 use Rattle.build.proofs.Edges.{pair-length, writeAll-map, Filling, filling-all, filling-none, next-readable, next-named, next-fits, next-filled}
 use Rattle.build.proofs.put_some_steps.Statement.{statement}
 use Rattle.build.proofs.put_some_steps.Tie as tie
-use Rattle.build.proofs.put_some_steps.Reads as reads
-use Rattle.build.proofs.put_some_steps.Lts as lts
-use Rattle.build.proofs.put_pair.Reads as put-pair-reads
-use Rattle.build.proofs.transition_at.Reads as transition-at-reads
-use Rattle.wire.proofs.number_at.Reads as number-at-reads
 
 -- the bytes of one transition
 abbrev one : (v left shift : ℕ) → Transition → List ℕ
