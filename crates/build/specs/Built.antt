@@ -1,9 +1,10 @@
 -- What the builder answers, and what it leaves in the room.
-use Prim.Native.Nat.{ℕ, _≤_}
+use Prim.Native.Nat.{ℕ, _+_, _≤_}
 use mathlib.Core.List.{List, _++_}
-use mathlib.Core.Bool.{Bool, cond, _&&_}
+use mathlib.Core.Path.{_≡_}
+use mathlib.Core.Bool.{Bool, true, cond, _&&_}
 use lib.ListN.{length, drop}
-use lib.Dec.{leb, ltb}
+use lib.Dec.{leb}
 use Rattle.lists.specs.Lists.{all}
 use Rattle.refusal.specs.declared.Refusal.the-variants.{Size, Room}
 use Rattle.rules.specs.Graph.{Graph}
@@ -21,11 +22,21 @@ fits g =
     && (all (λ h. leb (length (h .targets)) 65535) (g .hypers)
     && leb (length (g .covers)) 4096)))
 
--- SIZE where it would pass a limit; then ROOM where its bytes don't fit; else its length
-unfoldable pub builtOf : Graph → List ℕ → Built
-builtOf g b =
-    cond (fits g) (cond (ltb (length b) (length (writeGraph g))) (Built.Refused Room) (Built.Graph (length (writeGraph g)))) (Built.Refused Size)
+-- the room of bytes and the room of numbers are large enough: for the message, and for two rounds
+unfoldable pub roomy : Graph → List ℕ → ℕ → Bool
+roomy g b values = leb (length (writeGraph g)) (length b) && leb (g .nodes + g .nodes) values
+
+-- SIZE where it would pass a limit; then ROOM where a room is too small; else the graph's length
+unfoldable pub builtOf : Graph → List ℕ → ℕ → Built
+builtOf g b values = cond (fits g) (cond (roomy g b values) (Built.Graph (length (writeGraph g))) (Built.Refused Room)) (Built.Refused Size)
 
 -- the graph stands at the front of its room, the rest untouched; a refusal leaves the room as it came
-unfoldable pub roomOf : Graph → List ℕ → List ℕ
-roomOf g b = cond (fits g) (cond (ltb (length b) (length (writeGraph g))) b (writeGraph g ++ drop (length (writeGraph g)) b)) b
+unfoldable pub roomOf : Graph → List ℕ → ℕ → List ℕ
+roomOf g b values = cond (fits g) (cond (roomy g b values) (writeGraph g ++ drop (length (writeGraph g)) b) b) b
+
+-- the graph passes no limit, its counts are these, and its bytes fit
+pub record Writable (g : Graph) (hypers long : ℕ) (b : List ℕ) : Type 0 where
+  pub fits : fits g ≡ true
+  pub hypers-are : hypers ≡ length (g .hypers)
+  pub long-is : long ≡ length (writeGraph g)
+  pub room : length (writeGraph g) ≤ length b

@@ -1,5 +1,13 @@
 -- Laws of tests and lists.
 --     Tests      by whether a test is true; what a test of two parts says
 --     Lists      tests over a list, how many pass, the first number that passes
+--     Making     the elements of lists that are made by a test or number by number
+--     Places     elements by their places
+--     Each       what holds of each element
+--     Order      numbers that rise between two ends
 pub mod Tests
 pub mod Lists
+pub mod Making
+pub mod Places
+pub mod Each
+pub mod Order

@@ -1,14 +1,16 @@
 -- The graph that is built of a model and the rows of a formula. State a and row r have node a + s·r; the j-th until row has also
 -- the helper node a + s·(f + j).
-use Prim.Native.Nat.{ℕ, suc, _+_, _*_}
+use Prim.Native.Nat.{ℕ, suc, _+_, _*_, _≤_}
 use mathlib.Core.List.{List, [], _∷_, _++_, map}
 use mathlib.Core.Bool.{Bool, true, false, not, cond}
 use lib.Dec.{eqb}
 use lib.ListN.{length, take}
+use Rattle.lists.specs.Lists.{_∈_}
 use Rattle.lists.specs.Making.{keep, span}
 use Rattle.value.specs.declared.Bound.{Bound}
 use Rattle.value.specs.Value.{inside}
 use Rattle.rules.specs.Graph.{Graph, Hyper, Cover, Target}
+use Rattle.graph.specs.WellFormed.{targetsOf}
 use Rattle.model.specs.Model.{Model, Transition, holds}
 use Rattle.formula.specs.declared.Quantifier.{Quantifier}
 use Rattle.formula.specs.declared.Quantifier.the-variants.{Some, Every}
@@ -101,3 +103,11 @@ graphOf M rows = record {
   hypers = layout hyper (M .states) (λ row r a. rowEdges M row a) 0 rows ++ layout hyper (M .states) (helperEdges M) (length rows) (untils rows);
   covers = layout cover (M .states) (rowCovers M rows) 0 rows;
 }
+
+-- the graph passes no limit on n, h, c or targets (all together or of one hyperedge); one that does is refused with SIZE
+pub record Fits (g : Graph) : Type 0 where
+  pub nodes-fit : g .nodes ≤ 4096
+  pub hypers-fit : length (g .hypers) ≤ 65535
+  pub covers-fit : length (g .covers) ≤ 4096
+  pub targets-fit : targetsOf (g .hypers) ≤ 262144
+  pub each-fits : {h : Hyper} → h ∈ g .hypers → length (h .targets) ≤ 65535

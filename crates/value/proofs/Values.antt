@@ -12,7 +12,7 @@ use borrow.Author.Tests.{leb-true, leb-false, le-leb, eqb-true, eq-eqb}
 use Rattle.lists.proofs.Tests.{by-test, clash}
 use Rattle.value.specs.declared.Bound.{Bound}
 use Rattle.value.specs.declared.Bound.the-variants.{Within, Unbounded}
-use Rattle.value.specs.Value.{Value, fin, inf, plus, greatest, least, atMost, finite, same, meets, _≼_, _⊑_}
+use Rattle.value.specs.Value.{Value, fin, inf, plus, greatest, least, atMost, finite, same, inside, meets, _≼_, _⊑_}
 
 -- ---- a value is at most a number
 
@@ -169,3 +169,29 @@ falls inf inf h e = clash refl e
 pub meets-falls : (b : Bound) (a a′ : Value) → meets b a ≡ true → meets b a′ ≡ false → (k : ℕ) × Falls a′ a k
 meets-falls (Within k) a a′ e f = (k, record { now = record { test = e }; not-before = λ p. clash (p .test) f })
 meets-falls Unbounded a a′ e f = let r = finite-≼ a e in (r .0, record { now = r .1; not-before = λ p. clash (≼-finite p) f })
+
+-- of two values one is at most the other
+pub ⊑-total : (a b : Value) → (a ⊑ b) ⊎ (b ⊑ a)
+⊑-total (fin a) (fin b) =
+    by-test (leb a b) (λ e. inl (fin-⊑-fin (leb-true a b e))) (λ e. let h = leb-false a b e in inr (fin-⊑-fin (omega arith)))
+⊑-total (fin a) inf = inl ⊑-inf
+⊑-total inf b = inr ⊑-inf
+
+-- ---- the numbers within a bound
+
+pub inside-zero : (b : Bound) → inside b 0 ≡ true
+inside-zero (Within k) = le-leb 0 k (omega arith)
+inside-zero Unbounded = refl
+
+pub inside-le : (b : Bound) {m n : ℕ} → m ≤ n → inside b n ≡ true → inside b m ≡ true
+inside-le (Within k) {m} {n} l e = let h = leb-true n k e in le-leb m k (omega arith)
+inside-le Unbounded l e = refl
+
+-- a value meets a bound exactly where it is at most a number within it
+pub inside-meets : (b : Bound) {a : Value} {k : ℕ} → inside b k ≡ true → a ≼ k → meets b a ≡ true
+inside-meets (Within n) {k = k} e p = ≼-up p (leb-true k n e) .test
+inside-meets Unbounded e p = ≼-finite p
+
+pub meets-inside : (b : Bound) (a : Value) → meets b a ≡ true → (k : ℕ) × (inside b k ≡ true) × (a ≼ k)
+meets-inside (Within n) a e = (n, le-leb n n (le-refl n), record { test = e })
+meets-inside Unbounded a e = let r = finite-≼ a e in (r .0, refl, r .1)
