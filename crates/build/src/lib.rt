@@ -301,7 +301,8 @@ fn put_some_next(room: &mut [u8], at: usize, m: &[u8], n: u32, v: u32, first: u3
         let to = wire::number_at(m, p + 6, Width::Two);
         p += 8;
         i -= 1;
-        if Value(weight as u64).within(bound) {
+        let wide = weight as u64;
+        if Value(wide).within(bound) {
             next = put_single(room, next, v, to + shift);
         }
     }
@@ -325,7 +326,8 @@ fn put_every_next(room: &mut [u8], at: usize, m: &[u8], n: u32, first: u32, many
         let to = wire::number_at(m, p + 6, Width::Two);
         p += 8;
         i -= 1;
-        if Value(weight as u64).within(bound) {
+        let wide = weight as u64;
+        if Value(wide).within(bound) {
             next = put_target(room, next, 0, to + shift);
         }
     }

@@ -76,3 +76,42 @@ module _ {b : List ℕ} {at : ℕ} {s b′ : List ℕ} {next : ℕ} (l : Laid b 
 pub laid-put : (b : List ℕ) (at k n : ℕ) → put b at k n ≡ laid b at (bytes k n)
 unfolding put laid
 laid-put b at k n = rw (length-bytes k n)
+
+pub stored : {b b′ : List ℕ} (at k n : ℕ) → b′ ≡ put b at k n → Laid b at (bytes k n) b′ (at + k)
+stored {b} at k n e = record { room-is = e ∙ laid-put b at k n; next-is = rw length-bytes }
+
+-- bytes of a known length end that much further on, in a room as long as before
+pub sized : {b : List ℕ} {at : ℕ} {s b′ : List ℕ} {next : ℕ} → Laid b at s b′ next → (k : ℕ) → length s ≡ k → at + k ≤ length b
+    → (next ≡ at + k) × (length b′ ≡ length b)
+sized l k e h = (omega (arith, l .next-is), same-length l (omega arith))
+
+-- ---- what a loop has still to lay in
+
+-- laying the rest into the room as it is now makes the whole, and that fits
+pub record Left (b : List ℕ) (at : ℕ) (whole b′ : List ℕ) (next : ℕ) (rest : List ℕ) : Type 0 where
+  pub room-is : laid b′ next rest ≡ laid b at whole
+  pub next-is : next + length rest ≡ at + length whole
+  pub length-is : length b′ ≡ length b
+  pub whole-fits : at + length whole ≤ length b
+
+pub all-left : (b : List ℕ) (at : ℕ) (whole : List ℕ) → at + length whole ≤ length b → Left b at whole b at whole
+all-left b at whole h = record { room-is = refl; next-is = refl; length-is = refl; whole-fits = h }
+
+pub none-left : {b : List ℕ} {at : ℕ} {whole b′ : List ℕ} {next : ℕ} → Left b at whole b′ next [] → Laid b at whole b′ next
+none-left {b′ = b′} {next} l = record { room-is = sym (laid-none b′ next) ∙ l .room-is; next-is = omega (arith, l .next-is) }
+
+module _ {b : List ℕ} {at : ℕ} {whole b′ : List ℕ} {next : ℕ} {rest : List ℕ} (l : Left b at whole b′ next rest) (s t : List ℕ) (e : rest ≡ s ++ t) where
+  -- what comes next fits
+  pub left-fits : next + length s ≤ length b′
+  left-fits = omega (arith, ap length e, length-append s t, l .next-is, l .length-is, l .whole-fits)
+
+  -- once it is laid in, the rest is left
+  pub left-then : {b″ : List ℕ} {end : ℕ} → Laid b′ next s b″ end → Left b at whole b″ end t
+  left-then {b″} {end} m = record {
+    room-is =
+        ap₂ (λ (c : List ℕ) (n : ℕ). laid c n t) (m .room-is) (m .next-is) ∙ laid-then b′ next s t (omega (arith, left-fits))
+        ∙ ap (laid b′ next) (sym e) ∙ l .room-is;
+    next-is = omega (arith, m .next-is, ap length e, length-append s t, l .next-is);
+    length-is = same-length m left-fits ∙ l .length-is;
+    whole-fits = l .whole-fits;
+  }
