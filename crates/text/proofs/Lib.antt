@@ -1,0 +1,9 @@
+-- Laws of the text of formulas.
+--     Decimal    decimal digits make their number, and end where the digits end
+--     Length     how long a text is: 2,048 bytes suffice for 64 rows
+--     Tells      the text determines the formula
+--     Known      the texts of the paper's examples
+pub mod Decimal
+pub mod Length
+pub mod Tells
+pub mod Known
