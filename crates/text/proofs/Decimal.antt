@@ -142,3 +142,32 @@ decimal-cut n m r t h k e f same = (
   sym (decimal-read n r h e) ∙ ap (λ (s : List ℕ). value 0 (leading s)) same ∙ decimal-read m t k f,
   sym (decimal-rest n r e) ∙ ap after same ∙ decimal-rest m t f,
 )
+
+-- ---- one digit after another
+
+-- digits beyond those that a number needs change nothing
+decimal-enough : (k n : ℕ) → n < 10 ^ suc k → decimalIn (suc (suc k)) n ≡ decimalIn (suc k) n
+decimal-enough zero n h = rw (decimal-one 1 n h, decimal-one 0 n h)
+decimal-enough (suc k) n h =
+    by-digit n
+    (λ l. rw (decimal-one (suc (suc k)) n l, decimal-one (suc k) n l))
+    (λ l. let below : n / 10 < 10 ^ suc k = omega (arith, simp pow-suc at h) in
+    rw (decimal-more (suc (suc k)) n l, decimal-more (suc k) n l, decimal-enough k (n / 10) below))
+
+-- all digits but the last: those of the tenth part
+pub front : ℕ → List ℕ
+front n = cond (ltb n 10) [] (decimal (n / 10))
+
+pub front-none : (n : ℕ) → n < 10 → front n ≡ []
+unfolding front
+front-none n h = rw (lt-ltb n 10 h)
+
+pub front-some : (n : ℕ) → 10 ≤ n → front n ≡ decimal (n / 10)
+unfolding front
+front-some n h = rw (le-ltb n 10 h)
+
+pub decimal-last : (n : ℕ) → n < 10 ^ 10 → decimal n ≡ front n ++ (digit (n % 10) ∷ [])
+decimal-last n h =
+    by-digit n
+    (λ l. let last : n % 10 ≡ n = omega arith in rw (decimal-one 9 n l, front-none n l, last))
+    (λ l. rw (decimal-more 9 n l, front-some n l, decimal-enough 8 (n / 10) (omega arith)))

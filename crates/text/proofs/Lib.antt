@@ -3,7 +3,9 @@
 --     Length     how long a text is: 2,048 bytes suffice for 64 rows
 --     Tells      the text determines the formula
 --     Known      the texts of the paper's examples
+--     Laid       bytes laid into a room one after another
 pub mod Decimal
 pub mod Length
 pub mod Tells
 pub mod Known
+pub mod Laid
