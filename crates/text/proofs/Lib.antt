@@ -4,8 +4,10 @@
 --     Tells      the text determines the formula
 --     Known      the texts of the paper's examples
 --     Laid       bytes laid into a room one after another
+--     Rows       the text of a row is made of the texts of its operands
 pub mod Decimal
 pub mod Length
 pub mod Tells
 pub mod Known
 pub mod Laid
+pub mod Rows
