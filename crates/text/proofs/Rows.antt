@@ -1,6 +1,6 @@
 -- The text of a row is made of the texts of its operands. Assumes nothing.
-use Prim.Native.Nat.{ℕ, zero, suc, _+_, _*_, _<_}
-use mathlib.Core.List.{List, [], _∷_, _++_, List·Memᴰ·head, List·Memᴰ·tail}
+use Prim.Native.Nat.{ℕ, zero, suc, _+_, _*_, _<_, _≤_}
+use mathlib.Core.List.{List, [], _∷_, _++_, List·Memᴰ·head, List·Memᴰ·tail, List·Memᴰ·not-nil}
 use mathlib.Core.Option.{Option, some, none}
 use mathlib.Core.Path.{_≡_, refl, sym, ap, ap₂, subst, _∙_}
 use native.Mathlib.Nat.{not-suc-le-zero}
@@ -54,6 +54,21 @@ length-made (And l r) t = simp length-append (omega arith)
 length-made (Or l r) t = simp length-append (omega arith)
 length-made (Next q l b) t = simp (length-append, one-byte) (omega arith)
 length-made (Until q l r b) t = simp (length-append, one-byte) (omega arith)
+
+among : (n : ℕ → ℕ) {k l x : ℕ} {xs : List ℕ} → l ∈ (x ∷ xs) → n x ≤ k → (l ∈ xs → n l ≤ k) → n l ≤ k
+among n (List·Memᴰ·head e) h f = rw e h
+among n (List·Memᴰ·tail m) h f = f m
+
+-- no operand's is longer
+operand-short : (row : Row) (n : ℕ → ℕ) (l : ℕ) → l ∈ operands row → n l ≤ madeLength row n
+operand-short True n l m = absurd (List·Memᴰ·not-nil m)
+operand-short False n l m = absurd (List·Memᴰ·not-nil m)
+operand-short (Proposition i) n l m = absurd (List·Memᴰ·not-nil m)
+operand-short (Negation i) n l m = absurd (List·Memᴰ·not-nil m)
+operand-short (And x y) n l m = among n m (omega arith) (λ o. among n o (omega arith) (λ p. absurd (List·Memᴰ·not-nil p)))
+operand-short (Or x y) n l m = among n m (omega arith) (λ o. among n o (omega arith) (λ p. absurd (List·Memᴰ·not-nil p)))
+operand-short (Next q x b) n l m = among n m (omega arith) (λ o. absurd (List·Memᴰ·not-nil o))
+operand-short (Until q x y b) n l m = among n m (omega arith) (λ o. among n o (omega arith) (λ p. absurd (List·Memᴰ·not-nil p)))
 
 text-grow : (row : Row) (φ : ℕ → Formula) → text (grow (some row) φ) ≡ made row (λ l. text (φ l))
 unfolding text
@@ -120,6 +135,12 @@ at-inside [] i e = let z : _≡_ {A = ℕ} 0 1 = cc in absurd (omega arith)
 at-inside (b ∷ l) zero e = omega arith
 at-inside (b ∷ l) (suc i) e = let h = at-inside l i e in omega arith
 
+-- what is known of an operand l of row i
+pub record Operand (s : List ℕ) (i l : ℕ) : Type 0 where
+  pub earlier : l < i
+  pub ready : Ready s l
+  pub shorter : length (rowText s l) ≤ length (rowText s i)
+
 module _ {s : List ℕ} {i : ℕ} (ready : Ready s i) where
   earlier-rows : (j : ℕ) (row : Row) → getElem? (rowsOf s) j ≡ some row → (l : ℕ) → l ∈ operands row → l < j
   earlier-rows j row e l inside =
@@ -139,10 +160,11 @@ module _ {s : List ℕ} {i : ℕ} (ready : Ready s i) where
     pub row-long : length (rowText s i) ≡ madeLength row (λ l. length (rowText s l))
     row-long = ap length row-made ∙ length-made row (λ l. rowText s l)
 
-    pub operand-earlier : {l : ℕ} → l ∈ operands row → l < i
-    operand-earlier {l} inside = ready .earlier i (ready .there) (subst (λ (x : Row). l ∈ operands x) (sym e) inside)
-
-    pub operand-ready : {l : ℕ} → l ∈ operands row → Ready s l
-    operand-ready {l} inside =
-        let lower = operand-earlier inside in
-        record { there = omega (arith, ready .there); earlier = ready .earlier }
+    pub operand : (l : ℕ) → l ∈ operands row → Operand s i l
+    operand l inside =
+        let lower : l < i = ready .earlier i (ready .there) (subst (λ (x : Row). l ∈ operands x) (sym e) inside) in
+        record {
+          earlier = lower;
+          ready = record { there = omega (arith, ready .there); earlier = ready .earlier };
+          shorter = omega (arith, row-long, operand-short row (λ l. length (rowText s l)) l inside);
+        }

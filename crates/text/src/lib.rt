@@ -5,9 +5,11 @@ ghost use mathlib.Core.List.{_++_};
 ghost use lib.ListN.{length};
 ghost use Rattle.text.specs.Text as t;
 ghost use Rattle.text.specs.Laid.{Laid};
+ghost use Rattle.text.specs.Rows.{rowText, Ready};
 use refusal::Refusal;
 use value::Bound;
 use formula::Quantifier;
+use formula::Row;
 
 // The length of the text, or why it was not written.
 pub enum Written {
@@ -62,5 +64,55 @@ fn put_bound(room: &mut [u8], at: usize, bound: Bound) -> usize
     match bound {
         Bound::Within(k) => put_number(room, at, b"<=", k),
         Bound::Unbounded => at,
+    }
+}
+
+// How long the text of a bound is.
+fn bound_length(bound: Bound) -> usize
+    ensures { λ r. ⌜ r ≡ length (t.boundText bound) ⌝ }
+{
+    match bound {
+        Bound::Within(k) => 2 + decimal_length(k),
+        Bound::Unbounded => 0,
+    }
+}
+
+// Stores a quantifier.
+fn put_quantifier(room: &mut [u8], at: usize, quantifier: Quantifier) -> usize
+    requires { ⌜ at < length (now room) ⌝ }
+    ensures { λ r. ⌜ Laid (now (room .entry)) at (t.quantifierText quantifier) (now (room .exit)) r ⌝ }
+{
+    match quantifier {
+        Quantifier::Some => put_word(room, at, b"E"),
+        Quantifier::Every => put_word(room, at, b"A"),
+    }
+}
+
+// Stores the sign of an operator, its bound and a space.
+fn put_bounded(room: &mut [u8], at: usize, sign: &[u8], bound: Bound) -> usize
+    requires { ⌜ at + length (now sign) + length (t.boundText bound) + 1 ≤ length (now room) ⌝ }
+    ensures { λ r. ⌜ Laid (now (room .entry)) at (now (sign .entry) ++ t.boundText bound ++ t.word " ") (now (room .exit)) r ⌝ }
+{
+    let within = put_word(room, at, sign);
+    let space = put_bound(room, within, bound);
+    put_word(room, space, b" ")
+}
+
+// How long the text of row i is, from its operands'.
+fn row_length(s: &[u8], i: u32) -> usize
+    requires { ⌜ Ready (now s) i ⌝ }
+    requires { ⌜ length (rowText (now s) i) ≤ 2048 ⌝ }
+    ensures { λ r. ⌜ r ≡ length (rowText (now (s .entry)) i) ⌝ }
+{
+    let at = 7 + (i as usize) * 8;
+    let row = formula::row_at(s, at);
+    match row {
+        Row::True => 4,
+        Row::False => 5,
+        Row::Proposition(p) => 1 + decimal_length(p),
+        Row::Negation(p) => 2 + decimal_length(p),
+        Row::And(l, r) | Row::Or(l, r) => 5 + row_length(s, l) + row_length(s, r),
+        Row::Next(_, l, b) => 3 + bound_length(b) + row_length(s, l),
+        Row::Until(_, l, r, b) => 6 + bound_length(b) + row_length(s, l) + row_length(s, r),
     }
 }
