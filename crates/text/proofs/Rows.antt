@@ -1,6 +1,6 @@
 -- The text of a row is made of the texts of its operands. Assumes nothing.
 use Prim.Native.Nat.{ℕ, zero, suc, _+_, _*_, _<_, _≤_}
-use mathlib.Core.List.{List, [], _∷_, _++_, List·Memᴰ·head, List·Memᴰ·tail, List·Memᴰ·not-nil}
+use mathlib.Core.List.{List, [], _∷_, _++_, append-assoc, List·Memᴰ·head, List·Memᴰ·tail, List·Memᴰ·not-nil}
 use mathlib.Core.Option.{Option, some, none}
 use mathlib.Core.Path.{_≡_, refl, sym, ap, ap₂, subst, _∙_}
 use native.Mathlib.Nat.{not-suc-le-zero}
@@ -19,7 +19,7 @@ use Rattle.formula.specs.Layouts.{rowAt, rowLayout}
 use Rattle.text.specs.Text.{word, decimal, boundText, quantifierText, text}
 use Rattle.text.specs.Rows.{countOf, rowsOf, rowText, Ready}
 
--- the text of a row, from the texts of its operands
+-- the text of a row, from the texts of its operands, in the pieces that are stored
 abbrev pub made : Row → (ℕ → List ℕ) → List ℕ
 made True t = word "true"
 made False t = word "false"
@@ -27,8 +27,8 @@ made (Proposition i) t = word "p" ++ decimal i
 made (Negation i) t = word "!p" ++ decimal i
 made (And l r) t = word "(" ++ t l ++ word " & " ++ t r ++ word ")"
 made (Or l r) t = word "(" ++ t l ++ word " | " ++ t r ++ word ")"
-made (Next q l b) t = quantifierText q ++ word "X" ++ boundText b ++ word " " ++ t l
-made (Until q l r b) t = quantifierText q ++ word "[" ++ t l ++ word " U" ++ boundText b ++ word " " ++ t r ++ word "]"
+made (Next q l b) t = quantifierText q ++ (word "X" ++ boundText b ++ word " ") ++ t l
+made (Until q l r b) t = quantifierText q ++ word "[" ++ t l ++ (word " U" ++ boundText b ++ word " ") ++ t r ++ word "]"
 
 -- and its length, from their lengths
 abbrev pub madeLength : Row → (ℕ → ℕ) → ℕ
@@ -41,9 +41,12 @@ madeLength (Or l r) n = 5 + n l + n r
 madeLength (Next q l b) n = 3 + length (boundText b) + n l
 madeLength (Until q l r b) n = 6 + length (boundText b) + n l + n r
 
-one-byte : (q : Quantifier) → length (quantifierText q) ≡ 1
+pub one-byte : (q : Quantifier) → length (quantifierText q) ≡ 1
 one-byte Some = refl
 one-byte Every = refl
+
+pub with-space : (b : Bound) → length (boundText b ++ word " ") ≡ length (boundText b) + 1
+with-space b = length-append (boundText b) (word " ")
 
 length-made : (row : Row) (t : ℕ → List ℕ) → length (made row t) ≡ madeLength row (λ l. length (t l))
 length-made True t = refl
@@ -78,8 +81,8 @@ text-grow (Proposition i) φ = refl
 text-grow (Negation i) φ = refl
 text-grow (And l r) φ = refl
 text-grow (Or l r) φ = refl
-text-grow (Next q l b) φ = refl
-text-grow (Until q l r b) φ = refl
+text-grow (Next q l b) φ = simp append-assoc
+text-grow (Until q l r b) φ = simp append-assoc
 
 -- ---- the formula of a row
 

@@ -6,10 +6,10 @@ ghost use lib.ListN.{length};
 ghost use Rattle.text.specs.Text as t;
 ghost use Rattle.text.specs.Laid.{Laid};
 ghost use Rattle.text.specs.Rows.{rowText, Ready};
-use refusal::Refusal;
-use value::Bound;
 use formula::Quantifier;
 use formula::Row;
+use refusal::Refusal;
+use value::Bound;
 
 // The length of the text, or why it was not written.
 pub enum Written {
@@ -35,7 +35,11 @@ fn put_decimal(room: &mut [u8], at: usize, n: u32) -> usize
     requires { ⌜ at + length (t.decimal n) ≤ length (now room) ⌝ }
     ensures { λ r. ⌜ Laid (now (room .entry)) at (t.decimal n) (now (room .exit)) r ⌝ }
 {
-    let last = if n < 10 { at } else { put_decimal(room, at, n / 10) };
+    let last = if n < 10 {
+        at
+    } else {
+        put_decimal(room, at, n / 10)
+    };
     room[last] = 48 + ((n % 10) as u8);
     last + 1
 }
@@ -44,7 +48,11 @@ fn put_decimal(room: &mut [u8], at: usize, n: u32) -> usize
 fn decimal_length(n: u32) -> usize
     ensures { λ r. ⌜ r ≡ length (t.decimal n) ⌝ }
 {
-    if n < 10 { 1 } else { decimal_length(n / 10) + 1 }
+    if n < 10 {
+        1
+    } else {
+        decimal_length(n / 10) + 1
+    }
 }
 
 // Stores a word and a number after it.
@@ -114,5 +122,47 @@ fn row_length(s: &[u8], i: u32) -> usize
         Row::And(l, r) | Row::Or(l, r) => 5 + row_length(s, l) + row_length(s, r),
         Row::Next(_, l, b) => 3 + bound_length(b) + row_length(s, l),
         Row::Until(_, l, r, b) => 6 + bound_length(b) + row_length(s, l) + row_length(s, r),
+    }
+}
+
+// Stores the text of row i, made of the texts of its operands; returns the position past it.
+fn put_row(s: &[u8], i: u32, room: &mut [u8], at: usize) -> usize
+    requires { ⌜ Ready (now s) i ⌝ }
+    requires { ⌜ at + length (rowText (now s) i) ≤ length (now room) ⌝ }
+    ensures { λ r. ⌜ Laid (now (room .entry)) at (rowText (now (s .entry)) i) (now (room .exit)) r ⌝ }
+{
+    let row = formula::row_at(s, 7 + (i as usize) * 8);
+    match row {
+        Row::True => put_word(room, at, b"true"),
+        Row::False => put_word(room, at, b"false"),
+        Row::Proposition(p) => put_number(room, at, b"p", p),
+        Row::Negation(p) => put_number(room, at, b"!p", p),
+        Row::And(l, r) => {
+            let left = put_word(room, at, b"(");
+            let sign = put_row(s, l, room, left);
+            let right = put_word(room, sign, b" & ");
+            let end = put_row(s, r, room, right);
+            put_word(room, end, b")")
+        }
+        Row::Or(l, r) => {
+            let left = put_word(room, at, b"(");
+            let sign = put_row(s, l, room, left);
+            let right = put_word(room, sign, b" | ");
+            let end = put_row(s, r, room, right);
+            put_word(room, end, b")")
+        }
+        Row::Next(q, l, b) => {
+            let sign = put_quantifier(room, at, q);
+            let operand = put_bounded(room, sign, b"X", b);
+            put_row(s, l, room, operand)
+        }
+        Row::Until(q, l, r, b) => {
+            let open = put_quantifier(room, at, q);
+            let left = put_word(room, open, b"[");
+            let sign = put_row(s, l, room, left);
+            let right = put_bounded(room, sign, b" U", b);
+            let end = put_row(s, r, room, right);
+            put_word(room, end, b"]")
+        }
     }
 }

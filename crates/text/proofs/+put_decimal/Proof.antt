@@ -55,13 +55,13 @@ module _ (t : ℕ) where
     n = c .before .before .args .n
 
     stored : Laid b at (front n) (c .if1 .room) (c .if1 .last)
-    stored = ⊎-elim (λ w. said (nothing b at) (front-none n (omega arith)) (w .1) (w .2)) (λ w. said (w .2 .ensures) (front-some n (omega arith)) (w .5) (w .6)) (c .if1 .came)
+    stored = ⊎-elim (λ w. said (nothing b at (omega arith)) (front-none n (omega arith)) (w .1) (w .2)) (λ w. said (w .2 .ensures) (front-some n (omega arith)) (w .5) (w .6)) (c .if1 .came)
 
     room-left : at + length (front n) < length b
     room-left = omega (arith, long n (omega arith))
 
   slice-write-room : lts.Need-slice-write-room (below, f.Post) given f.Post
-  slice-write-room c = omega (arith, stored c .next-is, laid.same-length (stored c) (omega (arith, room-left c)), room-left c)
+  slice-write-room c = omega (arith, stored c .next-is, laid.same-length (stored c), room-left c)
 
   add-result : lts.Need-add-result (below, f.Post) given f.Post
   add-result c = omega (arith, stored (c .before) .next-is, room-left (c .before))
@@ -70,7 +70,7 @@ module _ (t : ℕ) where
   returns c = said (more (stored (c .before)) _ (room-left (c .before))) (decimal-last _ (omega arith)) refl refl
 
   same-length : lts.Need-same-length (below, f.Post) given f.Post
-  same-length c = laid.same-length (returns c) (c .before .before .before .pre .1)
+  same-length c = laid.same-length (returns c)
 
 pub +put-decimal-spec : {M : Type 1} → statement M
 +put-decimal-spec =

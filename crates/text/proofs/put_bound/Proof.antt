@@ -30,7 +30,7 @@ returns : tie.Need-returns
 returns c = said (c .before .before .put-number .ensures) (ap boundText (c .before .before .before .before .before .before .bound .given .1)) refl refl
 
 returns-2 : tie.Need-returns-2
-returns-2 c = said (nothing _ _) (ap boundText (c .enum-told .given .1)) refl refl
+returns-2 c = said (nothing _ _ (omega arith)) (ap boundText (c .enum-told .given .1)) refl refl
 
 pub put-bound-spec : {M : Type 1} → statement M
 put-bound-spec =

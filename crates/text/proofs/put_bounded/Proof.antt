@@ -1,7 +1,6 @@
 -- `text::put_bounded` meets its contract: three stores one after another.
-use native.Mathlib.Omega.{arith}
 use borrow.Author.Needs.{needs}
-use Rattle.text.proofs.Laid.{then}
+use Rattle.text.proofs.Laid.{_then_}
 use Rattle.text.proofs.put_bounded.Statement.{statement}
 use Rattle.text.proofs.put_bounded.Tie as tie
 
@@ -21,10 +20,10 @@ same-length : tie.Need-same-length
 same-length c = search needs
 
 returns : tie.Need-returns
-returns c = 
+returns c =
     let sign = c .before .before .before .before .before .before .before .before .before .before .before .put-word .ensures in
     let bound = c .before .before .before .before .before .before .before .put-bound .ensures in
-    then (then sign bound (omega arith)) (c .before .before .put-word2 .ensures) (omega arith)
+    sign then bound then c .before .before .put-word2 .ensures
 
 pub put-bounded-spec : {M : Type 1} → statement M
 put-bounded-spec =

@@ -1,7 +1,6 @@
 -- `text::put_number` meets its contract.
-use native.Mathlib.Omega.{arith}
 use borrow.Author.Needs.{needs}
-use Rattle.text.proofs.Laid.{then}
+use Rattle.text.proofs.Laid.{_then_}
 use Rattle.text.proofs.put_number.Statement.{statement}
 use Rattle.text.proofs.put_number.Tie as tie
 
@@ -15,7 +14,7 @@ same-length : tie.Need-same-length
 same-length c = search needs
 
 returns : tie.Need-returns
-returns c = then (c .before .before .before .before .before .before .put-word .ensures) (c .before .before .put-decimal .ensures) (omega arith)
+returns c = c .before .before .before .before .before .before .put-word .ensures then c .before .before .put-decimal .ensures
 
 pub put-number-spec : {M : Type 1} → statement M
 put-number-spec = tie.close (tie.spec put-word-requires put-decimal-requires same-length returns)

@@ -19,10 +19,10 @@ abbrev μ-loop : tie.MeasureT-loop
 
 -- the room keeps its length
 kept : (c : tie.At-loop Inv-loop μ-loop) → length (c .loop .room) ≡ length (c .before .args .room .now)
-kept c = laid.same-length (c .loop .inv .1) (omega (arith, length-take (c .loop .i) (c .before .args .word .now)))
+kept c = laid.same-length (c .loop .inv .1)
 
 loop-holds : tie.Need-loop-holds Inv-loop μ-loop
-loop-holds c = (omega arith, said (nothing _ _) refl refl (omega arith))
+loop-holds c = (omega arith, said (nothing _ _ (omega arith)) refl refl (omega arith))
 
 shared-slice-read-room : tie.Need-shared-slice-read-room Inv-loop μ-loop
 shared-slice-read-room c = omega arith
