@@ -5,9 +5,13 @@
 --     Known      the texts of the paper's examples
 --     Laid       bytes laid into a room one after another
 --     Rows       the text of a row is made of the texts of its operands
+--     Answers    the answer and the room in each of the three cases
+--     Accepted   what an accepted message gives the writing of its text
 pub mod Decimal
 pub mod Length
 pub mod Tells
 pub mod Known
 pub mod Laid
 pub mod Rows
+pub mod Answers
+pub mod Accepted

@@ -41,12 +41,17 @@ madeLength (Or l r) n = 5 + n l + n r
 madeLength (Next q l b) n = 3 + length (boundText b) + n l
 madeLength (Until q l r b) n = 6 + length (boundText b) + n l + n r
 
-pub one-byte : (q : Quantifier) → length (quantifierText q) ≡ 1
+one-byte : (q : Quantifier) → length (quantifierText q) ≡ 1
 one-byte Some = refl
 one-byte Every = refl
 
-pub with-space : (b : Bound) → length (boundText b ++ word " ") ≡ length (boundText b) + 1
-with-space b = length-append (boundText b) (word " ")
+-- a quantifier has one byte, and a space follows a bound
+pub record Around (q : Quantifier) (b : Bound) : Type 0 where
+  pub one : length (quantifierText q) ≡ 1
+  pub spaced : length (boundText b ++ word " ") ≡ length (boundText b) + 1
+
+pub around : (q : Quantifier) (b : Bound) → Around q b
+around q b = record { one = one-byte q; spaced = length-append (boundText b) (word " ") }
 
 length-made : (row : Row) (t : ℕ → List ℕ) → length (made row t) ≡ madeLength row (λ l. length (t l))
 length-made True t = refl
@@ -125,7 +130,7 @@ module _ (s : List ℕ) where
   items-length zero at = refl
   items-length (suc k) at = ap suc (items-length k (at + 8))
 
-  items-at : (k at j : ℕ) → j < k → getElem? (items (rowLayout s) k at) j ≡ some (rowAt s (at + j * 8))
+  pub items-at : (k at j : ℕ) → j < k → getElem? (items (rowLayout s) k at) j ≡ some (rowAt s (at + j * 8))
   unfolding items
   items-at zero at j h = absurd (not-suc-le-zero h)
   items-at (suc k) at zero h = let here : at ≡ at + 0 * 8 = omega arith in ap (λ (n : ℕ). some (rowAt s n)) here

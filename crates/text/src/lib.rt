@@ -6,6 +6,9 @@ ghost use lib.ListN.{length};
 ghost use Rattle.text.specs.Text as t;
 ghost use Rattle.text.specs.Laid.{Laid};
 ghost use Rattle.text.specs.Rows.{rowText, Ready};
+ghost use Rattle.text.specs.Written.{writtenNumber, writtenLength, writtenOf, roomOf};
+ghost use Rattle.formula.specs.Message.{readFormula};
+use formula::Checked;
 use formula::Quantifier;
 use formula::Row;
 use refusal::Refusal;
@@ -15,6 +18,28 @@ use value::Bound;
 pub enum Written {
     Text(usize),
     Refused(Refusal),
+}
+
+impl Written {
+    // The number that the paper gives the answer.
+    pub fn number(self) -> u8
+        ensures { λ r. ⌜ r ≡ writtenNumber self ⌝ }
+    {
+        match self {
+            Written::Text(_) => 0,
+            Written::Refused(e) => e.number(),
+        }
+    }
+
+    // The returned length.
+    pub fn length(self) -> usize
+        ensures { λ r. ⌜ r ≡ writtenLength self ⌝ }
+    {
+        match self {
+            Written::Text(n) => n,
+            Written::Refused(_) => 0,
+        }
+    }
 }
 
 // Stores a word at a position; returns the position past it.
@@ -163,6 +188,24 @@ fn put_row(s: &[u8], i: u32, room: &mut [u8], at: usize) -> usize
             let right = put_bounded(room, sign, b" U", b);
             let end = put_row(s, r, room, right);
             put_word(room, end, b"]")
+        }
+    }
+}
+
+// Writes the text of a formula message, checked with the number of propositions it may name, where it fits.
+pub fn text(s: &[u8], p: u32, room: &mut [u8]) -> Written
+    ensures { λ r. ⌜ r ≡ writtenOf (readFormula p (now (s .entry))) (now (room .entry)) ⌝ }
+    ensures { λ _. ⌜ now (room .exit) ≡ roomOf (readFormula p (now (s .entry))) (now (room .entry)) ⌝ }
+{
+    match formula::check(s, p) {
+        Checked::Refused(e) => Written::Refused(e),
+        Checked::Formula(f) => {
+            let root = f - 1;
+            let length = row_length(s, root);
+            if room.len() < length {
+                return Written::Refused(Refusal::Room);
+            }
+            Written::Text(put_row(s, root, room, 0))
         }
     }
 }

@@ -1,7 +1,7 @@
 -- The proof of the cycle of calls {put_row}: the measure is the row's place, and operands are earlier rows; the pieces are stored one after another.
-use Prim.Native.Nat.{ℕ, _<_, _≤_, _+_}
+use Prim.Native.Nat.{ℕ, _<_, _≤_, _+_, _*_}
 use mathlib.Core.List.{List, List·Memᴰ·head, List·Memᴰ·tail}
-use mathlib.Core.Path.{_≡_, refl, subst}
+use mathlib.Core.Path.{_≡_, refl}
 use native.Mathlib.Omega.{arith}
 use lib.ListN.{length}
 use borrow.Author.Needs.{needs}
@@ -10,6 +10,7 @@ use borrow.Fn.PlainCycle.{Measures, is, falls, and}
 use Rattle.lists.specs.Lists.{_∈_}
 use Rattle.lists.proofs.Tests.{by}
 use Rattle.formula.specs.declared.Row.{Row}
+use Rattle.formula.specs.Layouts.{rowAt}
 use Rattle.formula.specs.Rows.{operands}
 use Rattle.formula.proofs.row_at.Reads as row
 use Rattle.text.specs.Text.{word}
@@ -17,7 +18,7 @@ use Rattle.text.specs.Rows.{rowText, Ready}
 use Rattle.text.proofs.Laid as laid
 use Rattle.text.proofs.Laid.{_then_, said}
 use Rattle.text.proofs.Rows as rows
-use Rattle.text.proofs.Rows.{made, madeLength, one-byte, with-space}
+use Rattle.text.proofs.Rows.{made, madeLength, Around, around}
 use Rattle.text.proofs.put_bounded.Reads as put-bounded
 use Rattle.text.proofs.put_number.Reads as number
 use Rattle.text.proofs.put_quantifier.Reads as quantifier
@@ -50,21 +51,56 @@ module _ (t : ℕ) where
     abbrev i : ℕ
     i = c .before .before .before .args .i
 
-    text-is : rowText s i ≡ made x (λ l. rowText s l)
-    text-is = rows.row-made (c .before .before .before .pre .1 .0) (by (c .row-at .ensures) e)
+    ready : Ready s i
+    ready = c .before .before .before .pre .1 .0
 
-    long : length (rowText s i) ≡ madeLength x (λ l. length (rowText s l))
-    long = rows.row-long (c .before .before .before .pre .1 .0) (by (c .row-at .ensures) e)
+    there : rowAt s (7 + i * 8) ≡ x
+    there = by (c .row-at .ensures) e
+
+    text-is : rowText s i ≡ made x (λ l. rowText s l)
+    text-is = rows.row-made ready there
 
     -- the text fits from the position on
     whole : c .before .before .before .args .at + length (made x (λ l. rowText s l)) ≤ length (c .before .before .before .args .room .now)
-    whole = subst (λ (u : List ℕ). c .before .before .before .args .at + length u ≤ length (c .before .before .before .args .room .now)) text-is (c .before .before .before .pre .1 .1)
+    whole = rw (← text-is) (c .before .before .before .pre .1 .1)
+
+    abbrev Long : Type 0
+    Long = length (rowText s i) ≡ madeLength x (λ l. length (rowText s l))
+
+    long : Long
+    long = rows.row-long ready there
 
     -- what a call asks for an operand
-    asks : (l : ℕ) → l ∈ operands x → (l < t) × Ready s l
-    asks l inside =
-        let o = rows.operand (c .before .before .before .pre .1 .0) (by (c .row-at .ensures) e) l inside in
-        (omega arith, o .ready)
+    abbrev Asks : Type 0
+    Asks = (l : ℕ) → l ∈ operands x → (l < t) × Ready s l
+
+    asks : Asks
+    asks l inside = let o = rows.operand ready there l inside in (omega arith, o .ready)
+
+  -- the same in each arm that has operands
+  and-long : (c : lts.After-row3 claims given f.Post) → Long (c .before .before) (c .row3 .given .1)
+  and-long c = long (c .before .before) (c .row3 .given .1)
+
+  and-asks : (c : lts.After-row3 claims given f.Post) → Asks (c .before .before) (c .row3 .given .1)
+  and-asks c = asks (c .before .before) (c .row3 .given .1)
+
+  or-long : (c : lts.After-row4 claims given f.Post) → Long (c .before .before) (c .row4 .given .1)
+  or-long c = long (c .before .before) (c .row4 .given .1)
+
+  or-asks : (c : lts.After-row4 claims given f.Post) → Asks (c .before .before) (c .row4 .given .1)
+  or-asks c = asks (c .before .before) (c .row4 .given .1)
+
+  next-long : (c : lts.After-row5 claims given f.Post) → Long (c .before .before) (c .row5 .given .1) × Around (c .row5 .given .0 .0) (c .row5 .given .0 .1 .1 .0)
+  next-long c = (long (c .before .before) (c .row5 .given .1), around _ _)
+
+  next-asks : (c : lts.After-row5 claims given f.Post) → Asks (c .before .before) (c .row5 .given .1)
+  next-asks c = asks (c .before .before) (c .row5 .given .1)
+
+  until-long : (c : lts.After-row6 claims given f.Post) → Long (c .before .before) (c .row6 .given .1) × Around (c .row6 .given .0 .0) (c .row6 .given .0 .1 .1 .1 .0)
+  until-long c = (long (c .before .before) (c .row6 .given .1), around _ _)
+
+  until-asks : (c : lts.After-row6 claims given f.Post) → Asks (c .before .before) (c .row6 .given .1)
+  until-asks c = asks (c .before .before) (c .row6 .given .1)
 
   mul-row-at : lts.Need-mul-row-at claims given f.Post
   mul-row-at c = omega arith
@@ -118,25 +154,29 @@ module _ (t : ℕ) where
   slice-aggregate-put-word-3 c = search needs
 
   put-word-requires-3 : lts.Need-put-word-requires-3 claims given f.Post
-  put-word-requires-3 c κs = omega (arith, long (c .before .before .before .before .before) (c .before .before .before .row3 .given .1))
+  put-word-requires-3 c κs = omega (arith, and-long (c .before .before .before))
 
   put-row-requires : lts.Need-put-row-requires claims given f.Post
-  put-row-requires c κs = let a = asks (c .before .before .before .before .before .before .before .before .before) (c .before .before .before .before .before .before .before .row3 .given .1) _ (List·Memᴰ·head refl) in (a .0, (a .1, omega (arith, long (c .before .before .before .before .before .before .before .before .before) (c .before .before .before .before .before .before .before .row3 .given .1))))
+  put-row-requires c κs =
+      let a = and-asks (c .before .before .before .before .before .before .before) _ (List·Memᴰ·head refl) in
+      (a .0, (a .1, omega (arith, and-long (c .before .before .before .before .before .before .before))))
 
   slice-aggregate-put-word-4 : lts.Need-slice-aggregate-put-word-4 claims given f.Post
   slice-aggregate-put-word-4 c = search needs
 
   put-word-requires-4 : lts.Need-put-word-requires-4 claims given f.Post
-  put-word-requires-4 c κs = omega (arith, long (c .before .before .before .before .before .before .before .before .before .before .before .before .before .before) (c .before .before .before .before .before .before .before .before .before .before .before .before .row3 .given .1))
+  put-word-requires-4 c κs = omega (arith, and-long (c .before .before .before .before .before .before .before .before .before .before .before .before))
 
   put-row-requires-2 : lts.Need-put-row-requires-2 claims given f.Post
-  put-row-requires-2 c κs = let a = asks (c .before .before .before .before .before .before .before .before .before .before .before .before .before .before .before .before .before .before) (c .before .before .before .before .before .before .before .before .before .before .before .before .before .before .before .before .row3 .given .1) _ (List·Memᴰ·tail (List·Memᴰ·head refl)) in (a .0, (a .1, omega (arith, long (c .before .before .before .before .before .before .before .before .before .before .before .before .before .before .before .before .before .before) (c .before .before .before .before .before .before .before .before .before .before .before .before .before .before .before .before .row3 .given .1))))
+  put-row-requires-2 c κs =
+      let a = and-asks (c .before .before .before .before .before .before .before .before .before .before .before .before .before .before .before .before) _ (List·Memᴰ·tail (List·Memᴰ·head refl)) in
+      (a .0, (a .1, omega (arith, and-long (c .before .before .before .before .before .before .before .before .before .before .before .before .before .before .before .before))))
 
   slice-aggregate-put-word-5 : lts.Need-slice-aggregate-put-word-5 claims given f.Post
   slice-aggregate-put-word-5 c = search needs
 
   put-word-requires-5 : lts.Need-put-word-requires-5 claims given f.Post
-  put-word-requires-5 c κs = omega (arith, long (c .before .before .before .before .before .before .before .before .before .before .before .before .before .before .before .before .before .before .before .before .before .before .before) (c .before .before .before .before .before .before .before .before .before .before .before .before .before .before .before .before .before .before .before .before .before .row3 .given .1))
+  put-word-requires-5 c κs = omega (arith, and-long (c .before .before .before .before .before .before .before .before .before .before .before .before .before .before .before .before .before .before .before .before .before))
 
   enum-known-row-4 : lts.Need-enum-known-row-4 claims given f.Post
   enum-known-row-4 c = search needs
@@ -145,61 +185,69 @@ module _ (t : ℕ) where
   slice-aggregate-put-word-6 c = search needs
 
   put-word-requires-6 : lts.Need-put-word-requires-6 claims given f.Post
-  put-word-requires-6 c κs = omega (arith, long (c .before .before .before .before .before) (c .before .before .before .row4 .given .1))
+  put-word-requires-6 c κs = omega (arith, or-long (c .before .before .before))
 
   put-row-requires-3 : lts.Need-put-row-requires-3 claims given f.Post
-  put-row-requires-3 c κs = let a = asks (c .before .before .before .before .before .before .before .before .before) (c .before .before .before .before .before .before .before .row4 .given .1) _ (List·Memᴰ·head refl) in (a .0, (a .1, omega (arith, long (c .before .before .before .before .before .before .before .before .before) (c .before .before .before .before .before .before .before .row4 .given .1))))
+  put-row-requires-3 c κs =
+      let a = or-asks (c .before .before .before .before .before .before .before) _ (List·Memᴰ·head refl) in
+      (a .0, (a .1, omega (arith, or-long (c .before .before .before .before .before .before .before))))
 
   slice-aggregate-put-word-7 : lts.Need-slice-aggregate-put-word-7 claims given f.Post
   slice-aggregate-put-word-7 c = search needs
 
   put-word-requires-7 : lts.Need-put-word-requires-7 claims given f.Post
-  put-word-requires-7 c κs = omega (arith, long (c .before .before .before .before .before .before .before .before .before .before .before .before .before .before) (c .before .before .before .before .before .before .before .before .before .before .before .before .row4 .given .1))
+  put-word-requires-7 c κs = omega (arith, or-long (c .before .before .before .before .before .before .before .before .before .before .before .before))
 
   put-row-requires-4 : lts.Need-put-row-requires-4 claims given f.Post
-  put-row-requires-4 c κs = let a = asks (c .before .before .before .before .before .before .before .before .before .before .before .before .before .before .before .before .before .before) (c .before .before .before .before .before .before .before .before .before .before .before .before .before .before .before .before .row4 .given .1) _ (List·Memᴰ·tail (List·Memᴰ·head refl)) in (a .0, (a .1, omega (arith, long (c .before .before .before .before .before .before .before .before .before .before .before .before .before .before .before .before .before .before) (c .before .before .before .before .before .before .before .before .before .before .before .before .before .before .before .before .row4 .given .1))))
+  put-row-requires-4 c κs =
+      let a = or-asks (c .before .before .before .before .before .before .before .before .before .before .before .before .before .before .before .before) _ (List·Memᴰ·tail (List·Memᴰ·head refl)) in
+      (a .0, (a .1, omega (arith, or-long (c .before .before .before .before .before .before .before .before .before .before .before .before .before .before .before .before))))
 
   slice-aggregate-put-word-8 : lts.Need-slice-aggregate-put-word-8 claims given f.Post
   slice-aggregate-put-word-8 c = search needs
 
   put-word-requires-8 : lts.Need-put-word-requires-8 claims given f.Post
-  put-word-requires-8 c κs = omega (arith, long (c .before .before .before .before .before .before .before .before .before .before .before .before .before .before .before .before .before .before .before .before .before .before .before) (c .before .before .before .before .before .before .before .before .before .before .before .before .before .before .before .before .before .before .before .before .before .row4 .given .1))
+  put-word-requires-8 c κs = omega (arith, or-long (c .before .before .before .before .before .before .before .before .before .before .before .before .before .before .before .before .before .before .before .before .before))
 
   enum-known-row-5 : lts.Need-enum-known-row-5 claims given f.Post
   enum-known-row-5 c = search needs
 
   put-quantifier-requires : lts.Need-put-quantifier-requires claims given f.Post
-  put-quantifier-requires c κs = omega (arith, long (c .before .before .before .before) (c .before .before .row5 .given .1), one-byte (c .before .before .row5 .given .0 .0), with-space (c .before .before .row5 .given .0 .1 .1 .0))
+  put-quantifier-requires c κs = omega (arith, next-long (c .before .before))
 
   slice-aggregate-put-bounded : lts.Need-slice-aggregate-put-bounded claims given f.Post
   slice-aggregate-put-bounded c = search needs
 
   put-bounded-requires : lts.Need-put-bounded-requires claims given f.Post
-  put-bounded-requires c κs = omega (arith, long (c .before .before .before .before .before .before .before .before .before) (c .before .before .before .before .before .before .before .row5 .given .1), one-byte (c .before .before .before .before .before .before .before .row5 .given .0 .0), with-space (c .before .before .before .before .before .before .before .row5 .given .0 .1 .1 .0))
+  put-bounded-requires c κs = omega (arith, next-long (c .before .before .before .before .before .before .before))
 
   put-row-requires-5 : lts.Need-put-row-requires-5 claims given f.Post
-  put-row-requires-5 c κs = let a = asks (c .before .before .before .before .before .before .before .before .before .before .before .before .before) (c .before .before .before .before .before .before .before .before .before .before .before .row5 .given .1) _ (List·Memᴰ·head refl) in (a .0, (a .1, omega (arith, long (c .before .before .before .before .before .before .before .before .before .before .before .before .before) (c .before .before .before .before .before .before .before .before .before .before .before .row5 .given .1), one-byte (c .before .before .before .before .before .before .before .before .before .before .before .row5 .given .0 .0), with-space (c .before .before .before .before .before .before .before .before .before .before .before .row5 .given .0 .1 .1 .0))))
+  put-row-requires-5 c κs =
+      let a = next-asks (c .before .before .before .before .before .before .before .before .before .before .before) _ (List·Memᴰ·head refl) in
+      (a .0, (a .1, omega (arith, next-long (c .before .before .before .before .before .before .before .before .before .before .before))))
 
   enum-known-row-6 : lts.Need-enum-known-row-6 claims given f.Post
   enum-known-row-6 c = search needs
 
   put-quantifier-requires-2 : lts.Need-put-quantifier-requires-2 claims given f.Post
-  put-quantifier-requires-2 c κs = omega (arith, long (c .before .before .before .before) (c .before .before .row6 .given .1), one-byte (c .before .before .row6 .given .0 .0), with-space (c .before .before .row6 .given .0 .1 .1 .1 .0))
+  put-quantifier-requires-2 c κs = omega (arith, until-long (c .before .before))
 
   slice-aggregate-put-word-9 : lts.Need-slice-aggregate-put-word-9 claims given f.Post
   slice-aggregate-put-word-9 c = search needs
 
   put-word-requires-9 : lts.Need-put-word-requires-9 claims given f.Post
-  put-word-requires-9 c κs = omega (arith, long (c .before .before .before .before .before .before .before .before .before) (c .before .before .before .before .before .before .before .row6 .given .1), one-byte (c .before .before .before .before .before .before .before .row6 .given .0 .0), with-space (c .before .before .before .before .before .before .before .row6 .given .0 .1 .1 .1 .0))
+  put-word-requires-9 c κs = omega (arith, until-long (c .before .before .before .before .before .before .before))
 
   put-row-requires-6 : lts.Need-put-row-requires-6 claims given f.Post
-  put-row-requires-6 c κs = let a = asks (c .before .before .before .before .before .before .before .before .before .before .before .before .before) (c .before .before .before .before .before .before .before .before .before .before .before .row6 .given .1) _ (List·Memᴰ·head refl) in (a .0, (a .1, omega (arith, long (c .before .before .before .before .before .before .before .before .before .before .before .before .before) (c .before .before .before .before .before .before .before .before .before .before .before .row6 .given .1), one-byte (c .before .before .before .before .before .before .before .before .before .before .before .row6 .given .0 .0), with-space (c .before .before .before .before .before .before .before .before .before .before .before .row6 .given .0 .1 .1 .1 .0))))
+  put-row-requires-6 c κs =
+      let a = until-asks (c .before .before .before .before .before .before .before .before .before .before .before) _ (List·Memᴰ·head refl) in
+      (a .0, (a .1, omega (arith, until-long (c .before .before .before .before .before .before .before .before .before .before .before))))
 
   slice-aggregate-put-bounded-2 : lts.Need-slice-aggregate-put-bounded-2 claims given f.Post
   slice-aggregate-put-bounded-2 c = search needs
 
   put-bounded-requires-2 : lts.Need-put-bounded-requires-2 claims given f.Post
-  put-bounded-requires-2 c κs = omega (arith, long (c .before .before .before .before .before .before .before .before .before .before .before .before .before .before .before .before .before .before) (c .before .before .before .before .before .before .before .before .before .before .before .before .before .before .before .before .row6 .given .1), one-byte (c .before .before .before .before .before .before .before .before .before .before .before .before .before .before .before .before .row6 .given .0 .0), with-space (c .before .before .before .before .before .before .before .before .before .before .before .before .before .before .before .before .row6 .given .0 .1 .1 .1 .0))
+  put-bounded-requires-2 c κs = omega (arith, until-long (c .before .before .before .before .before .before .before .before .before .before .before .before .before .before .before .before))
 
   put-row-requires-7 : lts.Need-put-row-requires-7 claims given f.Post
   put-row-requires-7 c κs =
@@ -208,7 +256,7 @@ module _ (t : ℕ) where
       let c2 = c3 .before .before .before .before in
       let c1 = c2 .before .before .before .before .before in
       let r = c1 .before .before .before in
-      let a = asks (r .before .before) (r .row6 .given .1) _ (List·Memᴰ·tail (List·Memᴰ·head refl)) in
+      let a = until-asks r _ (List·Memᴰ·tail (List·Memᴰ·head refl)) in
       (a .0, (a .1, laid.fits-before (c1 .put-quantifier2 .ensures then c2 .put-word9 .ensures then c3 .put-row6 .ensures then c4 .put-bounded2 .ensures) _ (word "]") (whole (r .before .before) (r .row6 .given .1))))
 
   slice-aggregate-put-word-10 : lts.Need-slice-aggregate-put-word-10 claims given f.Post
