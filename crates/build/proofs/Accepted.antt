@@ -2,14 +2,14 @@
 use Prim.Native.Nat.{ℕ, _+_, _*_, _<_, _≤_}
 use mathlib.Core.List.{List}
 use mathlib.Core.Path.{_≡_, refl, ap, _∙_}
-use native.Mathlib.Omega.{arith}
 use lib.ListN.{length, getD}
 use Rattle.lists.specs.Making.{keep}
 use Rattle.value.specs.declared.Bound.{Bound}
 use Rattle.value.specs.Value.{inside}
 use Rattle.wire.specs.Bytes.{number}
+use Rattle.formula.specs.Layouts.{rowLayout}
 use Rattle.reduction.specs.Built.{out, near}
-use Rattle.build.specs.Held.{labelLayout, transitionLayout, transitionsFrom, heldModel, heldRows, HoldsModel, HoldsRows, Own}
+use Rattle.build.specs.Held.{labelLayout, transitionLayout, transitionsFrom, heldModel, heldRows, HoldsModel, Own}
 use Rattle.build.proofs.Stride.{items-length, items-at}
 use Rattle.build.proofs.Ranges.{RiseFrom}
 use Rattle.build.proofs.Sizes.{out-length, near-length}
@@ -39,3 +39,7 @@ module _ {m : List ℕ} {n p t : ℕ} (h : HoldsModel m n p t) where
 
   pub transitions-few : length (heldModel m n p t .transitions) ≤ 65535
   transitions-few = h .well-formed .transitions-fit
+
+pub rows-length : (f : List ℕ) (k : ℕ) → length (heldRows f k) ≡ k
+unfolding heldRows
+rows-length f k = items-length (rowLayout f) k 7

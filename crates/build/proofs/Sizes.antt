@@ -1,11 +1,11 @@
 -- How much room hyperedges take: of joins, of spans, of a row's nodes and its helpers', and of a graph. Assumes nothing.
 use Prim.Native.Nat.{ℕ, zero, suc, _+_, _*_, _-_, _≤_, _<_, min, max}
-use mathlib.Core.List.{List, [], _∷_, _++_, map, append-assoc}
+use mathlib.Core.List.{List, [], _∷_, _++_, map}
 use mathlib.Core.Bool.{Bool, true, false, not, cond}
 use mathlib.Core.Path.{_≡_, refl, sym, ap, ap₂, _∙_}
 use native.Mathlib.Numerals.{add-one}
 use native.Mathlib.Omega.{arith}
-use lib.ListN.{length, length-append, length-map}
+use lib.ListN.{length, length-map}
 use lib.Dec.{ltb, eqb}
 use borrow.Author.Tests.{ltb-true, ltb-false, le-ltb}
 use Rattle.lists.specs.Making.{keep, span}
@@ -95,12 +95,13 @@ size-turn f a n sum one whole h is =
     add-assoc sum one rest ∙ ap (addSize sum) (sym more) ∙ whole
 
 -- and of a loop over rows
-pub rows-turn : (M : Model) (row : Row) (rows : List Row) (sum : Size) {w : Size} → addSize sum (sizeOf (rowsEdges M (row ∷ rows))) ≡ w
-    → addSize (addSize sum (sizeOf (span (stateEdges M row) 0 (M .states)))) (sizeOf (rowsEdges M rows)) ≡ w
+pub rows-turn : (M : Model) (row : Row) (rows : List Row) (sum one : Size) {w : Size} → addSize sum (sizeOf (rowsEdges M (row ∷ rows))) ≡ w
+    → sizeOf (span (stateEdges M row) 0 (M .states)) ≡ one → addSize (addSize sum one) (sizeOf (rowsEdges M rows)) ≡ w
 unfolding rowsEdges
-rows-turn M row rows sum whole =
-    let here = span (stateEdges M row) 0 (M .states) in
-    add-assoc sum (sizeOf here) (sizeOf (rowsEdges M rows)) ∙ ap (addSize sum) (sym (size-append here (rowsEdges M rows))) ∙ whole
+rows-turn M row rows sum one whole is =
+    let rest = sizeOf (rowsEdges M rows) in
+    let more = size-append (span (stateEdges M row) 0 (M .states)) (rowsEdges M rows) ∙ ap (λ (z : Size). addSize z rest) is in
+    add-assoc sum one rest ∙ ap (addSize sum) (sym more) ∙ whole
 
 -- ---- a row's nodes and its helpers'
 

@@ -1,7 +1,7 @@
 -- Rows that are no until, by their tag. Assumes nothing.
 use Prim.Native.Nat.{ℕ}
 use mathlib.Core.List.{List, [], _∷_}
-use mathlib.Core.Bool.{true, false}
+use mathlib.Core.Bool.{false}
 use mathlib.Core.Path.{_≡_, refl}
 use denote.Enum.Declared.{tagOf, declared}
 use types.Run.{OneOf, miss}

@@ -1,7 +1,7 @@
 -- The size of a graph that is built: its hyperedges, targets and cover edges, and the bytes of its message. Assumes nothing.
 use Prim.Native.Nat.{ℕ, zero, suc, _+_, _*_, max}
 use mathlib.Core.List.{List, [], _∷_, _++_, map, map-append}
-use mathlib.Core.Bool.{Bool, true, false, cond, _&&_}
+use mathlib.Core.Bool.{Bool, cond, _&&_}
 use mathlib.Core.Path.{_≡_, refl, sym, ap, ap₂, _∙_}
 use native.Mathlib.Nat.{mul-suc}
 use native.Mathlib.Omega.{arith}
@@ -11,7 +11,6 @@ use borrow.Author.Tests.{leb-true, leb-false, le-leb, lt-leb}
 use Rattle.lists.specs.Lists.{all}
 use Rattle.lists.specs.Making.{keep, span}
 use Rattle.lists.proofs.Tests.{by-test}
-use Rattle.wire.specs.Bytes.{bytes}
 use Rattle.wire.specs.Write.{writeAll, message}
 use Rattle.wire.proofs.Bytes.{length-bytes}
 use Rattle.wire.proofs.Exact.{length-writeAll}
@@ -84,8 +83,8 @@ module _ (M : Model) where
       (λ e. (
         suc h,
         rw e
-        (layout-size (M .states) (helperEdges M) h row (untils rows)
-        ∙ ap (λ x. addSize x (helpers (suc h) rows)) (size-span (helperEdges M row h) (helperEdges M row 0) (λ a. helper-size M row h a ∙ sym (helper-size M row 0 a)) 0 (M .states))),
+            (layout-size (M .states) (helperEdges M) h row (untils rows)
+            ∙ ap (λ x. addSize x (helpers (suc h) rows)) (size-span (helperEdges M row h) (helperEdges M row 0) (λ a. helper-size M row h a ∙ sym (helper-size M row 0 a)) 0 (M .states))),
       ))
       (λ e. let nothing : sizeOf (span (helperEdges M row 0) 0 (M .states)) ≡ noSize =
       size-span (helperEdges M row 0) (λ a. []) (λ a. ap sizeOf (other-row row _ [] e)) 0 (M .states) ∙ size-nothing 0 (M .states) in

@@ -1,6 +1,6 @@
 -- `build::row_size` meets its contract, row by row.
 use mathlib.Core.Bool.{Bool, not}
-use mathlib.Core.Path.{_≡_, sym, ap, _∙_}
+use mathlib.Core.Path.{sym, ap, _∙_}
 use denote.Ref.{now}
 use Rattle.build.specs.Held.{heldModel}
 use Rattle.build.specs.Size.{sizeOf, leafEdges, nextSize}

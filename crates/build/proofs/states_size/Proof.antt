@@ -94,7 +94,7 @@ shared-slice-read-many : tie.Need-shared-slice-read-many Inv-loop μ-loop
 shared-slice-read-many c = omega arith
 
 sub-many : tie.Need-sub-many Inv-loop μ-loop
-sub-many c = 
+sub-many c =
     let l = c .before .before .before .loop in
     let starts = c .before .before .before .before .before .before .pre .1 .1 in
     rw add-one (starts .rising (l .a) (c .before .before .loop-test .taken))
