@@ -14,7 +14,7 @@ use Rattle.lists.proofs.Each.{each-none, each-more, each-map}
 use Rattle.value.specs.declared.Bound.{Bound}
 use Rattle.value.specs.Value.{Value, plus, meets, _≼_}
 use Rattle.value.proofs.Values.{plus-≼}
-use Rattle.value.proofs.Peak.{Peak, peak}
+use Rattle.value.proofs.Peak.{peak}
 use Rattle.rules.specs.Graph.{Target}
 use Rattle.rules.specs.Rounds.{Assignment, Obeys}
 use Rattle.model.specs.Model.{Model}
@@ -33,7 +33,8 @@ use Rattle.runs.proofs.Walks.{Move, E-value, A-value}
 use Rattle.reduction.specs.Built.{to, out, near, helperEdges, helperAt, graphOf}
 use Rattle.reduction.proofs.Out.{leads-out, out-leads, leads-near, near-leads}
 use Rattle.reduction.proofs.Trees.{Ordered, formula-of-row}
-use Rattle.reduction.proofs.Blocks.{Cheap, Why, by-limit, by-edge, row-why, helper-why, node-lt, helper-lt}
+use Rattle.reduction.proofs.Stands.{node-lt, helper-lt}
+use Rattle.reduction.proofs.Blocks.{Cheap, Why, by-limit, by-edge, row-why, helper-why}
 use Rattle.reduction.proofs.Sound.{φ}
 
 module _ (M : Model) (rows : List Row) (ok : Proper M) (order : Ordered rows) (x : Assignment) (obeys : Obeys (graphOf M rows) x) where
@@ -57,7 +58,8 @@ module _ (M : Model) (rows : List Row) (ok : Proper M) (order : Ordered rows) (x
     value c = x (c + s * H)
 
     -- it is at most d where a hyperedge is
-    value-≼ : (q : Quantifier) → RowAt rows r (Until q j k b) → {a d : ℕ} → a < s → (ts : List Target) → ts ∈ helperEdges M (Until q j k b) H a → Cheap x d ts → value a ≼ d
+    value-≼ : (q : Quantifier) → RowAt rows r (Until q j k b) → {a d : ℕ} → a < s → (ts : List Target) → ts ∈ helperEdges M (Until q j k b) H a
+        → Cheap x d ts → value a ≼ d
     value-≼ q at {a} l ts m c = rw (← obeys (a + s * H) (node-lt M rows l (helper-lt M rows r at))) (helper-why M rows x r l q j k b at ts m c)
 
     -- it is 0 where right holds
@@ -80,16 +82,18 @@ module _ (M : Model) (rows : List Row) (ok : Proper M) (order : Ordered rows) (x
     A-climb : RowAt rows r (Until Every j k b) → (a : ℕ) → a < s → (m : Move M a) × Climbs a (m .weight) (m .state)
     A-climb at a l =
         let (w, c, m) = ok .live a l in
-        let p = peak (λ (t : Target). plus (t .weight) (value (t .node))) (leads-out M a m) in
-        (record { weight = p .top .weight; state = p .top .node; step = go (out-leads M a (p .there)) }, λ h e v.
-        let d = p .top .weight + e in
-        value-≼ Every at l (to 0 (a + s * j) ∷ map (λ (t : Target). to (t .weight) (t .node + s * H)) (out M a)) second
-        (each-more (zero-sum d j left a l h) (each-map (λ (t : Target). to (t .weight) (t .node + s * H)) (out M a)
-        (λ t n. p .above .at t n .carries (plus-≼ (p .top .weight) (value (p .top .node)) v (le-refl d))))))
+        let p = peak (λ (t : Target). plus (t .weight) (value (t .node))) (leads-out M a m) in (
+          record { weight = p .top .weight; state = p .top .node; step = go (out-leads M a (p .there)) },
+          λ h e v.
+              let d = p .top .weight + e in
+              value-≼ Every at l (to 0 (a + s * j) ∷ map (λ (t : Target). to (t .weight) (t .node + s * H)) (out M a)) second
+              (each-more (zero-sum d j left a l h) (each-map (λ (t : Target). to (t .weight) (t .node + s * H)) (out M a)
+              (λ t n. p .above .at t n .carries (plus-≼ (p .top .weight) (value (p .top .node)) v (le-refl d))))),
+        )
 
     -- where the until holds, the helper's value is within the bound
     helper-complete : (q : Quantifier) → RowAt rows r (Until q j k b) → (a : ℕ) → a < s → sat.Until M q (φ M rows j) (φ M rows k) b a → meets b (value a) ≡ true
-    helper-complete Some at a l u = E-value M ok (φ M rows j) (φ M rows k) value (start Some at) b (E-climb at) l u
+    helper-complete Some at a l u = E-value M ok (φ M rows j) (φ M rows k) value (start Some at) b (E-climb at) a l u
     helper-complete Every at a l u = A-value M ok (φ M rows j) (φ M rows k) value (start Every at) b (λ a l. A-climb at a l .0) (λ a l. A-climb at a l .1) a l u
 
   -- where a row's formula holds there is a reason for 0

@@ -1,7 +1,8 @@
 -- Why the built graph answers the question.
 --     Out        the list of a state's transitions
 --     Trees      the formula of a row is its operator over the formulas of its operands
---     Blocks     which edges a node of the built graph has, and so why it is at most d after a round
+--     Stands     which edges stand in the built graph
+--     Blocks     why a node of the built graph is at most d after a round
 --     Sound      a number in any round is no empty promise
 --     Complete   where a formula holds, an assignment that obeys the rules is 0
 --     Verdict    settled rounds have 0 where the formula holds, and infinity where not
@@ -9,6 +10,7 @@
 --     Known      on model M, T13 to T15 hold and fail as the paper says
 pub mod Out
 pub mod Trees
+pub mod Stands
 pub mod Blocks
 pub mod Sound
 pub mod Complete

@@ -13,7 +13,7 @@ use Rattle.lists.specs.Lists.{_∈_}
 use Rattle.lists.proofs.Places.{first, second, place-lt, element}
 use Rattle.value.specs.declared.Bound.{Bound}
 use Rattle.value.specs.declared.Bound.the-variants.{Within}
-use Rattle.value.specs.Value.{plus, _≼_}
+use Rattle.value.specs.Value.{_≼_}
 use Rattle.value.proofs.Values.{≼-plus, ≼-inf, meets-inside}
 use Rattle.rules.specs.Graph.{Target}
 use Rattle.rules.specs.Rounds.{Assignment, round, rounds}

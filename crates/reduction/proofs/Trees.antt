@@ -40,7 +40,8 @@ module _ (rows : List Row) (ok : Ordered rows) where
   tree-same (suc n) zero r p q = absurd (not-suc-le-zero q)
   tree-same (suc n) (suc m) r p q = go (getElem? rows r) refl (tree-same n m)
     where
-      go : (o : Option Row) → getElem? rows r ≡ o → ((l : ℕ) → l < n → l < m → tree n rows l ≡ tree m rows l) → grow o (λ l. tree n rows l) ≡ grow o (λ l. tree m rows l)
+      go : (o : Option Row) → getElem? rows r ≡ o → ((l : ℕ) → l < n → l < m → tree n rows l ≡ tree m rows l)
+          → grow o (λ l. tree n rows l) ≡ grow o (λ l. tree m rows l)
       go none e h = refl
       go (some row) e h = grow-same row (λ l. tree n rows l) (λ l. tree m rows l) (λ l k. let t = ok .earlier r e k in h l (omega arith) (omega arith))
 
