@@ -2,12 +2,14 @@
 --     Tests      by whether a test is true; what a test of two parts says
 --     Lists      tests over a list, how many pass, the first number that passes
 --     Making     the elements of lists that are made by a test or number by number
+--     Kept       what a test keeps of a list
 --     Places     elements by their places
 --     Each       what holds of each element
 --     Order      numbers that rise between two ends
 pub mod Tests
 pub mod Lists
 pub mod Making
+pub mod Kept
 pub mod Places
 pub mod Each
 pub mod Order

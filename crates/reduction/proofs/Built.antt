@@ -25,11 +25,11 @@ use Rattle.formula.specs.declared.Row.{Row}
 use Rattle.formula.specs.declared.Row.the-variants.{True, False, Proposition, Negation, And, Or, Next, Until}
 use Rattle.formula.specs.Rows.{operands}
 use Rattle.formula.specs.WellFormed as formula
+use Rattle.formula.proofs.Trees.{Ordered, ordered}
 use Rattle.runs.specs.Runs.{Leads}
 use Rattle.runs.proofs.Proper.{Proper, proper}
 use Rattle.reduction.specs.Built.{to, out, near, rowEdges, stepEdges, helperEdges, rowCovers, isUntil, untils, layout, hyper, cover, graphOf, Fits}
 use Rattle.reduction.proofs.Out.{out-leads, near-leads}
-use Rattle.reduction.proofs.Trees.{Ordered, ordered}
 use Rattle.reduction.proofs.Stands.{Stands, of-until, OfRow, OfHelper, hyper-stands, cover-stands, edges, places, node-lt, helper-lt}
 
 -- a layout in two parts

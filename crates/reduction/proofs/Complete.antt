@@ -25,6 +25,7 @@ use Rattle.formula.specs.declared.Row.the-variants.{True, False, Proposition, N
 use Rattle.formula.specs.Formula.{grow, formulaOf}
 use Rattle.formula.specs.Rows.{operands}
 use Rattle.formula.specs.WellFormed.{RowAt}
+use Rattle.formula.proofs.Trees.{Ordered, formula-of-row}
 use Rattle.runs.specs.Runs.{Step, go}
 use Rattle.runs.specs.Sat as sat
 use Rattle.runs.specs.Sat.{Sat}
@@ -32,7 +33,6 @@ use Rattle.runs.proofs.Proper.{Proper}
 use Rattle.runs.proofs.Walks.{Move, Climbs, E-value, A-value}
 use Rattle.reduction.specs.Built.{to, out, near, helperEdges, helperAt, graphOf}
 use Rattle.reduction.proofs.Out.{leads-out, out-leads, leads-near, near-leads}
-use Rattle.reduction.proofs.Trees.{Ordered, formula-of-row}
 use Rattle.reduction.proofs.Stands.{node-lt, helper-lt}
 use Rattle.reduction.proofs.Blocks.{Cheap, Why, by-limit, by-edge, row-why, helper-why}
 use Rattle.reduction.proofs.Sound.{Holds}

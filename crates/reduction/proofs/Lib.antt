@@ -1,6 +1,5 @@
 -- Why the built graph answers the question.
 --     Out        the list of a state's transitions
---     Trees      the formula of a row is its operator over the formulas of its operands
 --     Stands     which edges stand in the built graph
 --     Blocks     why a node of the built graph is at most d after a round
 --     Sound      a number in any round is no empty promise
@@ -9,7 +8,6 @@
 --     Built      the built graph is well-formed where it fits; its lists from the front
 --     Known      on model M, T13 to T15 hold and fail as the paper says
 pub mod Out
-pub mod Trees
 pub mod Stands
 pub mod Blocks
 pub mod Sound

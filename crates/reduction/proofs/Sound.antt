@@ -25,6 +25,7 @@ use Rattle.formula.specs.declared.Row.the-variants.{True, False, Proposition, N
 use Rattle.formula.specs.Formula.{grow, formulaOf}
 use Rattle.formula.specs.Rows.{operands}
 use Rattle.formula.specs.WellFormed.{RowAt}
+use Rattle.formula.proofs.Trees.{Ordered, formula-of-row}
 use Rattle.runs.specs.Runs.{Leads, Step, go}
 use Rattle.runs.specs.Sat as sat
 use Rattle.runs.specs.Sat.{Sat}
@@ -33,7 +34,6 @@ use Rattle.runs.proofs.Untils.{E-later, A-later, weaken}
 use Rattle.runs.proofs.Walks.{until-now}
 use Rattle.reduction.specs.Built.{to, out, near, rowEdges, stepEdges, helperEdges, helperAt, graphOf}
 use Rattle.reduction.proofs.Out.{leads-out, out-leads, leads-near, near-leads}
-use Rattle.reduction.proofs.Trees.{Ordered, formula-of-row}
 use Rattle.reduction.proofs.Blocks.{Cheap, Why, by-limit, by-edge, why-row, why-helper}
 
 -- a hyperedge that stands only where a test passes

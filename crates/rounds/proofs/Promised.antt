@@ -64,11 +64,14 @@ filled-parts : (g : Graph) (m : ℕ) (b : List ℕ)
 unfolding filled
 filled-parts g m b = simp append-assoc
 
+-- the first half holds round m
+pub filled-at : (g : Graph) (m : ℕ) (b : List ℕ) (v : ℕ) → v < g .nodes → getD (filled g m b) v 0 ≡ stored (rounds g m v)
+filled-at g m b v l = rw (filled-parts g m b) (stored-at (g .nodes) (rounds g m) _ v l)
+
 module _ (g : Graph) (wf : WellFormed g) (m : ℕ) (b₀ : List ℕ) where
   -- what its two halves mean
   first-half : (v : ℕ) → v < g .nodes → held (filled g m b₀) v ≡ rounds g m v
-  first-half v l =
-      rw (filled-parts g m b₀, stored-at (g .nodes) (rounds g m) _ v l) (meaning-stored (rounds g m v) (λ k e. rounds-fit g wf m v k l e))
+  first-half v l = rw (filled-at g m b₀ v l) (meaning-stored (rounds g m v) (λ k e. rounds-fit g wf m v k l e))
 
   second-half : (v : ℕ) → v < g .nodes → held (filled g m b₀) (g .nodes + v) ≡ rounds g (suc m) v
   second-half v l =

@@ -1,7 +1,7 @@
 // The value of a node, and the bound of a cover edge.
 ghost use mathlib.Core.Path.{_≡_};
 ghost use Rattle.value.specs.Value.{plus, greatest, least, meets};
-ghost use Rattle.value.specs.Coded.{boundOf};
+ghost use Rattle.value.specs.Coded.{boundOf, codeOf};
 ghost use Rattle.value.specs.Stored.{meaning, stored};
 
 // How large a value may be: at most a number, or anything finite.
@@ -19,6 +19,16 @@ impl Bound {
             return Bound::Unbounded;
         }
         Bound::Within(code)
+    }
+
+    // The number of 4 bytes that says the bound.
+    pub fn code(self) -> u32
+        ensures { λ r. ⌜ r ≡ codeOf self ⌝ }
+    {
+        match self {
+            Bound::Within(k) => k,
+            Bound::Unbounded => 4294967295,
+        }
     }
 }
 

@@ -1,0 +1,41 @@
+-- What accepted messages say of the model and the rows that they hold. Assumes nothing.
+use Prim.Native.Nat.{ℕ, _+_, _*_, _<_, _≤_}
+use mathlib.Core.List.{List}
+use mathlib.Core.Path.{_≡_, refl, ap, _∙_}
+use native.Mathlib.Omega.{arith}
+use lib.ListN.{length, getD}
+use Rattle.lists.specs.Making.{keep}
+use Rattle.value.specs.declared.Bound.{Bound}
+use Rattle.value.specs.Value.{inside}
+use Rattle.wire.specs.Bytes.{number}
+use Rattle.reduction.specs.Built.{out, near}
+use Rattle.build.specs.Held.{labelLayout, transitionLayout, transitionsFrom, heldModel, heldRows, HoldsModel, HoldsRows, Own}
+use Rattle.build.proofs.Stride.{items-length, items-at}
+use Rattle.build.proofs.Ranges.{RiseFrom}
+use Rattle.build.proofs.Sizes.{out-length, near-length}
+
+module _ {m : List ℕ} {n p t : ℕ} (h : HoldsModel m n p t) where
+  pub states-few : n ≤ 256
+  unfolding heldModel
+  states-few = h .well-formed .states-fit
+
+  pub rising : RiseFrom 0 (transitionsFrom m n 0 t)
+  unfolding heldModel
+  rising = h .well-formed .ordered
+
+  pub label-at : (a : ℕ) → a < n → getD (heldModel m n p t .labels) a 0 ≡ number 4 m (13 + a * 4)
+  unfolding heldModel
+  label-at a below = items-at (labelLayout m) 4 (λ at. refl) 0 n 13 a below
+
+  -- the transitions of a state, and those within a bound
+  module _ {a first many : ℕ} (o : Own m n t a first many) where
+    pub out-own : length (out (heldModel m n p t) a) ≡ many
+    unfolding heldModel
+    out-own = out-length (heldModel m n p t) a ∙ ap length (o .are) ∙ items-length (transitionLayout m) many (13 + n * 4 + first * 8)
+
+    pub near-own : (b : Bound) → length (near (heldModel m n p t) b a) ≡ length (keep (λ u. inside b (u .weight)) (transitionsFrom m n first many))
+    unfolding heldModel
+    near-own b = near-length (heldModel m n p t) b a ∙ ap (λ us. length (keep (λ u. inside b (u .weight)) us)) (o .are)
+
+  pub transitions-few : length (heldModel m n p t .transitions) ≤ 65535
+  transitions-few = h .well-formed .transitions-fit

@@ -1,0 +1,165 @@
+-- Edges laid into the room one after another, and the loops over transitions that do so. Assumes nothing.
+use Prim.Native.Nat.{ℕ, _+_, _*_, _-_, _<_, _≤_}
+use mathlib.Core.List.{List, [], _∷_, _++_, map, append-nil, List·Memᴰ·head, List·Memᴰ·tail}
+use mathlib.Core.Bool.{Bool, true, false, cond}
+use mathlib.Core.Path.{_≡_, refl, sym, ap, subst, _∙_}
+use native.Mathlib.Omega.{arith}
+use lib.ListN.{length, length-append}
+use Rattle.lists.specs.Lists.{_∈_}
+use Rattle.lists.specs.Making.{keep}
+use Rattle.value.specs.declared.Bound.{Bound}
+use Rattle.value.specs.declared.Bound.the-variants.{Within, Unbounded}
+use Rattle.value.specs.Value.{inside, meets}
+use Rattle.value.specs.Stored.{infinite, meaning}
+use Rattle.value.proofs.Stored.{meaning-finite}
+use Rattle.wire.specs.Bytes.{bytes, number}
+use Rattle.wire.specs.Laid.{Laid}
+use Rattle.wire.specs.Layout.{items}
+use Rattle.wire.specs.Write.{writeAll}
+use Rattle.wire.proofs.Bytes.{length-bytes}
+use Rattle.wire.proofs.Laid.{Left, all-left, none-left, left-fits, left-then, nothing, then, said}
+use Rattle.wire.proofs.Layouts.{items-more}
+use Rattle.rules.specs.Graph.{Target}
+use Rattle.graph.specs.Write.{writeTarget, writeHyper}
+use Rattle.model.specs.Model.{Transition}
+use Rattle.reduction.specs.Built.{to, hyper}
+use Rattle.build.specs.Held.{transitionLayout, transitionsFrom, Reads}
+
+-- ---- lists of records
+
+pub writeAll-map : {A B : Type 0} (w : B → List ℕ) (f : A → B) (l : List A) → writeAll w (map f l) ≡ writeAll (λ a. w (f a)) l
+unfolding writeAll
+writeAll-map w f [] = refl
+writeAll-map w f (a ∷ l) = ap (λ (s : List ℕ). w (f a) ++ s) (writeAll-map w f l)
+
+pub writeAll-keep : {A : Type 0} (w : A → List ℕ) (p : A → Bool) (l : List A) → writeAll w (keep p l) ≡ writeAll (λ a. cond (p a) (w a) []) l
+unfolding writeAll keep
+writeAll-keep w p [] = refl
+writeAll-keep w p (a ∷ l) = go (p a) (writeAll-keep w p l)
+  where
+    go : (t : Bool) → writeAll w (keep p l) ≡ writeAll (λ a. cond (p a) (w a) []) l
+        → writeAll w (cond t (a ∷ keep p l) (keep p l)) ≡ cond t (w a) [] ++ writeAll (λ a. cond (p a) (w a) []) l
+    go true e = ap (λ (s : List ℕ). w a ++ s) e
+    go false e = e
+
+module _ {A : Type 0} (w : A → List ℕ) {b : List ℕ} {at : ℕ} {b′ : List ℕ} {next : ℕ} (a : A) (h : Laid b at (w a) b′ next) where
+  pub one-laid : Laid b at (writeAll w (a ∷ [])) b′ next
+  unfolding writeAll
+  one-laid = said h (sym (append-nil (w a))) refl
+
+  pub more-laid : (l : List A) {b″ : List ℕ} {end : ℕ} → Laid b′ next (writeAll w l) b″ end → at ≤ length b → Laid b at (writeAll w (a ∷ l)) b″ end
+  unfolding writeAll
+  more-laid l m fits = then h m fits
+
+-- ---- the parts of a hyperedge
+
+pub head-length : (v k : ℕ) → length (bytes 2 v ++ bytes 2 k) ≡ 4
+head-length v k = simp (length-append, length-bytes)
+
+pub target-length : (t : Target) → length (writeTarget t) ≡ 6
+unfolding writeTarget
+target-length t = simp (length-append, length-bytes)
+
+pub single-length : (v : ℕ) (t : Target) → length (writeHyper (hyper v (t ∷ []))) ≡ 10
+unfolding writeHyper writeAll writeTarget
+single-length v t = simp (length-append, length-bytes)
+
+pub pair-length : (v : ℕ) (t t′ : Target) → length (writeHyper (hyper v (t ∷ t′ ∷ []))) ≡ 16
+unfolding writeHyper writeAll writeTarget
+pair-length v t t′ = simp (length-append, length-bytes)
+
+-- a hyperedge is its head, and behind it its targets
+pub hyper-laid : {b : List ℕ} {at : ℕ} {b′ : List ℕ} {next : ℕ} {b″ : List ℕ} {end : ℕ} (v : ℕ) (ts : List Target)
+    → Laid b at (bytes 2 v ++ bytes 2 (length ts)) b′ next → Laid b′ next (writeAll writeTarget ts) b″ end → at ≤ length b
+    → Laid b at (writeHyper (hyper v ts)) b″ end
+unfolding writeHyper
+hyper-laid v ts h m fits = then h m fits
+
+-- ---- the test of a transition's weight
+
+-- a weight is within a bound as a number exactly when it is as a value
+pub weight-within : (b : Bound) {w : ℕ} → w < infinite → meets b (meaning w) ≡ inside b w
+weight-within (Within k) {w} h = rw (meaning-finite {k = w} (omega arith))
+weight-within Unbounded {w} h = rw (meaning-finite {k = w} (omega arith))
+
+-- ---- a loop over transitions that lays in what one makes of each
+
+module _ (m : List ℕ) (n : ℕ) (one : Transition → List ℕ) where
+  -- the i transitions from p on can be read, they lead to states, and their bytes are left
+  pub record Filling (b : List ℕ) (at : ℕ) (whole b′ : List ℕ) (next p i : ℕ) : Type 0 where
+    pub readable : p + i * 8 ≤ length m
+    pub named : {u : Transition} → u ∈ items (transitionLayout m) i p → u .to < n
+    pub left : Left b at whole b′ next (writeAll one (items (transitionLayout m) i p))
+
+  pub filling-all : {first many shift : ℕ} → Reads m n first many shift → (b : List ℕ) (at p : ℕ) {whole : List ℕ} → whole ≡ writeAll one (transitionsFrom m n first many)
+      → at + length whole ≤ length b → p ≡ 13 + n * 4 + first * 8 → Filling b at whole b at p many
+  filling-all {first} {many} r b at p {whole} e fits is = rw is record {
+    readable = omega (arith, r .long);
+    named = r .named;
+    left = subst (Left b at whole b at) e (all-left b at whole fits);
+  }
+
+  module _ {b : List ℕ} {at : ℕ} {whole b′ : List ℕ} {next p i : ℕ} (f : Filling b at whole b′ next p i) where
+    pub filling-none : i ≡ 0 → Laid b at whole b′ next
+    unfolding items writeAll
+    filling-none e = none-left (rw e at (f .left))
+
+    module _ (h : 0 < i) where
+      here : items (transitionLayout m) i p ≡ transitionLayout m .item p ∷ items (transitionLayout m) (i - 1) (p + 8)
+      here = items-more (transitionLayout m) i p h
+
+      -- the next one can be read
+      pub next-readable : p + 8 ≤ length m
+      next-readable = omega (arith, f .readable)
+
+      -- and leads to a state
+      pub next-named : {v : ℕ} → v ≡ number 2 m (p + 6) → v < n
+      next-named e = rw e (f .named {u = transitionLayout m .item p} (rw here (List·Memᴰ·head refl)))
+
+      -- with its weight and the state that it leads to as they were read
+      module _ {w v : ℕ} (weight-is : w ≡ number 4 m (p + 2)) (to-is : v ≡ number 2 m (p + 6)) where
+        abbrev made : List ℕ
+        made = one (record { from = number 2 m p; weight = w; to = v })
+
+        parts : writeAll one (items (transitionLayout m) i p) ≡ made ++ writeAll one (items (transitionLayout m) (i - 1) (p + 8))
+        unfolding writeAll
+        parts = rw (weight-is, to-is) (ap (writeAll one) here)
+
+        -- what one makes of it fits
+        pub next-fits : (k : ℕ) → length made ≡ k → next + k ≤ length b′
+        next-fits k e = omega (arith, left-fits (f .left) made _ parts)
+
+        -- and once that is laid in, the others are left
+        pub next-filled : {b″ : List ℕ} {end : ℕ} → Laid b′ next made b″ end → Filling b at whole b″ end (p + 8) (i - 1)
+        next-filled l = record {
+          readable = omega (arith, f .readable);
+          named = λ {u} e. f .named {u = u} (rw here (List·Memᴰ·tail e));
+          left = left-then (f .left) made _ parts l;
+        }
+
+-- ---- the same, with nothing made of a transition beyond a bound
+
+-- what is made of a transition within the bound
+unfoldable pub near : Bound → (Transition → List ℕ) → Transition → List ℕ
+near limit one u = cond (inside limit (u .weight)) (one u) []
+
+module _ (m : List ℕ) (n : ℕ) (one : Transition → List ℕ) (limit : Bound) {b : List ℕ} {at : ℕ} {whole b′ : List ℕ} {next p i : ℕ}
+    (f : Filling m n (near limit one) b at whole b′ next p i) (h : 0 < i) {w v : ℕ} (weight-is : w ≡ number 4 m (p + 2))
+    (to-is : v ≡ number 2 m (p + 6)) (small : w < infinite) {test : Bool} (is : test ≡ meets limit (meaning w)) where
+  abbrev it : List ℕ
+  it = one (record { from = number 2 m p; weight = w; to = v })
+
+  bytes-are : {t : Bool} → test ≡ t → cond (inside limit w) it [] ≡ cond t it []
+  bytes-are e = ap (λ (t : Bool). cond t it []) (sym (weight-within limit small) ∙ sym is ∙ e)
+
+  pub near-fits : test ≡ true → (k : ℕ) → length it ≡ k → next + k ≤ length b′
+  unfolding near
+  near-fits e k l = next-fits m n (near limit one) f h weight-is to-is k (ap length (bytes-are e) ∙ l)
+
+  pub near-filled : test ≡ true → {b″ : List ℕ} {end : ℕ} → Laid b′ next it b″ end → Filling m n (near limit one) b at whole b″ end (p + 8) (i - 1)
+  unfolding near
+  near-filled e l = next-filled m n (near limit one) f h weight-is to-is (said l (sym (bytes-are e)) refl)
+
+  pub far-filled : test ≡ false → Filling m n (near limit one) b at whole b′ next (p + 8) (i - 1)
+  unfolding near
+  far-filled e = next-filled m n (near limit one) f h weight-is to-is (said (nothing b′ next) (sym (bytes-are e)) refl)

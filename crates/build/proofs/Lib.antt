@@ -1,0 +1,19 @@
+-- Laws of the builder.
+--     Holding    what accepted messages hold, by position
+--     Stride     records of one width by position
+--     Counting   a loop that counts the records that pass a test
+--     Ranges     with transitions in order, where each state's stand
+--     Accepted   what accepted messages say of the model and the rows that they hold
+--     Untils     rows that are no until
+--     Sizes      how much room hyperedges take, of a row and of all
+--     Whole      the size of a graph that is built, and of its message
+--     Edges      edges laid into the room one after another, and the loops over transitions that do so
+pub mod Holding
+pub mod Stride
+pub mod Counting
+pub mod Ranges
+pub mod Accepted
+pub mod Untils
+pub mod Sizes
+pub mod Whole
+pub mod Edges

@@ -1,0 +1,181 @@
+-- With transitions in order, those of a state are the ones at the front, once those of the states before it are passed.
+-- Assumes nothing.
+use Prim.Native.Nat.{ℕ, suc, _+_, _*_, _-_, _<_, _≤_}
+use mathlib.Core.List.{List, [], _∷_, map}
+use mathlib.Core.Bool.{true, false}
+use mathlib.Core.Path.{_≡_, refl, sym, ap, _∙_}
+use native.Mathlib.Numerals.{add-one}
+use native.Mathlib.Omega.{arith}
+use lib.ListN.{length, getD, set, take, drop}
+use lib.Seq.{getD-set-same, getD-set-other}
+use lib.Dec.{eqb}
+use borrow.Author.Tests.{eqb-true, eqb-false, eq-eqb, ne-eqb}
+use Rattle.lists.specs.Making.{keep}
+use Rattle.lists.specs.Order.{RisingFrom}
+use Rattle.lists.proofs.Tests.{by-test}
+use Rattle.wire.specs.Bytes.{number}
+use Rattle.wire.specs.Layout.{items}
+use Rattle.wire.proofs.Layouts.{items-more}
+use Rattle.model.specs.Model.{Transition}
+use Rattle.build.specs.Held.{transitionLayout, transitionsFrom, leading, Starts, Own}
+use Rattle.build.proofs.Stride.{items-length, items-take, items-drop}
+
+-- the transitions of a state
+abbrev pub of : ℕ → List Transition → List Transition
+of a us = keep (λ u. eqb (u .from) a) us
+
+-- no `from` is below a, nor below the one before it
+abbrev pub RiseFrom : ℕ → List Transition → Type 0
+RiseFrom a us = RisingFrom a (map (λ u. u .from) us)
+
+rise-from : {a b : ℕ} (us : List Transition) → b ≤ a → RiseFrom a us → RiseFrom b us
+unfolding RisingFrom
+rise-from [] h r = tt
+rise-from (u ∷ us) h r = (omega (arith, r .0), r .1)
+
+-- once a `from` is above a, no transition leaves a
+none-of : (a k : ℕ) (us : List Transition) → a < k → RiseFrom k us → of a us ≡ []
+unfolding keep RisingFrom
+none-of a k [] h r = refl
+none-of a k (u ∷ us) h r = rw (ne-eqb (u .from) a (omega (arith, r .0))) (none-of a (u .from) us (omega (arith, r .0)) (r .1))
+
+pub leading-le : (a : ℕ) (us : List Transition) → leading a us ≤ length us
+unfolding leading
+leading-le a [] = omega arith
+leading-le a (u ∷ us) = let h = leading-le a us in by-test (eqb (u .from) a) (λ e. rw e (omega arith)) (λ e. rw e (omega arith))
+
+-- those at the front are the state's
+pub leading-are : (a : ℕ) (us : List Transition) → RiseFrom a us → of a us ≡ take (leading a us) us
+unfolding leading keep RisingFrom
+leading-are a [] r = refl
+leading-are a (u ∷ us) r =
+    by-test (eqb (u .from) a)
+    (λ e. let same = eqb-true (u .from) a e in
+    let more : 1 + leading a us ≡ suc (leading a us) = omega arith in
+    rw (e, more) (ap (λ l. u ∷ l) (leading-are a us (rise-from us (omega arith) (r .1)))))
+    (λ e. rw e (none-of a (u .from) us (omega (arith, r .0, eqb-false)) (r .1)))
+
+-- and behind them every `from` is above it
+pub leading-past : (a : ℕ) (us : List Transition) → RiseFrom a us → RiseFrom (a + 1) (drop (leading a us) us)
+unfolding leading RisingFrom
+leading-past a [] r = tt
+leading-past a (u ∷ us) r =
+    by-test (eqb (u .from) a)
+    (λ e. let same = eqb-true (u .from) a e in
+    let more : 1 + leading a us ≡ suc (leading a us) = omega arith in
+    rw (e, more) (leading-past a us (rise-from us (omega arith) (r .1))))
+    (λ e. rw e (omega (arith, r .0, eqb-false), r .1))
+
+-- passing them loses nothing of another state
+pub leading-other : (a c : ℕ) (us : List Transition) → ¬ (a ≡ c) → of c us ≡ of c (drop (leading a us) us)
+unfolding leading keep
+leading-other a c [] h = refl
+leading-other a c (u ∷ us) h =
+    by-test (eqb (u .from) a)
+    (λ e. let same = eqb-true (u .from) a e in
+    let more : 1 + leading a us ≡ suc (leading a us) = omega arith in
+    rw (e, more, ne-eqb (u .from) c (omega arith)) (leading-other a c us h))
+    (λ e. rw e)
+
+-- ---- a loop over the transitions from one on
+
+module _ (m : List ℕ) (n t a i : ℕ) (h : i < t) where
+  here : transitionsFrom m n i (t - i) ≡ transitionLayout m .item (13 + n * 4 + i * 8) ∷ transitionsFrom m n (i + 1) (t - (i + 1))
+  here =
+      let left : t - i - 1 ≡ t - (i + 1) = omega arith in
+      let next : 13 + n * 4 + i * 8 + 8 ≡ 13 + n * 4 + (i + 1) * 8 = omega arith in
+      items-more (transitionLayout m) (t - i) (13 + n * 4 + i * 8) (omega arith) ∙ rw (left, next)
+
+  -- one more that leaves state a, and one that doesn't
+  pub leading-more : number 2 m (13 + n * 4 + i * 8) ≡ a → leading a (transitionsFrom m n i (t - i)) ≡ 1 + leading a (transitionsFrom m n (i + 1) (t - (i + 1)))
+  unfolding leading
+  leading-more e = ap (leading a) here ∙ rw (eq-eqb (number 2 m (13 + n * 4 + i * 8)) a e)
+
+  pub leading-stop : ¬ (number 2 m (13 + n * 4 + i * 8) ≡ a) → leading a (transitionsFrom m n i (t - i)) ≡ 0
+  unfolding leading
+  leading-stop e = ap (leading a) here ∙ rw (ne-eqb (number 2 m (13 + n * 4 + i * 8)) a e)
+
+pub leading-none : (m : List ℕ) (n t a i : ℕ) → t ≤ i → leading a (transitionsFrom m n i (t - i)) ≡ 0
+unfolding leading items
+leading-none m n t a i h = let none : t - i ≡ 0 = omega arith in rw none
+
+-- ---- a table of where each state's transitions start
+
+-- it stands for the states below a, and the transitions from the first on are those of the others
+pub record Found (m : List ℕ) (n t a first : ℕ) (table : List ℕ) : Type 0 where
+  pub last : getD table a 0 ≡ first
+  pub inside : (c : ℕ) → c ≤ a → getD table c 0 ≤ t
+  pub rising : (c : ℕ) → c < a → getD table c 0 ≤ getD table (suc c) 0
+  pub each : (c : ℕ) → c < a → of c (transitionsFrom m n 0 t) ≡ transitionsFrom m n (getD table c 0) (getD table (suc c) 0 - getD table c 0)
+  pub rest : RiseFrom a (transitionsFrom m n first (t - first))
+  pub others : (c : ℕ) → a ≤ c → of c (transitionsFrom m n 0 t) ≡ of c (transitionsFrom m n first (t - first))
+
+pub found-none : (m : List ℕ) (n t : ℕ) (table : List ℕ) → getD table 0 0 ≡ 0 → RiseFrom 0 (transitionsFrom m n 0 t) → Found m n t 0 0 table
+found-none m n t table e r =
+    let all : t - 0 ≡ t = omega arith in
+    record {
+      last = e;
+      inside = λ c h. let zero : c ≡ 0 = omega arith in rw (zero, e) (omega arith);
+      rising = λ c h. absurd (omega arith);
+      each = λ c h. absurd (omega arith);
+      rest = rw all r;
+      others = λ c h. rw all;
+    }
+
+-- by whether a number is the last
+by-last : {C : Type 0} (c a : ℕ) → c < a + 1 → (c < a → C) → (c ≡ a → C) → C
+by-last c a h f g = by-test (eqb c a) (λ e. g (eqb-true c a e)) (λ e. f (omega (arith, eqb-false)))
+
+module _ {m : List ℕ} {n t a first : ℕ} {table : List ℕ} (f : Found m n t a first table) (next : ℕ) (room : a + 1 < length table)
+    (low : first ≤ t) (is : next ≡ first + leading a (transitionsFrom m n first (t - first))) where
+  abbrev many : ℕ
+  many = leading a (transitionsFrom m n first (t - first))
+
+  few : many ≤ t - first
+  few = omega (arith, leading-le a (transitionsFrom m n first (t - first)), items-length (transitionLayout m) (t - first) (13 + n * 4 + first * 8))
+
+  -- the entries of the table
+  newest : getD (set table (a + 1) next) (a + 1) 0 ≡ next
+  newest = getD-set-same table (a + 1) next 0 room
+
+  older : (c : ℕ) → c < a + 1 → getD (set table (a + 1) next) c 0 ≡ getD table c 0
+  older c h = getD-set-other table (a + 1) c next 0 (omega arith)
+
+  -- the transitions at the front, and those behind
+  front : take many (transitionsFrom m n first (t - first)) ≡ transitionsFrom m n first many
+  front = items-take (transitionLayout m) 8 (λ at. refl) many (t - first) (13 + n * 4 + first * 8) few
+
+  behind : drop many (transitionsFrom m n first (t - first)) ≡ transitionsFrom m n next (t - next)
+  behind =
+      let left : t - first - many ≡ t - next = omega arith in
+      let place : 13 + n * 4 + first * 8 + many * 8 ≡ 13 + n * 4 + next * 8 = omega arith in
+      items-drop (transitionLayout m) 8 (λ at. refl) many (t - first) (13 + n * 4 + first * 8) few ∙ rw (left, place)
+
+  pub found-next : Found m n t (a + 1) next (set table (a + 1) next)
+  found-next = record {
+    last = newest;
+    inside = λ c h. by-last c (a + 1) (omega arith) (λ l. rw (older c l) (f .inside c (omega arith))) (λ e. rw (e, newest) (omega (arith, few)));
+    rising = λ c h. by-last c a h
+        (λ l. rw (older c h, older (suc c) (omega arith)) (f .rising c l))
+        (λ e. let past : suc c ≡ a + 1 = omega arith in rw (older c h, past, newest, e, f .last) (omega arith));
+    each = λ c h. by-last c a h
+        (λ l. rw (older c h, older (suc c) (omega arith)) (f .each c l))
+        (λ e. let past : suc c ≡ a + 1 = omega arith in
+        let width : next - first ≡ many = omega arith in
+        rw (older c h, past, newest, e, f .last, width)
+        (f .others a (omega arith) ∙ leading-are a (transitionsFrom m n first (t - first)) (f .rest) ∙ front));
+    rest = rw behind at (leading-past a (transitionsFrom m n first (t - first)) (f .rest));
+    others = λ c h. f .others c (omega arith) ∙ leading-other a c (transitionsFrom m n first (t - first)) (omega arith) ∙ ap (of c) behind;
+  }
+
+pub found-all : {m : List ℕ} {n t first : ℕ} {table : List ℕ} → Found m n t n first table → Starts m n t table
+found-all f = record { inside = f .inside; rising = f .rising; each = f .each }
+
+-- what the table says of a state
+pub starts-own : {m : List ℕ} {n t : ℕ} {table : List ℕ} → Starts m n t table → (a : ℕ) → a < n
+    → Own m n t a (getD table a 0) (getD table (a + 1) 0 - getD table a 0)
+starts-own {m} {n} {t} {table} s a h = record {
+  state = h;
+  inside = rw add-one (omega (arith, s .inside (suc a) h, s .inside a (omega arith)));
+  are = rw add-one (s .each a h);
+}

@@ -1,0 +1,67 @@
+-- Records of one width by position: how many, the end, one by its index, the first so many and the rest. Assumes nothing.
+use Prim.Native.Nat.{ℕ, zero, suc, _+_, _*_, _-_, _<_, _≤_}
+use mathlib.Core.List.{List, [], _∷_, _++_, List·Memᴰ·head, List·Memᴰ·tail}
+use mathlib.Core.Path.{_≡_, refl, sym, ap, subst, _∙_}
+use native.Mathlib.Nat.{not-suc-le-zero, suc-add, zero-add, add-zero}
+use native.Mathlib.Omega.{arith}
+use lib.ListN.{length, getD, take, drop}
+use lib.Seq.{take-at, drop-at}
+use Rattle.lists.specs.Lists.{_∈_}
+use Rattle.wire.specs.Layout.{Layout, items, end}
+
+-- as many as were asked for
+pub items-length : {A : Type 0} (L : Layout A) (k at : ℕ) → length (items L k at) ≡ k
+unfolding items
+items-length L zero at = refl
+items-length L (suc k) at = ap suc (items-length L k (L .next at))
+
+-- each record is w long
+module _ {A : Type 0} (L : Layout A) (w : ℕ) (wide : (at : ℕ) → L .next at ≡ at + w) where
+  pub end-is : (k at : ℕ) → end L k at ≡ at + k * w
+  unfolding end
+  end-is zero at = omega arith
+  end-is (suc k) at = rw wide (end-is k (at + w) ∙ omega arith)
+
+  pub items-append : (i k at : ℕ) → items L (i + k) at ≡ items L i at ++ items L k (at + i * w)
+  unfolding items
+  items-append zero k at = let here : at + 0 * w ≡ at = omega arith in rw (zero-add, here)
+  items-append (suc i) k at =
+      let there : at + w + i * w ≡ at + suc i * w = omega arith in
+      rw (suc-add, wide, items-append i k (at + w), there)
+
+  pub items-at : (d : A) (k at i : ℕ) → i < k → getD (items L k at) i d ≡ L .item (at + i * w)
+  unfolding items
+  items-at d zero at i h = absurd (not-suc-le-zero h)
+  items-at d (suc k) at zero h = let here : at + 0 * w ≡ at = omega arith in rw here
+  items-at d (suc k) at (suc i) h =
+      let there : at + w + i * w ≡ at + suc i * w = omega arith in
+      rw (wide, items-at d k (at + w) i (omega arith), there)
+
+  pub item-∈ : (k at i : ℕ) → i < k → L .item (at + i * w) ∈ items L k at
+  unfolding items
+  item-∈ zero at i h = absurd (not-suc-le-zero h)
+  item-∈ (suc k) at zero h = let here : at + 0 * w ≡ at = omega arith in List·Memᴰ·head (ap (L .item) here)
+  item-∈ (suc k) at (suc i) h =
+      let there : at + suc i * w ≡ at + w + i * w = omega arith in
+      let m : L .item (at + suc i * w) ∈ items L k (L .next at) = rw (wide, there) (item-∈ k (at + w) i (omega arith)) in
+      List·Memᴰ·tail m
+
+  pub ∈-item : {a : A} (k at : ℕ) → a ∈ items L k at → (i : ℕ) × (i < k) × (a ≡ L .item (at + i * w))
+  unfolding items
+  ∈-item zero at m = elim m [ ]
+  ∈-item (suc k) at (List·Memᴰ·head e) = let here : at + 0 * w ≡ at = omega arith in (0, omega arith, rw here e)
+  ∈-item (suc k) at (List·Memᴰ·tail m) =
+      let (i, h, e) = ∈-item k (at + w) (rw wide at m) in
+      let there : at + suc i * w ≡ at + w + i * w = omega arith in
+      (suc i, omega arith, rw there e)
+
+  -- the first so many, and the rest
+  pub items-take : (i k at : ℕ) → i ≤ k → take i (items L k at) ≡ items L i at
+  items-take i k at h =
+      let parts : k ≡ i + (k - i) = omega arith in
+      ap (λ (j : ℕ). take i (items L j at)) parts ∙ ap (take i) (items-append i (k - i) at) ∙ take-at (items L i at) _ i (items-length L i at)
+
+  pub items-drop : (i k at : ℕ) → i ≤ k → drop i (items L k at) ≡ items L (k - i) (at + i * w)
+  items-drop i k at h =
+      let parts : k ≡ i + (k - i) = omega arith in
+      ap (λ (j : ℕ). drop i (items L j at)) parts ∙ ap (drop i) (items-append i (k - i) at) ∙ drop-at (items L i at) _ i (items-length L i at)

@@ -1,0 +1,38 @@
+-- Rows that are no until, by their tag. Assumes nothing.
+use Prim.Native.Nat.{ℕ}
+use mathlib.Core.List.{List, [], _∷_}
+use mathlib.Core.Bool.{true, false}
+use mathlib.Core.Path.{_≡_, refl}
+use denote.Enum.Declared.{tagOf, declared}
+use types.Run.{OneOf, miss}
+use Rattle.lists.proofs.Tests.{clash}
+use Rattle.value.specs.declared.Bound.{Bound}
+use Rattle.formula.specs.declared.Quantifier.{Quantifier}
+use Rattle.formula.specs.declared.Row.{Row}
+use Rattle.formula.specs.declared.Row.the-variants.{True, False, Proposition, Negation, And, Or, Next, Until}
+use Rattle.formula.proofs.Row.{enum}
+use Rattle.reduction.specs.Built.{ifUntil, isUntil}
+
+pub other-row : {X : Type 0} (row : Row) (f : Quantifier → ℕ → ℕ → Bound → X) (x : X) → isUntil row ≡ false → ifUntil row f x ≡ x
+other-row True f x e = refl
+other-row False f x e = refl
+other-row (Proposition i) f x e = refl
+other-row (Negation i) f x e = refl
+other-row (And l r) f x e = refl
+other-row (Or l r) f x e = refl
+other-row (Next q l b) f x e = refl
+other-row (Until q l r b) f x e = clash refl e
+
+-- the tags of the others, and what a match knows in their arm
+abbrev pub others : List ℕ
+others = 0 ∷ 1 ∷ 2 ∷ 3 ∷ 4 ∷ 5 ∷ 6 ∷ []
+
+pub other-tag : (row : Row) → OneOf others (tagOf (declared enum) row) → isUntil row ≡ false
+other-tag True e = refl
+other-tag False e = refl
+other-tag (Proposition i) e = refl
+other-tag (Negation i) e = refl
+other-tag (And l r) e = refl
+other-tag (Or l r) e = refl
+other-tag (Next q l b) e = refl
+other-tag (Until q l r b) e = absurd (miss others 7 tt e)

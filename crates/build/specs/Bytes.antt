@@ -1,0 +1,93 @@
+-- The bytes of a graph's parts as the builder writes them.
+use Prim.Native.Nat.{ℕ, suc, _+_, _*_, _≤_, _<_}
+use mathlib.Core.List.{List, [], _∷_, _++_, map}
+use lib.ListN.{length}
+use Rattle.lists.specs.Lists.{_∈_}
+use Rattle.lists.specs.Making.{keep, span}
+use Rattle.value.specs.declared.Bound.{Bound}
+use Rattle.value.specs.Value.{inside}
+use Rattle.wire.specs.Bytes.{bytes}
+use Rattle.wire.specs.Write.{writeAll}
+use Rattle.graph.specs.Write.{writeHyper, writeCover}
+use Rattle.rules.specs.Graph.{Target}
+use Rattle.model.specs.Model.{Model, Transition}
+use Rattle.formula.specs.declared.Quantifier.{Quantifier}
+use Rattle.formula.specs.declared.Quantifier.the-variants.{Some, Every}
+use Rattle.formula.specs.declared.Row.{Row}
+use Rattle.formula.specs.Rows.{operands}
+use Rattle.reduction.specs.Built.{to, hyper, cover, Limit, out, rowEdges, stepEdges, helperEdges, ifUntil, layout}
+
+-- the hyperedges of node v with these target lists
+abbrev pub hypersBytes : ℕ → List (List Target) → List ℕ
+hypersBytes v tss = writeAll writeHyper (map (hyper v) tss)
+
+-- the cover edges of node v
+abbrev pub coversBytes : ℕ → List Limit → List ℕ
+coversBytes v cs = writeAll writeCover (map (cover v) cs)
+
+-- what a row makes of a list of transitions, with the nodes of its operand or helper that far behind the states
+abbrev pub someNext : List Transition → Bound → ℕ → List (List Target)
+someNext us b shift = map (λ u. to 0 (u .to + shift) ∷ []) (keep (λ u. inside b (u .weight)) us)
+
+abbrev pub everyNext : List Transition → Bound → ℕ → List Target
+everyNext us b shift = map (λ u. to 0 (u .to + shift)) (keep (λ u. inside b (u .weight)) us)
+
+abbrev pub someSteps : List Transition → ℕ → ℕ → List (List Target)
+someSteps us left shift = map (λ u. to 0 left ∷ to (u .weight) (u .to + shift) ∷ []) us
+
+abbrev pub everySteps : List Transition → ℕ → List Target
+everySteps us shift = map (λ u. to (u .weight) (u .to + shift)) us
+
+-- EX or AX over a list of transitions
+abbrev pub nextEdges : Quantifier → List Transition → Bound → ℕ → List (List Target)
+nextEdges Some us b shift = someNext us b shift
+nextEdges Every us b shift = everyNext us b shift ∷ []
+
+-- the helper of state a at place h over a list of transitions: first {right at weight 0}
+abbrev pub helperList : (n a : ℕ) → Quantifier → (l r h : ℕ) → List Transition → List (List Target)
+helperList n a Some l r h us = (to 0 (a + n * r) ∷ []) ∷ someSteps us (a + n * l) (n * h)
+helperList n a Every l r h us = (to 0 (a + n * r) ∷ []) ∷ (to 0 (a + n * l) ∷ everySteps us (n * h)) ∷ []
+
+-- a row's nodes, all rows' nodes from place r on, an until row's helpers, all helpers
+unfoldable pub rowBytes : Model → ℕ → Row → List ℕ
+rowBytes M r row = writeAll writeHyper (span (λ a. map (hyper (a + M .states * r)) (rowEdges M row a)) 0 (M .states))
+
+unfoldable pub rowsBytes : Model → ℕ → List Row → List ℕ
+rowsBytes M r rows = writeAll writeHyper (layout hyper (M .states) (λ row r a. rowEdges M row a) r rows)
+
+unfoldable pub helperBytes : Model → ℕ → Quantifier → ℕ → ℕ → List ℕ
+helperBytes M h q l r =
+    writeAll writeHyper (span (λ a. map (hyper (a + M .states * h)) ((to 0 (a + M .states * r) ∷ []) ∷ stepEdges M q l h a)) 0 (M .states))
+
+unfoldable pub helpersBytes : Model → ℕ → List Row → List ℕ
+helpersBytes M h us = writeAll writeHyper (layout hyper (M .states) (helperEdges M) h us)
+
+-- the cover edges of an until row's nodes, and of all rows'
+unfoldable pub coverBytes : (n r h : ℕ) → Bound → List ℕ
+coverBytes n r h b = writeAll writeCover (span (λ a. record { source = a + n * r; bound = b; target = a + n * h } ∷ []) 0 n)
+
+unfoldable pub coversFrom : (n r h : ℕ) → List Row → List ℕ
+coversFrom n r h [] = []
+coversFrom n r h (row ∷ rows) = ifUntil row (λ q l k b. coverBytes n r h b ++ coversFrom n (suc r) (suc h) rows) (coversFrom n (suc r) h rows)
+
+abbrev pub coversOf : ℕ → List Row → List ℕ
+coversOf n rows = coversFrom n 0 (length rows) rows
+
+-- the header of a graph message
+abbrev pub headerBytes : (long n h c : ℕ) → List ℕ
+headerBytes long n h c = bytes 4 long ++ bytes 1 1 ++ bytes 1 1 ++ bytes 2 n ++ bytes 4 h ++ bytes 2 c
+
+-- the node numbers of a row at place r and of its operands fit 2 bytes
+pub record RowFits (n r : ℕ) (row : Row) : Type 0 where
+  pub node : n * r + n ≤ 4096
+  pub operands : {l : ℕ} → l ∈ operands row → l < r
+
+-- no state has so many transitions that the helper of an A until would pass the limit of one hyperedge
+abbrev pub Narrow : Model → Type 0
+Narrow M = (a : ℕ) → a < M .states → length (out M a) < 65535
+
+-- the node numbers of the helpers of these until rows, from place h on, fit 2 bytes, and their operands stand before them
+pub record HelpersFit (M : Model) (h : ℕ) (us : List Row) : Type 0 where
+  pub node : M .states * (h + length us) ≤ 4096
+  pub operands : {row : Row} {l : ℕ} → row ∈ us → l ∈ operands row → l < h
+  pub narrow : Narrow M

@@ -1,0 +1,108 @@
+-- A question that stands: what building its graph and settling it gives is what the definitions say. Assumes nothing.
+use Prim.Native.Nat.{ℕ, _+_, _*_, _-_, _≤_, min}
+use mathlib.Core.List.{List, _++_}
+use mathlib.Core.Bool.{Bool, true, false, cond, _&&_}
+use mathlib.Core.Path.{_≡_, refl, sym, ap, subst, _∙_}
+use lib.ListN.{length, take, drop}
+use lib.Seq.{take-at}
+use lib.Dec.{leb, ltb}
+use borrow.Author.Tests.{leb-true, leb-false, le-leb, lt-leb, le-ltb}
+use native.Mathlib.Omega.{arith}
+use Rattle.lists.proofs.Tests.{by, and-left, and-right}
+use Rattle.refusal.specs.declared.Refusal.{Refusal}
+use Rattle.refusal.specs.declared.Refusal.the-variants.{Room, Size}
+use Rattle.wire.specs.Read.{good}
+use Rattle.rules.specs.Graph.{Graph}
+use Rattle.rules.specs.Count.{count}
+use Rattle.graph.specs.Message.{readGraph}
+use Rattle.graph.specs.Write.{writeGraph}
+use Rattle.rounds.specs.declared.Outcome.{Outcome}
+use Rattle.rounds.specs.declared.Outcome.the-variants as Outcome
+use Rattle.rounds.specs.Outcome as rounds
+use Rattle.build.specs.declared.Built.{Built}
+use Rattle.build.specs.declared.Built.the-variants as Built
+use Rattle.build.specs.Built.{fits, roomy, builtOf, roomOf}
+use Rattle.verdict.specs.declared.Settled.{Settled}
+use Rattle.verdict.specs.declared.Settled.the-variants as Settled
+use Rattle.verdict.specs.Question.{Question, graphFor, rootNode}
+use Rattle.verdict.specs.Answer.{settledFor, bytesFor, valuesFor}
+
+-- a graph that was built passes no limit, and both rooms are large enough
+pub record WasBuilt (g : Graph) (b : List ℕ) (n long : ℕ) : Type 0 where
+  pub fitting : fits g ≡ true
+  pub room : roomy g b n ≡ true
+  pub long-is : long ≡ length (writeGraph g)
+
+pub was-built : (g : Graph) (b : List ℕ) (n : ℕ) {long : ℕ} → builtOf g b n ≡ Built.Graph long → WasBuilt g b n long
+unfolding builtOf
+was-built g b n {long} e = go (fits g) (roomy g b n) refl refl e
+  where
+    go : (t u : Bool) → fits g ≡ t → roomy g b n ≡ u
+        → cond t (cond u (Built.Graph (length (writeGraph g))) (Built.Refused Room)) (Built.Refused Size) ≡ Built.Graph long → WasBuilt g b n long
+    go true true p q z = record { fitting = p; room = q; long-is = cc }
+    go true false p q z = let w : _≡_ {A = ℕ} 0 1 = cc in absurd (omega arith)
+    go false u p q z = let w : _≡_ {A = ℕ} 0 1 = cc in absurd (omega arith)
+
+module _ (q : Question) (budget : ℕ) (b v : List ℕ) where
+  -- what is shown of settling a question
+  abbrev pub Shows : Settled → List ℕ → List ℕ → Type 0
+  Shows r b′ v′ = (r ≡ settledFor q budget b v) × ((b′ ≡ bytesFor q b v) × (v′ ≡ valuesFor q budget b v))
+
+  -- the graph was refused
+  pub shows-refused : {e : Refusal} {b′ : List ℕ} → builtOf (graphFor q) b (length v) ≡ Built.Refused e → b′ ≡ roomOf (graphFor q) b (length v)
+      → Shows (Settled.Refused e) b′ v
+  unfolding builtOf roomOf settledFor bytesFor valuesFor
+  shows-refused {e} {b′} h r = go (fits (graphFor q)) (roomy (graphFor q) b (length v)) h r
+    where
+      w : List ℕ
+      w = writeGraph (graphFor q)
+
+      done : Settled
+      done = cond (leb (count (graphFor q)) budget) (Settled.Done (count (graphFor q)) (length w) (rootNode q 0) (q .model .states)) (Settled.Spent budget (length w))
+
+      go : (t u : Bool) → cond t (cond u (Built.Graph (length w)) (Built.Refused Room)) (Built.Refused Size) ≡ Built.Refused e
+          → b′ ≡ cond t (cond u (w ++ drop (length w) b) b) b
+          → (Settled.Refused e ≡ cond t (cond u done (Settled.Refused Room)) (Settled.Refused Size))
+          × ((b′ ≡ cond t (cond u (w ++ drop (length w) b) b) b)
+          × (v ≡ cond t (cond u (rounds.filled (graphFor q) (min (count (graphFor q)) budget) v) v) v))
+      go true true z r = let k : _≡_ {A = ℕ} 0 1 = cc in absurd (omega arith)
+      go true false z r = let k : e ≡ Room = cc in (ap Settled.Refused k, (r, refl))
+      go false u z r = let k : e ≡ Size = cc in (ap Settled.Refused k, (r, refl))
+
+  -- the graph was built, and the rounds on its message ended
+  module _ (reads : readGraph (writeGraph (graphFor q)) ≡ good (graphFor q)) {long : ℕ} (built : WasBuilt (graphFor q) b (length v) long) where
+    -- the front of the room is the message
+    pub front : {b′ : List ℕ} → b′ ≡ roomOf (graphFor q) b (length v) → take long b′ ≡ writeGraph (graphFor q)
+    unfolding roomOf
+    front r = rw (r, built .fitting, built .room, built .long-is) (take-at (writeGraph (graphFor q)) _ _ refl)
+
+    long-room : graphFor q .nodes + graphFor q .nodes ≤ length v
+    unfolding roomy
+    long-room = leb-true _ _ (and-right (leb (length (writeGraph (graphFor q))) (length b)) _ (built .room))
+
+    -- the outcome is that of the rounds on the graph
+    outcome-is : (s : List ℕ) → s ≡ writeGraph (graphFor q) → rounds.outcomeOf (readGraph s) budget v ≡ rounds.ended (graphFor q) budget
+    unfolding rounds.outcomeOf rounds.outcomeOn
+    outcome-is s e = rw (e, reads, le-ltb (length v) _ long-room)
+
+    room-is : (s : List ℕ) → s ≡ writeGraph (graphFor q) → rounds.roomOf (readGraph s) budget v ≡ rounds.filled (graphFor q) (min (count (graphFor q)) budget) v
+    unfolding rounds.roomOf rounds.roomOn
+    room-is s e = rw (e, reads, le-ltb (length v) _ long-room)
+
+    -- how an outcome of the rounds is passed on
+    abbrev pub passed : Outcome → Settled
+    passed (Outcome.Settled m) = Settled.Done m long (rootNode q 0) (q .model .states)
+    passed (Outcome.Spent m) = Settled.Spent m long
+    passed (Outcome.Refused e) = Settled.Refused e
+
+    pub shows-ran : (s b′ v′ : List ℕ) (r : Outcome) → s ≡ writeGraph (graphFor q) → b′ ≡ roomOf (graphFor q) b (length v)
+        → r ≡ rounds.outcomeOf (readGraph s) budget v → v′ ≡ rounds.roomOf (readGraph s) budget v → Shows (passed r) b′ v′
+    unfolding settledFor bytesFor valuesFor roomOf rounds.ended
+    shows-ran s b′ v′ r e rb ro rv =
+        rw (built .fitting, built .room)
+        (ap passed (ro ∙ outcome-is s e) ∙ go (leb (count (graphFor q)) budget), (rb ∙ rw (built .fitting, built .room), rv ∙ room-is s e))
+      where
+        go : (t : Bool) → passed (cond t (Outcome.Settled (count (graphFor q))) (Outcome.Spent budget))
+            ≡ cond t (Settled.Done (count (graphFor q)) (length (writeGraph (graphFor q))) (rootNode q 0) (q .model .states)) (Settled.Spent budget (length (writeGraph (graphFor q))))
+        go true = ap (λ (k : ℕ). Settled.Done (count (graphFor q)) k (rootNode q 0) (q .model .states)) (built .long-is)
+        go false = ap (Settled.Spent budget) (built .long-is)

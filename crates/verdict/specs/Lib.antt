@@ -1,0 +1,4 @@
+pub mod Question
+pub mod Answer
+pub mod Promise
+pub mod Asking

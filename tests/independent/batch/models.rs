@@ -1,0 +1,107 @@
+//! The systematic part for model messages: M.
+
+use super::sweep;
+use crate::answer::Call;
+use crate::bytes::{self, Model};
+use crate::known::{self, model};
+use crate::message::{self, Message};
+
+pub fn calls() -> Vec<Call> {
+    let parts = [refusals(), labels(), dead_states(), large()];
+    let messages: Vec<Vec<u8>> = parts.into_iter().flatten().collect();
+    messages
+        .iter()
+        .map(|message| Call::model(message))
+        .collect()
+}
+
+/// A model with a state of several transitions and two propositions.
+pub fn base() -> Message {
+    let steps = [(0, 3, 0), (0, 2, 1), (1, 0, 2), (2, 1, 1), (2, 1, 1)];
+    message::model(&model(2, &[1, 3, 2], &steps))
+}
+
+pub fn field_changes() -> Vec<Vec<u8>> {
+    sweep::fields(&base(), &|bytes| bytes::model(bytes).err())
+}
+
+/// Every field, every two faults, every cut, every byte and every record of a model.
+fn refusals() -> Vec<Vec<u8>> {
+    let base = base();
+    let judged = |bytes: &[u8]| bytes::model(bytes).err();
+    let parts = [
+        vec![base.bytes.clone(), message::model(&known::model_m()).bytes],
+        field_changes(),
+        sweep::lengths(&base),
+        sweep::bytes(&base),
+        sweep::records(&base),
+        sweep::pairs(&base, &judged),
+    ];
+    parts.into_iter().flatten().collect()
+}
+
+/// "Label: a bit at p or above is FORM.", for each p and the bits on both sides.
+fn labels() -> Vec<Vec<u8>> {
+    let mut messages = vec![];
+    for p in 0..=32 {
+        for bit in [p as i32 - 1, p as i32, 31]
+            .into_iter()
+            .filter(|bit| (0..32).contains(bit))
+        {
+            messages.push(message::model(&model(p, &[1 << bit], &[(0, 0, 0)])).bytes);
+        }
+    }
+    let all_below = |p: u32| ((1u64 << p) - 1) as u32;
+    let full = |p: u32| message::model(&model(p, &[all_below(p)], &[(0, 0, 0)])).bytes;
+    messages.extend([0, 1, 31, 32].map(full));
+    messages
+}
+
+/// "7 DEAD: a state with no transition": each state in turn, all, and all but one.
+fn dead_states() -> Vec<Vec<u8>> {
+    let ring = |states: usize, dead: &dyn Fn(usize) -> bool| {
+        let alive = (0..states).filter(|state| !dead(*state));
+        let steps: Vec<(usize, u32, usize)> = alive
+            .map(|state| (state, 1, (state + 1) % states))
+            .collect();
+        message::model(&model(0, &vec![0; states], &steps)).bytes
+    };
+    let mut messages: Vec<Vec<u8>> = (0..5).map(|dead| ring(5, &|state| state == dead)).collect();
+    messages.extend((0..5).map(|alive| ring(5, &|state| state != alive)));
+    messages.extend([
+        ring(1, &|_| false),
+        ring(1, &|_| true),
+        ring(5, &|_| true),
+        ring(5, &|_| false),
+    ]);
+    messages
+}
+
+/// So many states, and transitions from each in turn until there are so many.
+pub fn full(states: usize, transitions: usize) -> Model {
+    let step = |index: usize| {
+        let from = index * states / transitions;
+        (from, index as u32 % 5, (from + 1 + index % 3) % states)
+    };
+    let labels: Vec<u32> = (0..states as u32).map(|state| state % 4).collect();
+    model(2, &labels, &(0..transitions).map(step).collect::<Vec<_>>())
+}
+
+/// Models at the limits of the table, as far as 65,536 bytes can hold them.
+fn large() -> Vec<Vec<u8>> {
+    let written = |model: Model| message::model(&model).bytes;
+    let mut last_dead = full(256, 255);
+    last_dead
+        .transitions
+        .iter_mut()
+        .enumerate()
+        .for_each(|(index, step)| step.from = index);
+    vec![
+        written(full(255, 255)),
+        written(full(256, 256)),
+        written(full(257, 257)),
+        written(last_dead),
+        written(full(256, 8_062)),
+        vec![0; 65_536],
+    ]
+}

@@ -1,0 +1,418 @@
+//! The systematic part for verdicts: V.
+
+use super::formulas::{self, nested, tower};
+use super::generate::EXTREMES;
+use super::models;
+use crate::answer::{Call, MOST_BYTES, MOST_VALUES};
+use crate::build;
+use crate::bytes::{self, bound_of, Bound, Formula, Model, Row, Runs};
+use crate::known::{self, model};
+use crate::message;
+use crate::rounds;
+use crate::verdict::Question;
+
+pub fn calls() -> Vec<Call> {
+    let parts = [
+        known_questions(),
+        operators(),
+        extremes(),
+        refusals(),
+        precedence(),
+        sizes(),
+        large(),
+    ];
+    parts.into_iter().flatten().collect()
+}
+
+/// The length of the graph, 2n and the count.
+pub struct Needs {
+    pub length: usize,
+    pub values: usize,
+    pub count: u32,
+}
+
+/// What a verdict needs, where neither message is refused nor the graph is too large.
+pub fn needs(model: &[u8], formula: &[u8]) -> Option<Needs> {
+    let model = bytes::model(model).ok()?;
+    let rows = bytes::formula(model.propositions, formula).ok()?;
+    let graph = build::graph(&model, &rows);
+    build::within_limits(&graph).ok()?;
+    let length = message::graph(&graph).bytes.len();
+    Some(Needs {
+        length,
+        values: 2 * graph.nodes,
+        count: rounds::run(&graph, u32::MAX).rounds,
+    })
+}
+
+/// A verdict on any two messages: with exact rooms where they can be had, and an ample budget.
+fn asked(model: &[u8], formula: &[u8], state: u32) -> Call {
+    let (length, values) =
+        needs(model, formula).map_or((70, 9), |needs| (needs.length, needs.values));
+    let question = Question {
+        model,
+        formula,
+        state,
+        budget: u32::MAX,
+    };
+    Call::verdict(&question, length.min(MOST_BYTES), values.min(MOST_VALUES))
+}
+
+fn asked_of(model: &Model, rows: &Formula, state: usize) -> Call {
+    asked(
+        &message::model(model).bytes,
+        &message::formula(rows).bytes,
+        state as u32,
+    )
+}
+
+/// A question with states, budgets and rooms around what it needs.
+fn around(model: &Model, rows: &Formula) -> Vec<Call> {
+    let (model, formula) = (message::model(model).bytes, message::formula(rows).bytes);
+    let Needs {
+        length,
+        values,
+        count,
+    } = needs(&model, &formula).expect("a question that can be asked");
+    let call = |state: u32, budget: u32, graph_room: usize, value_room: usize| {
+        let question = Question {
+            model: &model,
+            formula: &formula,
+            state,
+            budget,
+        };
+        Call::verdict(&question, graph_room, value_room)
+    };
+    let mut calls = vec![];
+    for state in [
+        0,
+        1,
+        2,
+        3,
+        255,
+        256,
+        65_535,
+        65_536,
+        65_537,
+        1 << 31,
+        u32::MAX,
+    ] {
+        calls.push(call(state, count, length, values));
+    }
+    for budget in (0..=count + 1).chain([1 << 31, u32::MAX - 1, u32::MAX]) {
+        calls.push(call(0, budget, length, values));
+    }
+    for room in [0, 1, 13, 14, length - 1, length + 1, length + 300] {
+        calls.push(call(1, count, room, values));
+    }
+    for room in [0, 1, values / 2, values - 1, values + 1, values + 30] {
+        calls.push(call(1, count, length, room));
+    }
+    calls.push(call(0, count - 1, length + 5, values + 5));
+    calls
+}
+
+/// T13 to T15, and a formula with an until in an until, where the rounds take longer.
+fn known_questions() -> Vec<Call> {
+    let known = known::questions();
+    let mut calls: Vec<Call> = known
+        .iter()
+        .flat_map(|known| around(&known::model_m(), &known.rows))
+        .collect();
+    let mut deep = known::until(Runs::Some, Some(3));
+    deep.extend([
+        Row::HasNot(0),
+        Row::Next(Runs::Some, Some(1), 3),
+        Row::Until(Runs::All, None, 2, 4),
+    ]);
+    calls.extend(two_models().iter().flat_map(|model| around(model, &deep)));
+    calls
+}
+
+/// A model that goes forward to its last state, and one with cycles, of weight 0 too. Every
+/// combination of two propositions labels a state.
+fn two_models() -> [Model; 2] {
+    let labels = [1, 0, 3, 2, 1];
+    let forward = [
+        (0, 1, 1),
+        (0, 2, 2),
+        (0, 0, 4),
+        (1, 3, 3),
+        (2, 0, 3),
+        (3, 2, 3),
+        (4, 1, 2),
+        (4, 0, 3),
+    ];
+    let cycles = [
+        (0, 1, 4),
+        (1, 0, 3),
+        (1, 2, 0),
+        (2, 0, 2),
+        (3, 1, 0),
+        (3, 1, 1),
+        (4, 0, 0),
+        (4, 2, 3),
+    ];
+    [model(2, &labels, &forward), model(2, &labels, &cycles)]
+}
+
+/// Every operator over every two leaves, with bounds on both sides of the weights.
+fn operators() -> Vec<Call> {
+    let leaves = [Row::True, Row::False, Row::Has(0), Row::HasNot(1)];
+    let bounds: [Bound; 5] = [Some(0), Some(1), Some(2), Some(3), None];
+    let mut formulas: Vec<Formula> = leaves.iter().map(|leaf| vec![leaf.clone()]).collect();
+    for left in &leaves {
+        for (bound, runs) in bounds
+            .iter()
+            .flat_map(|bound| [(*bound, Runs::Some), (*bound, Runs::All)])
+        {
+            formulas.push(vec![left.clone(), Row::Next(runs, bound, 0)]);
+            for right in &leaves {
+                formulas.push(vec![
+                    left.clone(),
+                    right.clone(),
+                    Row::Until(runs, bound, 0, 1),
+                ]);
+            }
+        }
+        for right in &leaves {
+            formulas.push(vec![left.clone(), right.clone(), Row::And(0, 1)]);
+            formulas.push(vec![left.clone(), right.clone(), Row::Or(0, 1)]);
+        }
+    }
+    let ask = |(index, rows): (usize, &Formula)| {
+        two_models().map(|model| asked_of(&model, rows, index % 5))
+    };
+    formulas.iter().enumerate().flat_map(ask).collect()
+}
+
+/// Extreme weights and bounds: one transition under EX and AX, and the sum of two under untils.
+fn extremes() -> Vec<Call> {
+    let mut calls = vec![];
+    for weight in EXTREMES {
+        for bound in EXTREMES.map(bound_of) {
+            for runs in [Runs::Some, Runs::All] {
+                let step = model(1, &[0, 1], &[(0, weight, 1), (1, 3, 0)]);
+                let rows = vec![Row::Has(0), Row::Next(runs, bound, 0)];
+                calls.push(asked_of(&step, &rows, 0));
+                calls.extend(EXTREMES.map(|second| sum_under(weight, second, runs, bound)));
+            }
+        }
+        for second in EXTREMES {
+            let sum = u64::from(weight) + u64::from(second);
+            let near = [sum.wrapping_sub(1), sum, sum % (1 << 32)];
+            let fitting = near.iter().filter_map(|bound| u32::try_from(*bound).ok());
+            calls.extend(fitting.map(|bound| sum_under(weight, second, Runs::All, Some(bound))));
+        }
+    }
+    calls
+}
+
+fn sum_under(first: u32, second: u32, runs: Runs, bound: Bound) -> Call {
+    let steps = [(0, first, 1), (1, second, 2), (2, 0, 2)];
+    asked_of(&model(2, &[1, 1, 2], &steps), &known::until(runs, bound), 0)
+}
+
+/// Every fault of the model and of the formula, seen through the verdict.
+fn refusals() -> Vec<Call> {
+    let (model, formula) = (models::base(), formulas::base());
+    let mut calls: Vec<Call> = vec![];
+    for changed in models::field_changes()
+        .iter()
+        .chain(&super::sweep::records(&model))
+    {
+        calls.push(asked(changed, &formula.bytes, 1));
+    }
+    for length in (0..model.bytes.len()).step_by(3) {
+        calls.push(asked(
+            &super::damage::cut(&model, length, true),
+            &formula.bytes,
+            0,
+        ));
+    }
+    for changed in formulas::changes() {
+        calls.push(asked(&model.bytes, &changed, 2));
+    }
+    for length in (0..formula.bytes.len()).step_by(3) {
+        calls.push(asked(
+            &model.bytes,
+            &super::damage::cut(&formula, length, true),
+            0,
+        ));
+    }
+    for p in [0, 1, 2, 3, 32] {
+        let with_p = known::model(p, &[0], &[(0, 0, 0)]);
+        for proposition in [p.max(1) - 1, p, 31, 32] {
+            calls.push(asked_of(
+                &with_p,
+                &vec![Row::HasNot(proposition as usize)],
+                0,
+            ));
+        }
+    }
+    calls
+}
+
+/// "For a verdict: model, formula (with the model's p), asked state NAME, SIZE, graph room, value
+/// room, and only then BUDGET.": every choice of these faults.
+fn precedence() -> Vec<Call> {
+    (0..128u32)
+        .map(|faults| with_faults(|fault| faults >> fault & 1 == 1))
+        .collect()
+}
+
+fn with_faults(has: impl Fn(u32) -> bool) -> Call {
+    let (model, rows) = if has(3) {
+        (models::full(44, 44), nested(Runs::Some, None, 31, true))
+    } else {
+        (known::model_m(), known::until(Runs::Some, Some(2)))
+    };
+    let (model, formula) = (message::model(&model), message::formula(&rows));
+    let (length, values) = needs(&model.bytes, &formula.bytes)
+        .map_or((500, 500), |needs| (needs.length, needs.values));
+    let damaged = |message: &message::Message, field: usize, number: u32| {
+        message.with(message.fields[field], number)
+    };
+    let question = Question {
+        model: &if has(0) {
+            damaged(&model, 1, 2)
+        } else {
+            model.bytes.clone()
+        },
+        formula: &if has(1) {
+            damaged(&formula, 4, 10)
+        } else {
+            formula.bytes.clone()
+        },
+        state: if has(2) { 44 } else { 1 },
+        budget: if has(6) { 3 } else { 4 },
+    };
+    Call::verdict(
+        &question,
+        length - usize::from(has(4)),
+        values - usize::from(has(5)),
+    )
+}
+
+/// A verdict with the largest rooms there are: SIZE where a limit is passed, and ROOM where none is
+/// and the graph is too long for any room.
+fn asked_in_full_rooms(model: &Model, rows: &Formula) -> Call {
+    let (model, formula) = (message::model(model).bytes, message::formula(rows).bytes);
+    let question = Question {
+        model: &model,
+        formula: &formula,
+        state: 0,
+        budget: u32::MAX,
+    };
+    Call::verdict(&question, MOST_BYTES, MOST_VALUES)
+}
+
+/// One state with so many transitions to itself, of weights 0, 1, 2 and so on: bound k lets k + 1 of
+/// them pass.
+fn loops(transitions: usize) -> Model {
+    let steps: Vec<(usize, u32, usize)> = (0..transitions)
+        .map(|weight| (0, weight as u32, 0))
+        .collect();
+    model(0, &[0], &steps)
+}
+
+/// A tower of EX or AX rows whose bounds let so many transitions pass.
+fn passing(runs: Runs, counts: &[usize]) -> Formula {
+    let mut rows = vec![Row::True];
+    for count in counts {
+        rows.push(Row::Next(runs, Some(*count as u32 - 1), rows.len() - 1));
+    }
+    rows
+}
+
+/// Each limit on the graph to be built, on both sides. A limit on c can't be passed before that on
+/// n, and one hyperedge can't have too many targets where a model has at most 65,536 bytes.
+fn sizes() -> Vec<Call> {
+    let mut calls = vec![];
+    // n: 64 · 64, 128 · (24 + 8) and 256 · 16 are 4,096; 241 · 17 is 4,097
+    calls.push(asked_in_full_rooms(
+        &models::full(64, 64),
+        &tower(Runs::Some, None, 64),
+    ));
+    calls.push(asked_in_full_rooms(
+        &models::full(65, 65),
+        &tower(Runs::Some, None, 64),
+    ));
+    for (states, untils, unary) in [
+        (128, 8, 7),
+        (241, 4, 4),
+        (256, 5, 0),
+        (256, 5, 1),
+        (129, 8, 7),
+    ] {
+        calls.push(asked_in_full_rooms(
+            &models::full(states, states),
+            &with_unary(untils, unary),
+        ));
+    }
+    // h: 1 + 1,041 · 62 + 992 and one more are 65,535 and 65,536
+    for last in [992, 993] {
+        let counts = [vec![1_041; 62], vec![last]].concat();
+        calls.push(asked_in_full_rooms(
+            &loops(1_041),
+            &passing(Runs::Some, &counts),
+        ));
+    }
+    // h with E untils: 32 + 31 · (1 + 2,112) is 65,535, and an EX of one transition is one more
+    let mut untils = nested(Runs::Some, None, 31, true);
+    calls.push(asked_in_full_rooms(&loops(2_112), &untils));
+    untils.push(Row::Next(Runs::Some, Some(0), untils.len() - 1));
+    calls.push(asked_in_full_rooms(&loops(2_112), &untils));
+    // targets: 4,162 · 62 + 4,100 and one more are 262,144 and 262,145
+    for last in [4_100, 4_101] {
+        let counts = [vec![4_162; 62], vec![last]].concat();
+        calls.push(asked_in_full_rooms(
+            &loops(4_162),
+            &passing(Runs::All, &counts),
+        ));
+    }
+    // targets with A untils: 25 · (2 + 6,898) + 12 · 6,898 + 6,868 and one more
+    for last in [6_868, 6_869] {
+        let mut rows = nested(Runs::All, None, 25, false);
+        for count in [vec![6_898; 12], vec![last]].concat() {
+            rows.push(Row::Next(Runs::All, Some(count as u32 - 1), rows.len() - 1));
+        }
+        calls.push(asked_in_full_rooms(&loops(6_898), &rows));
+    }
+    // the longest graph in the largest room: 14 + 5 · 4 + 6 · 10,917 is 65,536; one target more
+    for last in [2_727, 2_728] {
+        calls.push(asked_in_full_rooms(
+            &loops(2_730),
+            &passing(Runs::All, &[2_730, 2_730, 2_730, last]),
+        ));
+    }
+    calls
+}
+
+/// So many nested untils with so many unary rows on top.
+fn with_unary(untils: usize, unary: usize) -> Formula {
+    let mut rows = nested(Runs::Some, None, untils, true);
+    for _ in 0..unary {
+        rows.push(Row::Next(Runs::All, None, rows.len() - 1));
+    }
+    rows
+}
+
+/// The most states, in a row: many rounds.
+fn large() -> Vec<Call> {
+    let states = 256;
+    let step = |state: usize| (state, u32::MAX, (state + 1).min(states - 1));
+    let labels: Vec<u32> = (0..states)
+        .map(|state| if state + 1 < states { 1 } else { 2 })
+        .collect();
+    let row = model(2, &labels, &(0..states).map(step).collect::<Vec<_>>());
+    let rows = [
+        known::until(Runs::Some, None),
+        known::until(Runs::Some, Some(u32::MAX - 1)),
+        known::until(Runs::All, None),
+    ];
+    rows.iter()
+        .enumerate()
+        .map(|(state, rows)| asked_of(&row, rows, state))
+        .collect()
+}

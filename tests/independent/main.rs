@@ -1,0 +1,116 @@
+//! The independent test program. It is written from document 01 alone and shares nothing with the
+//! crates: it makes batches of calls for the program `trials` and says what each must answer.
+
+mod answer;
+mod batch;
+mod build;
+mod bytes;
+mod known;
+mod message;
+mod random;
+mod refusal;
+mod rounds;
+mod sat;
+mod selftest;
+mod text;
+mod verdict;
+
+use std::io::{self, Read, Write};
+use std::process::ExitCode;
+
+const USAGE: &str = "usage:
+  independent make SEED CALLS OUT_STDIN OUT_STDOUT [LETTERS]
+      writes a batch of CALLS calls and the lines that `trials` must answer. LETTERS are those of
+      the calls to use, GMFTRV unless given; with a `?` among them, a call that ends the run is last
+  independent answer
+      reads a batch from standard input and writes the lines that `trials` must answer
+  independent show LINE
+      reads a batch from standard input and shows the call that line LINE answers
+  independent self-test [SEED]
+      tries this program against document 01's known graphs and against itself";
+
+fn main() -> ExitCode {
+    let words: Vec<String> = std::env::args().skip(1).collect();
+    let words: Vec<&str> = words.iter().map(String::as_str).collect();
+    let done = match words.as_slice() {
+        ["make", seed, calls, stdin, stdout] => make(seed, calls, stdin, stdout, answer::LETTERS),
+        ["make", seed, calls, stdin, stdout, letters] => make(seed, calls, stdin, stdout, letters),
+        ["answer"] => answer(),
+        ["show", line] => show(line),
+        ["self-test"] => self_test("1"),
+        ["self-test", seed] => self_test(seed),
+        _ => Err(USAGE.to_string()),
+    };
+    match done {
+        Ok(()) => ExitCode::SUCCESS,
+        Err(message) => {
+            eprintln!("{message}");
+            ExitCode::FAILURE
+        }
+    }
+}
+
+fn decimal<T: std::str::FromStr>(word: &str) -> Result<T, String> {
+    word.parse().map_err(|_| format!("not a number: {word}"))
+}
+
+fn make(seed: &str, calls: &str, stdin: &str, stdout: &str, letters: &str) -> Result<(), String> {
+    if letters.is_empty()
+        || letters
+            .chars()
+            .any(|letter| letter != '?' && !answer::LETTERS.contains(letter))
+    {
+        return Err(format!(
+            "letters are some of {}? and not {letters}",
+            answer::LETTERS
+        ));
+    }
+    let (input, lines) = batch::make(decimal(seed)?, decimal(calls)?, letters);
+    write(stdin, &input)?;
+    write(stdout, lines.as_bytes())?;
+    println!(
+        "{} calls, {} bytes, {} bytes of lines",
+        lines.lines().count(),
+        input.len(),
+        lines.len()
+    );
+    Ok(())
+}
+
+fn write(path: &str, bytes: &[u8]) -> Result<(), String> {
+    std::fs::write(path, bytes).map_err(|error| format!("{path}: {error}"))
+}
+
+fn read_input() -> Result<Vec<u8>, String> {
+    let mut input = vec![];
+    io::stdin()
+        .read_to_end(&mut input)
+        .map_err(|error| error.to_string())?;
+    Ok(input)
+}
+
+fn answer() -> Result<(), String> {
+    let lines = answer::answer_batch(&read_input()?);
+    io::stdout()
+        .write_all(lines.as_bytes())
+        .map_err(|error| error.to_string())
+}
+
+fn show(line: &str) -> Result<(), String> {
+    let line: usize = decimal(line)?;
+    let input = read_input()?;
+    let call = line
+        .checked_sub(1)
+        .and_then(|index| answer::calls(&input).nth(index));
+    match call {
+        Some(Ok(call)) => println!("{}", answer::shown(&call)),
+        Some(Err(letter)) => println!("no call, letter {letter}"),
+        None => return Err(format!("the batch has no line {line}")),
+    }
+    Ok(())
+}
+
+fn self_test(seed: &str) -> Result<(), String> {
+    selftest::run(decimal(seed)?);
+    Ok(())
+}

@@ -1,0 +1,186 @@
+"""The commands: ask, draw, compile, show."""
+
+from __future__ import annotations
+
+import argparse
+import os
+import sys
+from itertools import chain
+from typing import Iterator, List, Optional
+
+from . import checks
+from .answers import Answer, read_answer, reasons, render_answer, render_refusal
+from .checks import Complaint, Complaints
+from .compiler import compile_formula, compile_model
+from .decoder import decode
+from .drawing import draw
+from .mistakes import Mistake, Place
+from .model import Model
+from .model_text import read_model, write_model
+from .names import hint
+from .question import Question, read_question
+from .running import VARIABLE, find_program, run
+
+ANSWERED, REFUSED, WRONG = 0, 1, 2
+
+
+def _read_bytes(path: str) -> bytes:
+    try:
+        if path == "-":
+            return sys.stdin.buffer.read()
+        with open(path, "rb") as file:
+            return file.read()
+    except OSError as error:
+        raise Mistake(Place(path), error.strerror or "can't be read") from None
+
+
+def _read_text(path: str) -> str:
+    try:
+        return _read_bytes(path).decode("utf-8").replace("\r\n", "\n")
+    except UnicodeDecodeError:
+        raise Mistake(Place(path), "not text in UTF-8") from None
+
+
+def _model(path: str) -> Model:
+    return read_model(_read_text(path), "standard input" if path == "-" else path)
+
+
+def _question(model: Model, formula: str, raw: bool) -> Question:
+    """A formula is given as text, or as @FILE."""
+    if formula.startswith("@"):
+        return read_question(model, _read_text(formula[1:]), formula[1:], raw)
+    return read_question(model, formula, "formula", raw)
+
+
+def _complaints(question: Question) -> Iterator[Complaint]:
+    propositions = len(question.model.propositions)
+    return chain(
+        checks.of_model(question.model, propositions - question.names.own),
+        checks.of_formula(question.formula, propositions, question.place),
+    )
+
+
+def _bytes(question: Question) -> bytes:
+    return compile_model(question.model) + compile_formula(question.formula, question.place)
+
+
+def ask(words: argparse.Namespace) -> int:
+    """Compiles a model and a formula, runs the program and says its answer in names."""
+    model = _model(words.model)
+    question = _question(model, words.formula, words.raw)
+    if words.state is not None and words.state not in model.states:
+        raise Mistake(Place(model.path), f"there is no state {words.state}{hint(words.state, model.states)}")
+    if not words.raw:
+        checks.insist(_complaints(question))
+    data = _bytes(question)
+    too_long = list(checks.of_input(len(data), Place(model.path)))
+    if not words.raw:
+        checks.insist(iter(too_long))
+    answer = read_answer(run(find_program(words.program), data), len(model.states))
+    if isinstance(answer, Answer):
+        state = None if words.state is None else model.states.index(words.state)
+        sys.stdout.write(render_answer(answer, question, state))
+        return ANSWERED
+    about = reasons(answer.number, question, chain(_complaints(question), too_long))
+    sys.stdout.write(render_refusal(answer.number, about))
+    return REFUSED
+
+
+def draw_command(words: argparse.Namespace) -> int:
+    """Writes a model as DOT text."""
+    sys.stdout.write(draw(_model(words.model)))
+    return ANSWERED
+
+
+def compile_command(words: argparse.Namespace) -> int:
+    """Writes the message of a model, followed by that of a formula if one is given."""
+    model = _model(words.model)
+    if words.formula is None:
+        complaints, build = checks.of_model(model), lambda: compile_model(model)
+    else:
+        question = _question(model, words.formula, words.raw)
+        complaints, build = _complaints(question), lambda: _bytes(question)
+    if not words.raw:
+        checks.insist(complaints)
+    data = build()
+    if words.output == "-":
+        sys.stdout.buffer.write(data)
+        return ANSWERED
+    try:
+        with open(words.output, "wb") as file:
+            file.write(data)
+    except OSError as error:
+        raise Mistake(Place(words.output), error.strerror or "can't be written") from None
+    return ANSWERED
+
+
+def show(words: argparse.Namespace) -> int:
+    """Writes messages as text: a model, a formula, or both, the formula then as a comment."""
+    model, formula = decode(_read_bytes(words.file), words.file, words.raw)
+    if words.only == "model":
+        if model is None:
+            raise Mistake(Place(words.file), "there is no model here")
+        sys.stdout.write(write_model(model))
+    elif words.only == "formula":
+        if formula is None:
+            raise Mistake(Place(words.file), "there is no formula here")
+        sys.stdout.write(formula.text() + "\n")
+    else:
+        if model is not None:
+            sys.stdout.write(write_model(model))
+        if formula is not None:
+            sys.stdout.write(f"{'# formula: ' if model else ''}{formula.text()}\n")
+    return ANSWERED
+
+
+def _parser() -> argparse.ArgumentParser:
+    parser = argparse.ArgumentParser(
+        prog="otz",
+        description="Ask the proved checker about models and formulas that are written with names (tools/README.md).",
+        epilog="Exit status: 0 done or answered, 1 refused, 2 wrong usage or a mistake in a file.",
+    )
+    commands = parser.add_subparsers(dest="command", required=True, metavar="COMMAND")
+
+    def add(name: str, does: str, act: object) -> argparse.ArgumentParser:
+        command = commands.add_parser(name, help=does, description=does)
+        command.set_defaults(act=act)
+        return command
+
+    raw = "check no limits: the program is to refuse what it must"
+    asks = add("ask", "ask the program, and say its answer in names", ask)
+    asks.add_argument("model", metavar="MODEL", help="a model's text; - for standard input")
+    asks.add_argument("formula", metavar="FORMULA", help="the formula's text, or @FILE")
+    asks.add_argument("--state", metavar="NAME", help="say the verdict of this state alone")
+    asks.add_argument("--program", metavar="PATH", help=f"the program to run (else the variable {VARIABLE}, else target/bin/otzarvim, built if it is missing)")
+    asks.add_argument("--raw", action="store_true", help=raw)
+
+    draws = add("draw", "write a model as Graphviz DOT text", draw_command)
+    draws.add_argument("model", metavar="MODEL", help="a model's text; - for standard input")
+
+    compiles = add("compile", "write the message bytes of a model and a formula", compile_command)
+    compiles.add_argument("model", metavar="MODEL", help="a model's text; - for standard input")
+    compiles.add_argument("formula", metavar="FORMULA", nargs="?", help="the formula's text, or @FILE")
+    compiles.add_argument("-o", dest="output", metavar="FILE", required=True, help="where the bytes go; - for standard output")
+    compiles.add_argument("--raw", action="store_true", help=raw)
+
+    shows = add("show", "write messages as text again", show)
+    shows.add_argument("file", metavar="FILE", help="a model, a formula, or a model followed by a formula; - for standard input")
+    shows.add_argument("--only", choices=("model", "formula"), help="write this part alone")
+    shows.add_argument("--raw", action="store_true", help="check no limits")
+    return parser
+
+
+def main(arguments: Optional[List[str]] = None) -> int:
+    """Runs a command and gives its exit status."""
+    words = _parser().parse_args(arguments)
+    try:
+        status: int = words.act(words)
+        sys.stdout.flush()
+        return status
+    except (Mistake, Complaints) as mistake:
+        print(mistake, file=sys.stderr)
+        return WRONG
+    except BrokenPipeError:
+        # the reader of the output has gone; nothing more is to be said to it
+        os.dup2(os.open(os.devnull, os.O_WRONLY), sys.stdout.fileno())
+        return WRONG

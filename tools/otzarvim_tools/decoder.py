@@ -1,0 +1,167 @@
+"""From message bytes back to models and formulas.
+
+Faults are looked for in document 01's order and the first is raised, with its byte and number. Raw
+passes over what text can say too: counts outside their limits, dead states, propositions by number.
+"""
+
+from __future__ import annotations
+
+import struct
+from typing import List, Optional, Tuple
+
+from .formula import Formula
+from .mistakes import Mistake, Place
+from .model import Model, Transition
+from .names import plain_name
+from .paper import (
+    BOUNDED,
+    DEAD,
+    FORM,
+    FORMULA_HEADER,
+    FORMULA_KIND,
+    LABEL,
+    LENGTH,
+    LIMIT,
+    LIMITS,
+    MODEL_HEADER,
+    MODEL_KIND,
+    NAME,
+    NO_BOUND,
+    OPERANDS,
+    ORDER,
+    PROPOSITIONS,
+    REFUSALS,
+    ROW,
+    TRANSITION,
+    VERSION,
+    VERSION_FAULT,
+    Operator,
+)
+
+
+class _Message:
+    """One message within a file, and how its faults are told."""
+
+    def __init__(self, data: bytes, what: str, path: str, start: int, raw: bool) -> None:
+        self.data = data
+        self.what = what
+        self.path = path
+        self.start = start
+        self.raw = raw
+
+    def fault(self, number: int, at: int, words: str) -> Mistake:
+        return Mistake(Place(self.path), f"byte {self.start + at}, in the {self.what}: {words} (refusal {number}, {REFUSALS[number].name})")
+
+    def header(self, layout: str, kind: int) -> Tuple[int, ...]:
+        """The counts of the header, once length, version and kind are right."""
+        if len(self.data) < struct.calcsize(layout):
+            raise self.fault(LENGTH, 0, f"{len(self.data)} bytes are too few for its header")
+        length, version, found, *counts = struct.unpack_from(layout, self.data)
+        if length != len(self.data):
+            raise self.fault(LENGTH, 0, f"the length field says {length} and there are {len(self.data)} bytes")
+        if version != VERSION:
+            raise self.fault(VERSION_FAULT, 4, f"version {version}, not {VERSION}")
+        if found != kind:
+            raise self.fault(VERSION_FAULT, 5, f"kind {found}, not {kind}")
+        return tuple(counts)
+
+    def limit(self, what: str, count: int, at: int) -> None:
+        least, most = LIMITS[what]
+        if not self.raw and not least <= count <= most:
+            raise self.fault(LIMIT, at, f"{count} {what}: {least} to {most:,} are allowed")
+
+    def exactly(self, length: int) -> None:
+        if len(self.data) != length:
+            raise self.fault(LENGTH, 0, f"its counts ask for {length} bytes and there are {len(self.data)}")
+
+
+def decode_model(data: bytes, path: str = "message", start: int = 0, raw: bool = False) -> Model:
+    """A model with the names s0, s1 .. for its states and p0, p1 .. for its propositions."""
+    message = _Message(data, "model", path, start, raw)
+    states, propositions, transitions = message.header(MODEL_HEADER, MODEL_KIND)
+    message.limit("states", states, 6)
+    message.limit("propositions", propositions, 8)
+    message.limit("transitions", transitions, 9)
+    at, label, record = (struct.calcsize(layout) for layout in (MODEL_HEADER, LABEL, TRANSITION))
+    message.exactly(at + label * states + record * transitions)
+    model = Model([f"s{i}" for i in range(states)], [plain_name(i) for i in range(propositions)], path=path)
+    for state in range(states):
+        (bits,) = struct.unpack_from(LABEL, data, at)
+        if bits >> propositions:
+            raise message.fault(FORM, at, f"the label of state {state} has a proposition of {propositions} or above")
+        model.labels.append(frozenset(i for i in range(32) if bits >> i & 1))
+        at += label
+    before = 0
+    for _ in range(transitions):
+        source, weight, target = struct.unpack_from(TRANSITION, data, at)
+        if source >= states:
+            raise message.fault(NAME, at, f"a transition from state {source} of {states}")
+        if source < before:
+            raise message.fault(ORDER, at, f"a transition from state {source} after one from state {before}")
+        if target >= states:
+            raise message.fault(NAME, at + 6, f"a transition to state {target} of {states}")
+        model.transitions.append(Transition(source, weight, target))
+        before = source
+        at += record
+    dead = model.dead()
+    if dead and not raw:
+        raise message.fault(DEAD, 0, f"state {dead[0]} has no transition")
+    return model
+
+
+def decode_formula(data: bytes, propositions: int, path: str = "message", start: int = 0, raw: bool = False) -> Formula:
+    """A formula over so many propositions."""
+    message = _Message(data, "formula", path, start, raw)
+    (count,) = message.header(FORMULA_HEADER, FORMULA_KIND)
+    message.limit("rows", count, 6)
+    at, record = struct.calcsize(FORMULA_HEADER), struct.calcsize(ROW)
+    message.exactly(at + record * count)
+    if count == 0:
+        raise message.fault(LIMIT, 6, "a formula without rows has no text")
+    trees: List[Formula] = []
+    uses = [0] * count
+    for _ in range(count):
+        trees.append(_row(message, at, trees, uses, propositions))
+        at += record
+    for row, times in enumerate(uses[:-1]):
+        if times != 1:
+            raise message.fault(FORM, 0, f"row {row} is an operand {times} times, not once")
+    return trees[-1]
+
+
+def _row(message: _Message, at: int, earlier: List[Formula], uses: List[int], propositions: int) -> Formula:
+    code, left, right, zero, bound = struct.unpack_from(ROW, message.data, at)
+    if code not in OPERANDS:
+        raise message.fault(FORM, at, f"there is no operator {code}")
+    operator = Operator(code)
+    operands = OPERANDS[operator]
+    named = operator in PROPOSITIONS
+    bounded = operator in BOUNDED
+    for used, value, offset in ((operands > 0 or named, left, 1), (operands > 1, right, 2), (False, zero, 3), (bounded, bound, 4)):
+        if not used and value:
+            raise message.fault(FORM, at + offset, f"row {len(earlier)} has {value} in a field that it doesn't use")
+    if named and left >= propositions and not message.raw:
+        raise message.fault(NAME, at + 1, f"row {len(earlier)} is about proposition {left} of {propositions}")
+    for row, offset in ((left, 1), (right, 2))[:operands]:
+        if row >= len(earlier):
+            raise message.fault(NAME, at + offset, f"row {len(earlier)} has row {row} as operand, which isn't an earlier one")
+        uses[row] += 1
+    return Formula(
+        operator,
+        tuple(earlier[row] for row in (left, right)[:operands]),
+        proposition=left if named else 0,
+        bound=bound if bounded and bound != NO_BOUND else None,
+    )
+
+
+def decode(data: bytes, path: str, raw: bool = False) -> Tuple[Optional[Model], Optional[Formula]]:
+    """A model, a formula, or a model followed by a formula."""
+    if len(data) >= 6 and data[5] == FORMULA_KIND:
+        # alone, a formula may speak of any proposition that a model could have
+        return None, decode_formula(data, LIMITS["propositions"][1], path, raw=raw)
+    (length,) = struct.unpack_from(">I", data) if len(data) >= 4 else (0,)
+    end = length if struct.calcsize(MODEL_HEADER) <= length <= len(data) else len(data)
+    model = decode_model(data[:end], path, raw=raw)
+    if end == len(data):
+        return model, None
+    return model, decode_formula(data[end:], len(model.propositions), path, end, raw)

@@ -1,0 +1,65 @@
+"""A formula as a tree, its text, and its rows."""
+
+from __future__ import annotations
+
+from dataclasses import dataclass
+from typing import Callable, List, NamedTuple, Optional, Tuple
+
+from .names import plain_name
+from .paper import BOUNDED, NO_BOUND, PROPOSITIONS, Operator
+
+
+class Row(NamedTuple):
+    """The fields of a row; the one that is always zero is left out."""
+
+    operator: int
+    left: int
+    right: int
+    bound: int
+
+
+@dataclass(frozen=True)
+class Formula:
+    """An operator over its operands. `bound` none means no bound."""
+
+    operator: Operator
+    operands: Tuple["Formula", ...] = ()
+    proposition: int = 0
+    bound: Optional[int] = None
+
+    def text(self, name: Callable[[int], str] = plain_name) -> str:
+        """Document 01's text, with the propositions as `name` gives them."""
+        inner = [operand.text(name) for operand in self.operands]
+        bound = "" if self.bound is None else f"<={self.bound}"
+        operator = self.operator
+        if operator is Operator.TRUE:
+            return "true"
+        if operator is Operator.FALSE:
+            return "false"
+        if operator is Operator.PROPOSITION:
+            return name(self.proposition)
+        if operator is Operator.NOT_PROPOSITION:
+            return "!" + name(self.proposition)
+        if operator is Operator.AND:
+            return f"({inner[0]} & {inner[1]})"
+        if operator is Operator.OR:
+            return f"({inner[0]} | {inner[1]})"
+        if operator in (Operator.EX, Operator.AX):
+            return f"{operator.name}{bound} {inner[0]}"
+        quantifier = "E" if operator is Operator.E_UNTIL else "A"
+        return f"{quantifier}[{inner[0]} U{bound} {inner[1]}]"
+
+    def rows(self) -> List[Row]:
+        """The rows, operands before what uses them, each but the last an operand exactly once."""
+        rows: List[Row] = []
+        self._add_rows(rows)
+        return rows
+
+    def _add_rows(self, rows: List[Row]) -> int:
+        places = [operand._add_rows(rows) for operand in self.operands] + [0, 0]
+        left = self.proposition if self.operator in PROPOSITIONS else places[0]
+        bound = 0
+        if self.operator in BOUNDED:
+            bound = NO_BOUND if self.bound is None else self.bound
+        rows.append(Row(int(self.operator), left, places[1] if len(self.operands) == 2 else 0, bound))
+        return len(rows) - 1

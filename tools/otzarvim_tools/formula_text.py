@@ -1,0 +1,161 @@
+"""Reads document 01's text of formulas, with names for propositions.
+
+    true  false  idle  !idle  (x & y)  (x | y)  EX<=3 x  AX x  E[x U<=2 y]  A[x U y]
+"""
+
+from __future__ import annotations
+
+import re
+from typing import Callable, List, NamedTuple, Optional
+
+from .formula import Formula
+from .mistakes import Mistake, Place
+from .names import FORMULA_WORDS, read_number
+from .paper import LARGEST_BOUND, Operator
+
+_TOKEN = re.compile(r"[0-9]+|[A-Za-z_][A-Za-z0-9_]*|<=|[()\[\]&|!]", re.ASCII)
+_DEEPEST = 255  # a row's number is one byte, so nothing deeper can be written
+
+NumberOf = Callable[[str, Place, Optional[str]], int]
+
+
+class _Token(NamedTuple):
+    word: str  # empty at the end
+    place: Place
+    excerpt: str
+
+
+def _tokens(text: str, path: str) -> List[_Token]:
+    found: List[_Token] = []
+    lines = text.split("\n")
+    for number, line in enumerate(lines, 1):
+        if line.lstrip().startswith("#"):
+            continue
+        at = 0
+        while at < len(line):
+            if line[at].isspace():
+                at += 1
+                continue
+            place = Place(path, number, at + 1)
+            match = _TOKEN.match(line, at)
+            if match is None:
+                more = " (a bound is written <=3)" if line[at] in "<>=" else ""
+                raise Mistake(place, f"'{line[at]}' has no place in a formula{more}", line)
+            found.append(_Token(match.group(), place, line))
+            at = match.end()
+    # the end is told as the place behind the last word
+    end = (found[-1].place, found[-1].excerpt, len(found[-1].word)) if found else (Place(path, 1, 1), "", 0)
+    found.append(_Token("", Place(path, end[0].line, (end[0].column or 0) + end[2]), end[1]))
+    return found
+
+
+class _Parser:
+    def __init__(self, tokens: List[_Token], number_of: NumberOf) -> None:
+        self.tokens = tokens
+        self.at = 0
+        self.number_of = number_of
+
+    def next(self) -> _Token:
+        token = self.tokens[self.at]
+        self.at = min(self.at + 1, len(self.tokens) - 1)
+        return token
+
+    def peek(self) -> str:
+        return self.tokens[self.at].word
+
+    def fail(self, token: _Token, words: str) -> Mistake:
+        return Mistake(token.place, words, token.excerpt)
+
+    def expect(self, word: str, after: str) -> None:
+        token = self.next()
+        if token.word in ("&", "|"):
+            raise self.fail(token, _brackets(token.word))
+        if token.word != word:
+            raise self.fail(token, f"'{word}' is expected after {after}, {_found(token)}")
+
+    def bound(self) -> Optional[int]:
+        if self.peek() != "<=":
+            return None
+        self.next()
+        token = self.next()
+        try:
+            return read_number(token.word, "bound", LARGEST_BOUND, token.place)
+        except Mistake as mistake:
+            raise self.fail(token, mistake.words) from None
+
+    def proposition(self, token: _Token) -> int:
+        return self.number_of(token.word, token.place, token.excerpt)
+
+    def formula(self, depth: int = 1) -> Formula:
+        token = self.next()
+        word = token.word
+        if depth > _DEEPEST:
+            raise self.fail(token, "the formula is too deep for its rows to be numbered")
+        if word == "true":
+            return Formula(Operator.TRUE)
+        if word == "false":
+            return Formula(Operator.FALSE)
+        if word == "!":
+            return self.negation()
+        if word == "(":
+            return self.both(depth)
+        if word in ("EX", "AX"):
+            bound = self.bound()
+            return Formula(Operator[word], (self.formula(depth + 1),), bound=bound)
+        if word in ("E", "A"):
+            return self.until(word, depth)
+        if word and (word[0].isalpha() or word[0] == "_") and word != "U":
+            return Formula(Operator.PROPOSITION, proposition=self.proposition(token))
+        raise self.fail(token, f"a formula is expected here, {_found(token)}")
+
+    def negation(self) -> Formula:
+        token = self.next()
+        if not token.word or not (token.word[0].isalpha() or token.word[0] == "_") or token.word in FORMULA_WORDS:
+            raise self.fail(token, "only a proposition can be negated, as !idle: !(x & y) is (!x | !y), !(x | y) is (!x & !y), !EX x is AX !x")
+        return Formula(Operator.NOT_PROPOSITION, proposition=self.proposition(token))
+
+    def both(self, depth: int) -> Formula:
+        left = self.formula(depth + 1)
+        token = self.next()
+        if token.word not in ("&", "|"):
+            raise self.fail(token, f"'&' or '|' is expected, {_found(token)}: brackets stand around (x & y) and (x | y) alone")
+        right = self.formula(depth + 1)
+        end = self.next()
+        if end.word in ("&", "|"):
+            raise self.fail(end, f"each {end.word} has brackets of its own, as ((x {token.word} y) {end.word} z)")
+        if end.word != ")":
+            raise self.fail(end, f"')' is expected after (x {token.word} y, {_found(end)}")
+        return Formula(Operator.AND if token.word == "&" else Operator.OR, (left, right))
+
+    def until(self, quantifier: str, depth: int) -> Formula:
+        self.expect("[", quantifier)
+        left = self.formula(depth + 1)
+        self.expect("U", f"{quantifier}[x")
+        bound = self.bound()
+        right = self.formula(depth + 1)
+        self.expect("]", f"{quantifier}[x U y")
+        operator = Operator.E_UNTIL if quantifier == "E" else Operator.A_UNTIL
+        return Formula(operator, (left, right), bound=bound)
+
+
+def _brackets(sign: str) -> str:
+    return f"x {sign} y is written with brackets, (x {sign} y)"
+
+
+def _found(token: _Token) -> str:
+    return f"not '{token.word}'" if token.word else "and the text ends"
+
+
+def read_formula(text: str, path: str, number_of: NumberOf) -> Formula:
+    """Reads a formula; `number_of` gives the proposition that a word means.
+
+    Lines that start with # are comments. The first mistake is raised with its line and column.
+    """
+    parser = _Parser(_tokens(text, path), number_of)
+    formula = parser.formula()
+    token = parser.next()
+    if token.word in ("&", "|"):
+        raise parser.fail(token, _brackets(token.word))
+    if token.word:
+        raise parser.fail(token, f"the formula is complete before '{token.word}'")
+    return formula

@@ -1,0 +1,149 @@
+"""The text of models: read into a Model, and written from one.
+
+    propositions idle, safe      # optional; if it stands, it lists them all
+    state cold: idle, safe       # or: cold: idle, safe
+    cold -> hot 12               # from, to, weight
+"""
+
+from __future__ import annotations
+
+import re
+from typing import Dict, List, Tuple
+
+from .mistakes import Mistake, Place
+from .model import Model, Transition
+from .names import check_proposition_name, check_state_name, hint, read_number
+from .paper import LARGEST_WEIGHT
+
+_STATE = re.compile(r"(?:state\s+)?([^\s:]+)\s*(?::(.*))?")
+
+
+class _Reader:
+    """The model so far, and what later lines are held against."""
+
+    def __init__(self, path: str) -> None:
+        self.model = Model(path=path)
+        self.numbers: Dict[str, int] = {}  # of the states
+        self.declared = False  # a propositions line stood above
+        self.labelled: Dict[str, int] = {}  # the line of each state's own line
+        self.label_lines: List[Tuple[int, int, int]] = []  # state, proposition, line
+
+    def place(self, line: int) -> Place:
+        return Place(self.model.path, line)
+
+    def state(self, name: str, line: int) -> int:
+        """The number of a state, which is new at its first mention."""
+        check_state_name(name, self.place(line))
+        if name not in self.numbers:
+            self.numbers[name] = len(self.model.states)
+            self.model.states.append(name)
+            self.model.labels.append(frozenset())
+            self.model.lines.append(line)
+        return self.numbers[name]
+
+    def add_proposition(self, name: str, line: int) -> int:
+        number = len(self.model.propositions)
+        check_proposition_name(name, number, self.place(line))
+        self.model.propositions.append(name)
+        return number
+
+    def list_of(self, words: str, line: int) -> List[str]:
+        """The names of a comma-separated list, each once."""
+        if not words:
+            raise Mistake(self.place(line), "the list is empty")
+        names = [word.strip() for word in words.split(",")]
+        for i, name in enumerate(names):
+            if not name:
+                raise Mistake(self.place(line), "a name is missing beside a comma")
+            if name in names[:i]:
+                raise Mistake(self.place(line), f"{name} stands twice")
+        return names
+
+    def propositions_line(self, words: str, line: int) -> None:
+        if self.labelled:
+            raise Mistake(self.place(line), "propositions are listed before the first state's line")
+        self.declared = True
+        for name in self.list_of(words, line):
+            if name in self.model.propositions:
+                raise Mistake(self.place(line), f"{name} stands twice")
+            self.add_proposition(name, line)
+
+    def state_line(self, text: str, line: int) -> None:
+        found = _STATE.fullmatch(text)
+        if found is None:
+            raise Mistake(self.place(line), f"not a state's line: '{text}' (as: state cold: idle, safe)")
+        name, labels = found.group(1), (found.group(2) or "").strip()
+        state = self.state(name, line)
+        if name in self.labelled:
+            raise Mistake(self.place(line), f"state {name} has its line already, line {self.labelled[name]}")
+        self.labelled[name] = line
+        for label in self.list_of(labels, line) if labels else []:
+            number = self.label(label, line)
+            self.label_lines.append((state, number, line))
+            self.model.labels[state] |= {number}
+
+    def label(self, name: str, line: int) -> int:
+        """The number of a proposition, which is new at its first mention unless all are listed."""
+        known = self.model.propositions
+        if name in known:
+            return known.index(name)
+        if self.declared:
+            raise Mistake(self.place(line), f"{name} isn't among the propositions listed above{hint(name, known)}")
+        return self.add_proposition(name, line)
+
+    def transition_line(self, text: str, line: int) -> None:
+        left, _, right = text.partition("->")
+        words = right.split()
+        if not left.strip() or len(words) != 2:
+            missing = " (its weight is missing)" if left.strip() and len(words) == 1 else ""
+            raise Mistake(self.place(line), f"not a transition: '{text}'{missing} (as: cold -> hot 12)")
+        source = self.state(left.strip(), line)
+        target = self.state(words[0], line)
+        weight = read_number(words[1], "weight", LARGEST_WEIGHT, self.place(line))
+        self.model.transitions.append(Transition(source, weight, target))
+
+    def line(self, text: str, line: int) -> None:
+        words = text.split(None, 1)
+        if "->" in text:
+            self.transition_line(text, line)
+        elif words[0].rstrip(":") == "propositions":
+            self.propositions_line(text[len("propositions"):].lstrip(" \t:"), line)
+        elif words[0] == "state" or ":" in text:
+            self.state_line(text, line)
+        else:
+            raise Mistake(self.place(line), f"not a line of a model: '{text}' (as: state cold: idle, or: cold -> hot 12)")
+
+    def end(self) -> Model:
+        """A state's name holds in that state alone, so labels that say otherwise are mistakes."""
+        model = self.model
+        for state, number, line in self.label_lines:
+            name = model.propositions[number]
+            if name in self.numbers and name != model.states[state]:
+                raise Mistake(self.place(line), f"{name} is a state, and its name holds in that state alone; {model.states[state]} can't have it as a proposition")
+        for number, name in enumerate(model.propositions):
+            if name in self.numbers:
+                model.labels[self.numbers[name]] |= {number}
+        return model
+
+
+def read_model(text: str, path: str) -> Model:
+    """Reads the text of a model; the first mistake is raised with its line."""
+    reader = _Reader(path)
+    for line, whole in enumerate(text.split("\n"), 1):
+        content = whole.partition("#")[0].strip()
+        if content:
+            reader.line(content, line)
+    return reader.end()
+
+
+def write_model(model: Model) -> str:
+    """The text that `read_model` reads back as the same model."""
+    lines: List[str] = []
+    if model.propositions:
+        lines.append("propositions " + ", ".join(model.propositions))
+    for state, name in enumerate(model.states):
+        labels = ", ".join(model.label_names(state))
+        lines.append(f"state {name}: {labels}" if labels else f"state {name}")
+    for step in model.transitions:
+        lines.append(f"{model.states[step.source]} -> {model.states[step.target]} {step.weight}")
+    return "".join(line + "\n" for line in lines)

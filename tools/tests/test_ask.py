@@ -1,0 +1,161 @@
+"""The commands: answers and refusals in names, mistakes, exit statuses."""
+
+import subprocess
+import sys
+
+from otzarvim_tools.answers import Answer, Refused, read_answer
+from otzarvim_tools.paper import REFUSALS
+
+from .common import FAKE, M, ROOT, Case
+
+NAMES = "BUDGET LENGTH VERSION LIMIT ORDER NAME DEAD SIZE ROOM FORM".split()
+
+
+class Reading(Case):
+    def test_answers(self):
+        self.assertEqual(read_answer("E[p0 U<=2 p1]\nrounds 4\n0 yes\n1 no\n", 2), Answer("E[p0 U<=2 p1]", 4, [True, False]))
+        self.assertEqual(read_answer("refused 10\n", 2), Refused(10))
+
+    def test_what_is_no_answer(self):
+        for output in ("", "refused\n", "refused 3", "p0\nrounds 1\n0 yes\n", "p0\nrounds 1\n1 yes\n0 no\n", "p0\nrounds 1\n0 yes\n1 no\n2 no\n", "p0\nrounds x\n0 yes\n1 yes\n", "p0\nrounds 1\n0 yes\n1 no"):
+            self.mistake(lambda: read_answer(output, 2), "isn't an answer")
+
+
+class Asking(Case):
+    def setUp(self):
+        super().setUp()
+        self.model = self.write("m.otz", M)
+
+    def says(self, output):
+        return self.script("canned", f"#!/bin/sh\ncat >/dev/null\nprintf '{output}'\n")
+
+    def test_document_01s_questions(self):
+        for formula, rounds, zero, one in (("E[p0 U<=2 p1]", 4, "yes", "yes"), ("E[p0 U<=1 p1]", 3, "no", "yes"), ("A[p0 U p1]", 3, "no", "yes")):
+            status, out, _ = self.otz("ask", self.model, formula, "--program", FAKE)
+            self.assertEqual((status, out), (0, f"formula  {formula}\nmessage  {formula}\nrounds   {rounds}\n\nzero  {zero}\none   {one}\n"))
+
+    def test_the_command_and_a_program_as_processes(self):
+        words = [sys.executable, ROOT / "tools" / "otz", "ask", self.model, "E[zero U<=2 p1]", "--program", FAKE]
+        done = subprocess.run([str(word) for word in words], stdout=subprocess.PIPE, text=True)
+        self.assertEqual((done.returncode, done.stdout), (0, "formula  E[zero U<=2 p1]\nmessage  E[p2 U<=2 p1]\nrounds   4\n\nzero  yes\none   yes\n"))
+
+    def test_names_and_one_state(self):
+        canned = self.says("AX<=3 p2\\nrounds 7\\n0 no\\n1 yes\\n")
+        status, out, _ = self.otz("ask", self.model, "AX<=3 one", "--state", "one", "--program", canned)
+        self.assertEqual((status, out), (0, "formula  AX<=3 one\nmessage  AX<=3 p2\nrounds   7\n\none  yes\n"))
+
+    def test_another_formula_is_no_answer(self):
+        canned = self.says("AX p0\\nrounds 7\\n0 no\\n1 yes\\n")
+        status, out, err = self.otz("ask", self.model, "AX p1", "--program", canned)
+        self.assertEqual((status, out), (2, ""))
+        self.assertIn("answered another formula: AX p0", err)
+
+    def test_a_formula_from_a_file(self):
+        path = self.write("q.txt", "# in the end\nE[true U\n  p1]\n")
+        status, out, _ = self.otz("ask", self.model, "@" + path, "--program", FAKE)
+        self.assertEqual((status, out.splitlines()[0]), (0, "formula  E[true U p1]"))
+        bad = self.write("bad.txt", "E[true U\n  x]\n")
+        status, _, err = self.otz("ask", self.model, "@" + bad, "--program", FAKE)
+        self.assertEqual((status, err.splitlines()[0]), (2, f"{bad}:2:3: no proposition or state has the name x"))
+
+    def test_refusals_in_words(self):
+        self.assertEqual([REFUSALS[number].name for number in range(1, 11)], NAMES)
+        for number, name in enumerate(NAMES, 1):
+            status, out, err = self.otz("ask", self.model, "p0", "--program", self.says(f"refused {number}\\n"))
+            self.assertEqual((status, out, err), (1, f"refused {number}, {name}: {REFUSALS[number].meaning}\n", ""))
+
+    def test_a_number_that_nobody_knows(self):
+        status, out, _ = self.otz("ask", self.model, "p0", "--program", self.says("refused 99\\n"))
+        self.assertEqual((status, out), (1, "refused 99, a number that document 01 doesn't have\n"))
+
+    def test_mistakes_end_with_2_and_their_place(self):
+        bad = self.write("bad.otz", "a -> b 1\nb -> c 1\nb -> 3\n")
+        dead = self.write("dead.otz", "a -> b 1\nb -> c 1\na -> d 0")
+        binary = self.write("binary", b"\xff")
+        for words, said in (
+            ((bad, "true"), f"{bad}:3: not a transition"),
+            ((dead, "true"), f"{dead}:2: state c has no transition"),
+            ((dead, "true"), f"{dead}:3: state d has no transition"),
+            ((binary, "true"), f"{binary}: not text"),
+            ((self.folder / "none", "true"), "none: No such file"),
+            ((self.model, "(p0 &"), "formula:1:6: "),
+            ((self.model, "p9"), "formula:1:1: "),
+            ((self.model, "p0", "--state", "on"), "there is no state on (did you mean one?)"),
+            ((self.model, "EX " * 64 + "p0"), "formula: 65 rows"),
+            ((self.model,), "usage:"),
+        ):
+            status, out, err = self.otz("ask", *words, "--program", FAKE)
+            self.assertEqual((status, out), (2, ""), words)
+            self.assertIn(said, err)
+
+    def test_too_long_for_the_program(self):
+        long = self.write("long.otz", "a -> a 1\n" * 1100)
+        status, _, err = self.otz("ask", long, "true", "--program", FAKE)
+        self.assertEqual((status, err), (2, f"{long}: model and formula take 8,832 bytes together: the program takes 8,192\n"))
+        status, out, _ = self.otz("ask", long, "true", "--program", FAKE, "--raw")
+        self.assertEqual(status, 1)
+        self.assertIn("refused 2, LENGTH: ", out)
+        self.assertIn("8,832 bytes together", out)
+
+    def test_states_in_a_formula_count_as_propositions(self):
+        full = self.write("full.otz", "a: " + ", ".join(f"x{i}" for i in range(32)) + "\na -> a 1\n")
+        status, _, err = self.otz("ask", full, "a", "--program", FAKE)
+        self.assertEqual((status, err), (2, f"{full}: 33 propositions: 0 to 32 are allowed (1 for states that the formula names)\n"))
+        self.assertEqual(self.otz("ask", full, "p31", "--program", FAKE)[0], 0)
+
+    def test_raw_leaves_refusing_to_the_program(self):
+        dead = self.write("dead.otz", "a -> b 1")
+        for model, formula, number, said in (
+            (dead, "true", 7, f"{dead}:1: state b has no transition"),
+            (self.model, "p9", 6, "there is no proposition p9"),
+            (self.model, "EX " * 64 + "p0", 4, "65 rows: 1 to 64 are allowed"),
+            (self.write("empty.otz", ""), "true", 4, "0 states: 1 to 256 are allowed"),
+        ):
+            status, out, _ = self.otz("ask", model, formula, "--raw", "--program", self.says(f"refused {number}\\n"))
+            self.assertEqual((status, out.split(",")[0]), (1, f"refused {number}"))
+            self.assertIn(said, out)
+
+    def test_graphs_that_are_too_large(self):
+        ring = self.write("ring.otz", "".join(f"s{i} -> s{(i + 1) % 256} 1\n" for i in range(256)))
+        status, out, _ = self.otz("ask", ring, "EX " * 16 + "s0", "--program", FAKE)
+        self.assertEqual((status, out.splitlines()[1:]), (1, ["the graph would have 4,352 nodes: at most 4,096 are allowed"]))
+        status, out, _ = self.otz("ask", ring, "EX " * 15 + "s0", "--program", FAKE)
+        self.assertEqual((status, out.splitlines()[-1]), (0, "s255  no"))
+        crowd = self.write("crowd.otz", "s0 -> s0 1\n" * 900)
+        status, out, _ = self.otz("ask", crowd, "E[E[E[E[E[true U s0] U s0] U s0] U s0] U s0]", "--program", FAKE)
+        self.assertEqual((status, out.splitlines()), (1, [
+            "refused 9, ROOM: the room for the graph, the text or the values is too small",
+            "the graph would take 72,128 bytes: the program has 65,536",
+        ]))
+
+
+class Files(Case):
+    def test_compile_and_show(self):
+        path, out = self.write("m.otz", M), self.folder / "m.bin"
+        self.assertEqual(self.otz("compile", path, "E[p0 U<=2 one]", "-o", out)[0], 0)
+        _, text, _ = self.otz("show", out)
+        self.assertEqual(text, "propositions p0, p1, p2\nstate s0: p0\nstate s1: p1, p2\ns0 -> s0 3\ns0 -> s1 2\ns1 -> s1 0\n# formula: E[p0 U<=2 p2]\n")
+        shown = self.write("shown.otz", self.otz("show", out, "--only", "model")[1])
+        formula = self.otz("show", out, "--only", "formula")[1]
+        self.assertEqual(formula, "E[p0 U<=2 p2]\n")
+        again = self.folder / "again.bin"
+        self.otz("compile", shown, formula, "-o", again)
+        self.assertEqual(again.read_bytes(), out.read_bytes())
+        # the text of both is a model's text as well, because the formula is a comment
+        self.otz("compile", self.write("both.otz", text), "-o", again)
+        self.assertTrue(out.read_bytes().startswith(again.read_bytes()))
+
+    def test_one_part_that_is_not_there(self):
+        path, out = self.write("m.otz", M), self.folder / "m.bin"
+        self.otz("compile", path, "-o", out)
+        self.assertEqual(self.otz("show", out, "--only", "formula")[::2], (2, f"{out}: there is no formula here\n"))
+
+    def test_mistakes(self):
+        dead, out = self.write("dead.otz", "a -> b 1"), self.folder / "out"
+        self.assertEqual(self.otz("compile", dead, "-o", out)[0], 2)
+        self.assertFalse(out.exists())
+        self.assertEqual(self.otz("compile", dead, "-o", out, "--raw")[0], 0)
+        self.assertIn("refusal 7, DEAD", self.otz("show", out)[2])
+        self.assertEqual(self.otz("show", out, "--raw")[1], "state s0\nstate s1\ns0 -> s1 1\n")
+        self.assertEqual(self.otz("compile", dead, "-o", self.folder / "no" / "out", "--raw")[0], 2)
+        self.assertEqual(self.otz("nonsense")[0], 2)

@@ -1,0 +1,120 @@
+"""The examples: what they say, and answers worked out by runs alone."""
+
+import contextlib
+import os
+import re
+import shlex
+import subprocess
+from unittest import mock
+
+from otzarvim_tools import checks
+from otzarvim_tools.model_text import read_model
+from otzarvim_tools.running import VARIABLE
+
+from .common import FAKE, ROOT, Case, program
+from .meaning import a_until, e_until
+
+LIFE = ROOT / "examples" / "formula_life.otz"
+
+# The example again, by hand.
+LEADS = {
+    "cold": [(30, "interpreted")],
+    "hot": [(90, "speculated"), (25, "interpreted")],
+    "speculated": [(4, "speculated"), (7, "guard_failed")],
+    "guard_failed": [(35, "interpreted"), (12, "cold")],
+    "interpreted": [(20, "interpreted"), (1, "cold"), (2, "hot")],
+}
+ALL = set(LEADS)
+INTERPRETED, COMPILED = {"interpreted"}, {"speculated"}
+
+
+class Life(Case):
+    def answer(self, formula):
+        """The states with yes, as the stand-in says."""
+        status, out, _ = self.otz("ask", LIFE, formula, "--program", FAKE)
+        self.assertEqual(status, 0)
+        verdicts = [line.split() for line in out.split("\n\n")[1].splitlines()]
+        self.assertEqual([state for state, _ in verdicts], list(LEADS))
+        return {state for state, verdict in verdicts if verdict == "yes"}
+
+    def test_the_file_says_what_stands_above(self):
+        model = read_model(LIFE.read_text(), "life")
+        leads = {name: [] for name in model.states}
+        for step in model.transitions:
+            leads[model.states[step.source]].append((step.weight, model.states[step.target]))
+        self.assertEqual(leads, LEADS)
+        self.assertEqual(list(leads), list(LEADS))
+        self.assertEqual({name for i, name in enumerate(model.states) if model.label_names(i) == ["compiled"]}, COMPILED)
+
+    def test_back_in_the_interpreter(self):
+        # by hand: 35 at once, or 12 and 30 by way of cold, so 42 is enough and 41 is not
+        for bound, by_hand in ((42, {"cold", "guard_failed", "interpreted"}), (41, {"cold", "interpreted"})):
+            by_runs = a_until(LEADS, ALL, INTERPRETED, bound)
+            self.assertEqual(by_runs, by_hand)
+            self.assertEqual(self.answer(f"A[true U<={bound} interpreted]"), by_hand)
+
+    def test_a_lucky_run_from_speculation(self):
+        # by hand: 7 for the failed guard, then 35
+        for bound, by_hand in ((42, ALL), (41, ALL - {"speculated"})):
+            by_runs = e_until(LEADS, ALL, INTERPRETED, bound)
+            self.assertEqual(by_runs, by_hand)
+            self.assertEqual(self.answer(f"E[true U<={bound} interpreted]"), by_hand)
+
+    def test_how_soon_native_code_can_run(self):
+        # by hand: 30, 2 and 90 from cold; 35 and then 92 from a failed guard
+        for bound, by_hand in ((122, ALL - {"guard_failed"}), (121, ALL - {"guard_failed", "cold"}), (127, ALL), (126, ALL - {"guard_failed"})):
+            by_runs = e_until(LEADS, ALL, COMPILED, bound)
+            self.assertEqual(by_runs, by_hand)
+            self.assertEqual(self.answer(f"E[true U<={bound} compiled]"), by_hand)
+
+    def test_no_native_code_before_the_interpreter(self):
+        by_hand = {"cold", "guard_failed", "interpreted"}
+        self.assertEqual(a_until(LEADS, ALL - COMPILED, INTERPRETED), by_hand)
+        self.assertEqual(self.answer("A[!compiled U interpreted]"), by_hand)
+
+    def test_cheap_steps_of_native_code(self):
+        for bound in (4, 7):
+            by_runs = {state for state in ALL if all(after in COMPILED for weight, after in LEADS[state] if weight <= bound)}
+            self.assertEqual("speculated" in by_runs, bound == 4)
+            self.assertEqual(self.answer(f"AX<={bound} compiled"), by_runs)
+
+
+class Pages(Case):
+    """Each command on a page is run, and what the page shows below it is what it writes."""
+
+    def test_pages(self):
+        for page, least in (("tools/README.md", 5), ("examples/README.md", 7)):
+            text = (ROOT / page).read_text()
+            shown = 0
+            for block in re.findall(r"^```\n(\$ .*?)^```$", text, re.M | re.S):
+                for command, output in re.findall(r"^\$ ([^\n]*)\n((?:(?!\$ ).*\n)*)", block, re.M):
+                    self.assertEqual(self.written(command), output, f"{page}: {command}")
+                    shown += 1
+            self.assertGreaterEqual(shown, least, page)
+
+    def test_the_model_on_the_page(self):
+        text = (ROOT / "tools/README.md").read_text()
+        block = re.search(r"^```\n(propositions .*?)^```$", text, re.M | re.S).group(1)
+        model = read_model(block, "page")
+        self.assertEqual((model.states, model.propositions), (["cold", "hot", "spent"], ["idle", "warm"]))
+        self.assertEqual(list(checks.of_model(model)), [])
+
+    def written(self, command):
+        """What a command writes. Pipelines go to a shell; the others run here, which is faster."""
+        with mock.patch.dict(os.environ, {VARIABLE: program()}), in_folder(ROOT):
+            if "|" in command.split("'")[-1]:
+                return subprocess.run(["sh", "-c", command], stdout=subprocess.PIPE, stderr=subprocess.STDOUT, text=True).stdout
+            name, *words = shlex.split(command)
+            self.assertEqual(name, "tools/otz")
+            _, out, err = self.otz(*words)
+            return out + err
+
+
+@contextlib.contextmanager
+def in_folder(folder):
+    before = os.getcwd()
+    os.chdir(folder)
+    try:
+        yield
+    finally:
+        os.chdir(before)

@@ -1,0 +1,195 @@
+"""Message bytes: known ones, there and back, and the decoder's faults."""
+
+import random
+
+from otzarvim_tools import checks
+from otzarvim_tools.compiler import compile_formula, compile_model
+from otzarvim_tools.decoder import decode
+from otzarvim_tools.formula import Formula
+from otzarvim_tools.formula_text import read_formula
+from otzarvim_tools.mistakes import Mistake, Place
+from otzarvim_tools.model import Model, Transition
+from otzarvim_tools.model_text import read_model, write_model
+from otzarvim_tools.names import plain_number
+from otzarvim_tools.paper import OPERANDS, PROPOSITIONS, BOUNDED, Operator
+from otzarvim_tools.sizes import graph_size
+
+from . import fake_otzarvim
+from .common import M, Case, formula, model
+
+M_BYTES = bytes.fromhex(
+    "0000002D 01 02 0002 02 00000003"
+    "00000001 00000002"
+    "0000 00000003 0000"
+    "0000 00000002 0001"
+    "0001 00000000 0001"
+)
+UNTIL_BYTES = bytes.fromhex("0000001F 01 03 03  02 00 00 00 00000000  02 01 00 00 00000000  08 00 01 00 00000002")
+
+
+def random_model(chance: random.Random) -> Model:
+    states, propositions = chance.randint(1, 6), chance.randint(1, 4)
+    steps = [Transition(a, chance.randint(0, 9), chance.randrange(states)) for a in range(states) for _ in range(chance.randint(1, 3))]
+    labels = [frozenset(i for i in range(propositions) if chance.random() < 0.5) for _ in range(states)]
+    return Model([f"s{a}" for a in range(states)], [f"p{i}" for i in range(propositions)], labels, steps)
+
+
+def random_formula(chance: random.Random, propositions: int, depth: int = 3) -> Formula:
+    operator = chance.choice([op for op in Operator if depth or not OPERANDS[op]])
+    operands = tuple(random_formula(chance, propositions, depth - 1) for _ in range(OPERANDS[operator]))
+    bound = chance.choice([None, chance.randint(0, 20)]) if operator in BOUNDED else None
+    return Formula(operator, operands, chance.randrange(propositions) if operator in PROPOSITIONS else 0, bound)
+
+
+class Compiling(Case):
+    def test_known_bytes(self):
+        self.assertEqual(compile_model(model(M)), M_BYTES)
+        self.assertEqual(compile_formula(formula("E[p0 U<=2 p1]")), UNTIL_BYTES)
+
+    def test_transitions_are_sorted_and_keep_their_order(self):
+        shuffled = model("state a\nstate b\nb -> b 7\na -> b 5\nb -> a 3\na -> a 9")
+        decoded, _ = decode(compile_model(shuffled), "x")
+        self.assertEqual([(t.source, t.weight) for t in decoded.transitions], [(0, 5), (0, 9), (1, 7), (1, 3)])
+
+    def test_every_operator(self):
+        rows = compile_formula(formula("A[(true & !p1) U (false | E[p0 U<=5 AX<=6 EX p1])]"))[7:]
+        records = [rows[at:at + 8].hex() for at in range(0, len(rows), 8)]
+        self.assertEqual(
+            records,
+            ["0000000000000000", "0301000000000000", "0400010000000000", "0100000000000000", "0200000000000000",
+             "0201000000000000", "06050000ffffffff", "0706000000000006", "0804070000000005", "0503080000000000",
+             "09020900ffffffff"],
+        )
+
+    def test_what_no_field_can_hold(self):
+        large = Model(states=["s"] * 65536, labels=[frozenset()] * 65536)
+        self.mistake(lambda: compile_model(large), "65,536 states")
+        wide = Formula(Operator.TRUE)
+        for _ in range(128):
+            wide = Formula(Operator.AND, (wide, Formula(Operator.TRUE)))
+        self.mistake(lambda: compile_formula(wide), "257 rows")
+
+
+class ThereAndBack(Case):
+    def test_text_to_bytes_to_text_to_bytes(self):
+        chance = random.Random(8)
+        for _ in range(200):
+            original = random_model(chance)
+            asked = random_formula(chance, len(original.propositions))
+            data = compile_model(original) + compile_formula(asked)
+            shown, understood = decode(data, "x")
+            self.assertEqual((shown, understood), (original, asked))
+            again = read_model(write_model(shown), "x")
+            asked_again = read_formula(understood.text(), "x", plain_number)
+            self.assertEqual(compile_model(again) + compile_formula(asked_again), data)
+
+    def test_one_message_alone(self):
+        self.assertEqual(decode(M_BYTES, "x")[1], None)
+        self.assertEqual(decode(UNTIL_BYTES, "x")[0], None)
+        self.assertEqual(decode(UNTIL_BYTES, "x")[1].text(), "E[p0 U<=2 p1]")
+
+
+class Faults(Case):
+    def change(self, data, at, *values):
+        return data[:at] + bytes(values) + data[at + len(values):]
+
+    def test_first_fault_of_a_model(self):
+        for data, said in (
+            (b"", "LENGTH"),
+            (M_BYTES[:12], "LENGTH"),
+            (M_BYTES[:44], "LENGTH"),
+            (M_BYTES + b"\0", "byte 45, in the formula: 1 bytes are too few"),
+            (self.change(M_BYTES, 4, 2), "byte 4, in the model: version 2"),
+            (self.change(M_BYTES, 5, 1), "byte 5, in the model: kind 1"),
+            (self.change(M_BYTES, 6, 0, 0), "byte 6, in the model: 0 states: 1 to 256 are allowed (refusal 4, LIMIT)"),
+            (self.change(M_BYTES, 8, 33), "byte 8, in the model: 33 propositions"),
+            (self.change(M_BYTES, 9, 0, 1, 0, 0), "byte 9, in the model: 65536 transitions"),
+            (self.change(M_BYTES, 12, 4), "its counts ask for 53 bytes"),
+            (self.change(M_BYTES, 16, 4), "byte 13, in the model: the label of state 0"),
+            (self.change(M_BYTES, 22, 2), "byte 21, in the model: a transition from state 2 of 2 (refusal 6, NAME)"),
+            (self.change(M_BYTES, 22, 1), "byte 29, in the model: a transition from state 0 after one from state 1 (refusal 5, ORDER)"),
+            (self.change(M_BYTES, 28, 2), "byte 27, in the model: a transition to state 2 of 2"),
+            (self.change(M_BYTES, 38, 0), "state 1 has no transition (refusal 7, DEAD)"),
+        ):
+            self.mistake(lambda: decode(data, "x.bin"), "x.bin: ", said)
+
+    def test_first_fault_of_a_formula(self):
+        for at, value, said in (
+            (4, 2, "version 2"),
+            (6, 0, "byte 51, in the formula: 0 rows"),
+            (6, 2, "its counts ask for 23 bytes"),
+            (7, 10, "byte 52, in the formula: there is no operator 10 (refusal 10, FORM)"),
+            (9, 1, "byte 54, in the formula: row 0 has 1 in a field"),
+            (10, 1, "byte 55, in the formula: row 0 has 1 in a field"),
+            (14, 1, "byte 56, in the formula: row 0 has 1 in a field"),
+            (8, 2, "byte 53, in the formula: row 0 is about proposition 2 of 2 (refusal 6, NAME)"),
+            (24, 2, "byte 69, in the formula: row 2 has row 2 as operand"),
+            (25, 7, "byte 70, in the formula: row 2 has row 7 as operand"),
+            (25, 0, "row 0 is an operand 2 times"),
+        ):
+            data = M_BYTES + self.change(UNTIL_BYTES, at, value)
+            self.mistake(lambda: decode(data, "x.bin"), said)
+
+    def test_changed_bytes_are_a_fault_or_another_message(self):
+        chance = random.Random(3)
+        whole = M_BYTES + UNTIL_BYTES
+        for _ in range(1000):
+            data = self.change(whole, chance.randrange(len(whole)), chance.choice((0, 1, 2, 3, 9, 10, 255)))
+            try:
+                shown, understood = decode(data, "x")
+            except Mistake:
+                continue
+            self.assertEqual(compile_model(shown) + compile_formula(understood), data)
+
+    def test_raw_passes_over_what_text_can_say(self):
+        dead = self.change(M_BYTES, 38, 0)
+        self.assertEqual(decode(dead, "x", raw=True)[0].dead(), [1])
+        far = M_BYTES + self.change(UNTIL_BYTES, 8, 200)
+        self.assertEqual(decode(far, "x", raw=True)[1].text(), "E[p200 U<=2 p1]")
+
+
+class Limits(Case):
+    def numbers(self, complaints):
+        return [complaint.number for complaint in complaints]
+
+    def test_of_models(self):
+        loop = [Transition(0, 0, 0)]
+        self.assertEqual(self.numbers(checks.of_model(model(M))), [])
+        self.assertEqual(self.numbers(checks.of_model(Model())), [4])
+        for count, found in ((256, []), (257, [4])):
+            states = [f"s{i}" for i in range(count)]
+            steps = [Transition(i, 0, i) for i in range(count)]
+            self.assertEqual(self.numbers(checks.of_model(Model(states, [], [frozenset()] * count, steps))), found)
+        for count, found in ((32, []), (33, [4])):
+            self.assertEqual(self.numbers(checks.of_model(Model(["a"], [f"x{i}" for i in range(count)], [frozenset()], loop))), found)
+        for count, found in ((65535, []), (65536, [4])):
+            self.assertEqual(self.numbers(checks.of_model(Model(["a"], [], [frozenset()], loop * count))), found)
+
+    def test_dead_states_have_their_line(self):
+        (only,) = checks.of_model(model("a -> a 1\na -> b 2"))
+        self.assertEqual((only.number, str(only.mistake)), (7, "m.otz:2: state b has no transition (if it stays as it is: b -> b 0)"))
+
+    def test_of_formulas(self):
+        for count, found in ((64, []), (65, [4])):
+            deep = formula("EX " * (count - 1) + "p0")
+            self.assertEqual(self.numbers(checks.of_formula(deep, 1, Place("f"))), found)
+        self.assertEqual(self.numbers(checks.of_formula(formula("p1"), 1, Place("f"))), [6])
+
+    def test_of_the_program(self):
+        self.assertEqual(self.numbers(checks.of_input(8192, Place("f"))), [])
+        self.assertEqual(self.numbers(checks.of_input(8193, Place("f"))), [2])
+
+
+class Sizes(Case):
+    def test_against_the_graph_itself(self):
+        chance = random.Random(12)
+        for _ in range(200):
+            over = random_model(chance)
+            asked = random_formula(chance, len(over.propositions))
+            hypers, covers = fake_otzarvim.graph(*fake_otzarvim.read(compile_model(over) + compile_formula(asked)))
+            widths = [len(edge) for edges in hypers for edge in edges]
+            size = graph_size(over, asked)
+            self.assertEqual(
+                (size.nodes, size.hyperedges, size.targets, size.widest, size.covers),
+                (len(hypers), len(widths), sum(widths), max(widths, default=0), sum(map(bool, covers))),
+            )

@@ -1,0 +1,29 @@
+"""The program itself against the stand-in. Only where the variable OTZARVIM names the program:
+
+    OTZARVIM=target/bin/otzarvim python3 -m unittest discover -s tools
+"""
+
+import os
+import random
+import unittest
+from pathlib import Path
+
+from otzarvim_tools.compiler import compile_formula, compile_model
+from otzarvim_tools.running import VARIABLE, run
+
+from . import fake_otzarvim
+from .common import Case
+from .test_messages import random_formula, random_model
+
+
+@unittest.skipUnless(os.environ.get(VARIABLE), f"the variable {VARIABLE} doesn't name the program")
+class Program(Case):
+    def test_answers_as_the_stand_in(self):
+        chance = random.Random(2)
+        for _ in range(60):
+            model = random_model(chance)
+            data = compile_model(model) + compile_formula(random_formula(chance, len(model.propositions)))
+            self.assertEqual(run(Path(os.environ[VARIABLE]), data), fake_otzarvim.answer(data), data.hex())
+
+    def test_input_that_is_too_long(self):
+        self.assertEqual(run(Path(os.environ[VARIABLE]), bytes(8193)), "refused 2\n")
