@@ -15,7 +15,7 @@ use Rattle.lists.proofs.Making.{∈-keep}
 use Rattle.lists.proofs.Places.{first, second, place-lt, place-∈, ∈-place}
 use Rattle.lists.proofs.Each.{Each, each-none, each-more, each-map}
 use Rattle.lists.proofs.Order.{Between, done, next, between-append, between-rising}
-use Rattle.rules.specs.Graph.{Hyper, Cover, Target, Closed}
+use Rattle.rules.specs.Graph.{Hyper, Target, Closed}
 use Rattle.graph.specs.WellFormed as graph
 use Rattle.model.specs.Model.{Model, holds}
 use Rattle.model.specs.WellFormed as model
@@ -25,12 +25,12 @@ use Rattle.formula.specs.declared.Row.{Row}
 use Rattle.formula.specs.declared.Row.the-variants.{True, False, Proposition, Negation, And, Or, Next, Until}
 use Rattle.formula.specs.Rows.{operands}
 use Rattle.formula.specs.WellFormed as formula
+use Rattle.formula.proofs.Trees.{Ordered, ordered}
 use Rattle.runs.specs.Runs.{Leads}
 use Rattle.runs.proofs.Proper.{Proper, proper}
 use Rattle.reduction.specs.Built.{to, out, near, rowEdges, stepEdges, helperEdges, rowCovers, isUntil, untils, layout, hyper, cover, graphOf, Fits}
 use Rattle.reduction.proofs.Out.{out-leads, near-leads}
-use Rattle.formula.proofs.Trees.{Ordered, ordered}
-use Rattle.reduction.proofs.Blocks.{Stands, of-until, hyper-stands, cover-stands, edges, places, node-lt, helper-lt}
+use Rattle.reduction.proofs.Stands.{Stands, of-until, OfRow, OfHelper, hyper-stands, cover-stands, edges, places, node-lt, helper-lt}
 
 -- a layout in two parts
 pub layout-append : {B E : Type 0} (mk : ℕ → B → E) (s : ℕ) (f : Row → ℕ → ℕ → List B) (r : ℕ) (xs ys : List Row)
@@ -39,7 +39,7 @@ unfolding layout
 layout-append mk s f r [] ys = rw (add-zero r)
 layout-append mk s f r (x ∷ xs) ys =
     let e : suc r + length xs ≡ r + suc (length xs) = omega arith in
-    rw (layout-append mk s f (suc r) xs ys, e, append-assoc (span (λ a. map (mk (a + s * r)) (f x r a)) 0 s) (layout mk s f (suc r) xs) (layout mk s f (r + suc (length xs)) ys))
+    rw (layout-append mk s f (suc r) xs ys, e, append-assoc (span (λ a. map (mk (a + s * r)) (f x r a)) 0 s) (layout mk s f (suc r) xs))
 
 -- ---- sources rise: those of a node, of a row, of rows
 
@@ -52,14 +52,14 @@ module _ {B E : Type 0} (mk : ℕ → B → E) (source : E → ℕ) (sourced : (
   unfolding span
   states-between s r f a zero = let h : a + s * r ≤ a + 0 + s * r = omega arith in done h
   states-between s r f a (suc n) =
-      rw (map-append source (map (mk (a + s * r)) (f a)) (span (λ a. map (mk (a + s * r)) (f a)) (suc a) n))
+      rw (map-append source (map (mk (a + s * r)) (f a)))
       (between-append (le-refl (a + s * r)) (node-between (a + s * r) (f a)) (omega arith) (states-between s r f (suc a) n) (omega arith))
 
   rows-between : (s : ℕ) (f : Row → ℕ → ℕ → List B) (r : ℕ) (rows : List Row) → Between (s * (r + length rows)) (s * r) (map source (layout mk s f r rows))
   unfolding layout
   rows-between s f r [] = let h : s * r ≤ s * (r + 0) = omega arith in done h
   rows-between s f r (row ∷ rows) =
-      rw (map-append source (span (λ a. map (mk (a + s * r)) (f row r a)) 0 s) (layout mk s f (suc r) rows))
+      rw (map-append source (span (λ a. map (mk (a + s * r)) (f row r a)) 0 s))
       (between-append (omega arith) (states-between s r (λ a. f row r a) 0 s) (omega arith) (rows-between s f (suc r) rows) (omega arith))
 
 module _ (M : Model) (rows : List Row) where
@@ -69,37 +69,41 @@ module _ (M : Model) (rows : List Row) where
   pub hypers-rise : Rising (map (λ h. h .source) (graphOf M rows .hypers))
   unfolding graphOf
   hypers-rise =
-      rw (map-append (λ (h : Hyper). h .source) (layout hyper s (edges M rows) 0 rows) (layout hyper s (helperEdges M) (length rows) (untils rows)))
+      rw (map-append (λ (h : Hyper). h .source) (layout hyper s (edges M rows) 0 rows))
       (between-rising (le-refl 0)
       (between-append (omega arith) (rows-between hyper (λ h. h .source) (λ v b. refl) s (edges M rows) 0 rows) (omega arith)
-      (rows-between hyper (λ h. h .source) (λ v b. refl) s (helperEdges M) (length rows) (untils rows)) (le-refl (s * (length rows + length (untils rows))))))
+      (rows-between hyper (λ h. h .source) (λ v b. refl) s (helperEdges M) (length rows) (untils rows)) (le-refl (s * places M rows))))
 
   pub covers-rise : Rising (map (λ c. c .source) (graphOf M rows .covers))
   unfolding graphOf
   covers-rise = between-rising (omega arith) (rows-between cover (λ c. c .source) (λ v b. refl) s (rowCovers M rows) 0 rows)
 
-  -- what the targets are made of: a state's row at weight 0, or the place of a state that a transition leads to at its weight
+  -- ---- targets are made of a state's row at weight 0, or of the place of a state that a transition leads to, at its weight
+
   data Made : Target → Type 0 where
     still : {a r : ℕ} → a < s → r < places M rows → Made (to 0 (a + s * r))
     moved : {a w c r : ℕ} → Leads M a w c → r < places M rows → Made (to w (c + s * r))
 
   module _ (ok : Proper M) where
-    tested : (t : Bool) → Each (Each Made) (cond t ([] ∷ []) [])
-    tested true = each-more each-none each-none
-    tested false = each-none
+    test-made : (t : Bool) → Each (Each Made) (cond t ([] ∷ []) [])
+    test-made true = each-more each-none each-none
+    test-made false = each-none
 
     row-made : (row : Row) → ((l : ℕ) → l ∈ operands row → l < places M rows) → {a : ℕ} → a < s → Each (Each Made) (rowEdges M row a)
     row-made True op l = each-more each-none each-none
     row-made False op l = each-none
-    row-made (Proposition i) op {a} l = tested (holds M i a)
-    row-made (Negation i) op {a} l = tested (not (holds M i a))
+    row-made (Proposition i) op {a} l = test-made (holds M i a)
+    row-made (Negation i) op {a} l = test-made (not (holds M i a))
     row-made (And j k) op l = each-more (each-more (still l (op j first)) (each-more (still l (op k second)) each-none)) each-none
-    row-made (Or j k) op l = each-more (each-more (still l (op j first)) each-none) (each-more (each-more (still l (op k second)) each-none) each-none)
+    row-made (Or j k) op l =
+        each-more (each-more (still l (op j first)) each-none) (each-more (each-more (still l (op k second)) each-none) each-none)
     row-made (Next Some j b) op {a} l =
         each-map (λ (t : Target). to 0 (t .node + s * j) ∷ []) (near M b a)
         (λ t m. each-more (still (ok .target (near-leads M a b m .0)) (op j first)) each-none)
     row-made (Next Every j b) op {a} l =
-        each-more (each-map (λ (t : Target). to 0 (t .node + s * j)) (near M b a) (λ t m. still (ok .target (near-leads M a b m .0)) (op j first))) each-none
+        each-more
+        (each-map (λ (t : Target). to 0 (t .node + s * j)) (near M b a) (λ t m. still (ok .target (near-leads M a b m .0)) (op j first)))
+        each-none
     row-made (Until q j k b) op l = each-none
 
     step-made : (q : Quantifier) {j h a : ℕ} → j < places M rows → h < places M rows → a < s → Each (Each Made) (stepEdges M q j h a)
@@ -107,45 +111,56 @@ module _ (M : Model) (rows : List Row) where
         each-map (λ (t : Target). to 0 (a + s * j) ∷ to (t .weight) (t .node + s * h) ∷ []) (out M a)
         (λ t m. each-more (still l p) (each-more (moved (out-leads M a m) p′) each-none))
     step-made Every {j} {h} {a} p p′ l =
-        each-more (each-more (still l p) (each-map (λ (t : Target). to (t .weight) (t .node + s * h)) (out M a) (λ t m. moved (out-leads M a m) p′))) each-none
+        each-more
+        (each-more (still l p) (each-map (λ (t : Target). to (t .weight) (t .node + s * h)) (out M a) (λ t m. moved (out-leads M a m) p′)))
+        each-none
 
     module _ (order : Ordered rows) where
       operand-lt : {row : Row} → row ∈ rows → (l : ℕ) → l ∈ operands row → l < places M rows
       operand-lt m l n = let (i, at) = ∈-place m in let h = order .earlier i at n in let e = place-lt rows i at in omega arith
 
-      -- a hyperedge's source, and its targets
-      hyper-made : {h : Hyper} → h ∈ graphOf M rows .hypers → (h .source < graphOf M rows .nodes) × Each Made (h .targets)
-      hyper-made {h} m = go (hyper-stands M rows m)
-        where
-          made : {f : Row → ℕ → ℕ → List (List Target)} {k : ℕ} {rs : List Row} (z : Stands hyper s f k rs h) → z .number < places M rows → Each Made (z .load)
-              → (h .source < graphOf M rows .nodes) × Each Made (h .targets)
-          made z p e = subst (λ (h : Hyper). (h .source < graphOf M rows .nodes) × Each Made (h .targets)) (z .made) (node-lt M rows (z .below) p, e)
+      -- a hyperedge starts at a node, and its targets are made
+      abbrev Fine : Hyper → Type 0
+      Fine h = (h .source < graphOf M rows .nodes) × Each Made (h .targets)
 
-          go : Stands hyper s (edges M rows) 0 rows h ⊎ Stands hyper s (helperEdges M) (length rows) (untils rows) h → (h .source < graphOf M rows .nodes) × Each Made (h .targets)
+      fine : {h : Hyper} → h ∈ graphOf M rows .hypers → Fine h
+      fine {h} m = go (hyper-stands M rows m)
+        where
+          from : {f : Row → ℕ → ℕ → List (List Target)} {k : ℕ} {rs : List Row} (z : Stands hyper s f k rs h)
+              → z .number < places M rows → Each Made (z .load) → Fine h
+          from z p e = subst (λ (h : Hyper). Fine h) (z .made) (node-lt M rows (z .below) p, e)
+
+          go : OfRow M rows h ⊎ OfHelper M rows h → Fine h
           go (inl z) =
               let e = place-lt rows (z .place) (z .at) in
-              made z (omega arith) (row-made (z .row) (operand-lt (place-∈ rows (z .place) (z .at))) (z .below) .at (z .load) (z .there))
+              from z (omega arith) (row-made (z .row) (operand-lt (place-∈ rows (z .place) (z .at))) (z .below) .at (z .load) (z .there))
           go (inr z) =
               let e = place-lt (untils rows) (z .place) (z .at) in
               let p : z .number < places M rows = omega arith in
               let u = of-until (z .row) (λ q j k b. (to 0 (z .state + s * k) ∷ []) ∷ stepEdges M q j (z .number) (z .state)) (z .there) in
               let op = operand-lt (rw (u .same) at (∈-keep isUntil rows (place-∈ (untils rows) (z .place) (z .at)) .0)) in
-              made z p (each-more (each-more (still (z .below) (op (u .right) second)) each-none) (step-made (u .quantifier) (op (u .left) first) p (z .below)) .at (z .load) (u .there))
+              let right = each-more (still (z .below) (op (u .right) second)) each-none in
+              from z p (each-more right (step-made (u .quantifier) (op (u .left) first) p (z .below)) .at (z .load) (u .there))
 
       made-lt : {t : Target} → Made t → t .node < graphOf M rows .nodes
       made-lt (still l p) = node-lt M rows l p
       made-lt (moved m p) = node-lt M rows (ok .target m) p
 
+      -- every node that an edge names exists
       pub built-closed : Closed (graphOf M rows)
       built-closed = record {
-        hyper-source = λ m. hyper-made m .0;
-        hyper = λ m n. made-lt (hyper-made m .1 .at _ n);
-        cover-source = λ m. let z = cover-stands M rows m in let p = place-lt rows (z .place) (z .at) in rw (z .made) (node-lt M rows (z .below) (omega arith));
+        hyper-source = λ m. fine m .0;
+        hyper = λ m n. made-lt (fine m .1 .at _ n);
+        cover-source = λ m.
+            let z = cover-stands M rows m in
+            let p = place-lt rows (z .place) (z .at) in
+            rw (z .made) (node-lt M rows (z .below) (omega arith));
         cover = λ m. let z = cover-stands M rows m in rw (z .made) (node-lt M rows (z .below) (helper-lt M rows (z .place) (z .at)));
       }
 
--- THE GRAPH IS WELL-FORMED: so a reader accepts its bytes
-pub built-well-formed : {M : Model} {p : ℕ} {rows : List Row} → model.WellFormed M → formula.WellFormed p rows → Fits (graphOf M rows) → graph.WellFormed (graphOf M rows)
+-- the graph of a model and rows that readers accept is well-formed where it fits
+pub built-well-formed : {M : Model} {p : ℕ} {rows : List Row} → model.WellFormed M → formula.WellFormed p rows → Fits (graphOf M rows)
+    → graph.WellFormed (graphOf M rows)
 built-well-formed {M} {p} {rows} m r fits = record {
   some-node = let h : 0 < places M rows = omega arith in let n = node-lt M rows (m .some-state) h in omega arith;
   nodes-fit = fits .nodes-fit;
@@ -156,7 +171,7 @@ built-well-formed {M} {p} {rows} m r fits = record {
   hypers-ordered = hypers-rise M rows;
   covers-ordered = covers-rise M rows;
   closed = built-closed M rows (proper m) (ordered r);
-  weights-fit = λ h n. light (hyper-made M rows (proper m) (ordered r) h .1 .at _ n);
+  weights-fit = λ h n. light (fine M rows (proper m) (ordered r) h .1 .at _ n);
   bounds-fit = λ c. let z = cover-stands M rows c in rw (z .made) (r .sayable (place-∈ rows (z .place) (z .at)));
 }
   where

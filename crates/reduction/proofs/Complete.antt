@@ -14,7 +14,7 @@ use Rattle.lists.proofs.Each.{each-none, each-more, each-map}
 use Rattle.value.specs.declared.Bound.{Bound}
 use Rattle.value.specs.Value.{Value, plus, meets, _≼_}
 use Rattle.value.proofs.Values.{plus-≼}
-use Rattle.value.proofs.Peak.{Peak, peak}
+use Rattle.value.proofs.Peak.{peak}
 use Rattle.rules.specs.Graph.{Target}
 use Rattle.rules.specs.Rounds.{Assignment, Obeys}
 use Rattle.model.specs.Model.{Model}
@@ -25,16 +25,17 @@ use Rattle.formula.specs.declared.Row.the-variants.{True, False, Proposition, N
 use Rattle.formula.specs.Formula.{grow, formulaOf}
 use Rattle.formula.specs.Rows.{operands}
 use Rattle.formula.specs.WellFormed.{RowAt}
+use Rattle.formula.proofs.Trees.{Ordered, formula-of-row}
 use Rattle.runs.specs.Runs.{Step, go}
 use Rattle.runs.specs.Sat as sat
 use Rattle.runs.specs.Sat.{Sat}
 use Rattle.runs.proofs.Proper.{Proper}
-use Rattle.runs.proofs.Walks.{Move, E-value, A-value}
+use Rattle.runs.proofs.Walks.{Move, Climbs, E-value, A-value}
 use Rattle.reduction.specs.Built.{to, out, near, helperEdges, helperAt, graphOf}
 use Rattle.reduction.proofs.Out.{leads-out, out-leads, leads-near, near-leads}
-use Rattle.formula.proofs.Trees.{Ordered, formula-of-row}
-use Rattle.reduction.proofs.Blocks.{Cheap, Why, by-limit, by-edge, row-why, helper-why, node-lt, helper-lt}
-use Rattle.reduction.proofs.Sound.{φ}
+use Rattle.reduction.proofs.Stands.{node-lt, helper-lt}
+use Rattle.reduction.proofs.Blocks.{Cheap, Why, by-limit, by-edge, row-why, helper-why}
+use Rattle.reduction.proofs.Sound.{Holds}
 
 module _ (M : Model) (rows : List Row) (ok : Proper M) (order : Ordered rows) (x : Assignment) (obeys : Obeys (graphOf M rows) x) where
   abbrev s : ℕ
@@ -42,10 +43,10 @@ module _ (M : Model) (rows : List Row) (ok : Proper M) (order : Ordered rows) (x
 
   -- x is 0 at the nodes of row l where the row's formula holds
   abbrev RowZero : ℕ → Type 0
-  RowZero l = (a : ℕ) → a < s → φ M rows l a → x (a + s * l) ≼ 0
+  RowZero l = (a : ℕ) → a < s → Holds M rows l a → x (a + s * l) ≼ 0
 
   -- so is the sum of a target at weight 0
-  zero-sum : (d l : ℕ) → RowZero l → (a : ℕ) → a < s → φ M rows l a → plus 0 (x (a + s * l)) ≼ d
+  zero-sum : (d l : ℕ) → RowZero l → (a : ℕ) → a < s → Holds M rows l a → plus 0 (x (a + s * l)) ≼ d
   zero-sum d l op a b h = plus-≼ 0 (x (a + s * l)) (op a b h) (omega arith)
 
   module _ (r : ℕ) (j k : ℕ) (b : Bound) (left : RowZero j) (right : RowZero k) where
@@ -57,19 +58,16 @@ module _ (M : Model) (rows : List Row) (ok : Proper M) (order : Ordered rows) (x
     value c = x (c + s * H)
 
     -- it is at most d where a hyperedge is
-    value-≼ : (q : Quantifier) → RowAt rows r (Until q j k b) → {a d : ℕ} → a < s → (ts : List Target) → ts ∈ helperEdges M (Until q j k b) H a → Cheap x d ts → value a ≼ d
+    value-≼ : (q : Quantifier) → RowAt rows r (Until q j k b) → {a d : ℕ} → a < s → (ts : List Target) → ts ∈ helperEdges M (Until q j k b) H a
+        → Cheap x d ts → value a ≼ d
     value-≼ q at {a} l ts m c = rw (← obeys (a + s * H) (node-lt M rows l (helper-lt M rows r at))) (helper-why M rows x r l q j k b at ts m c)
 
     -- it is 0 where right holds
-    start : (q : Quantifier) → RowAt rows r (Until q j k b) → (a : ℕ) → a < s → φ M rows k a → value a ≼ 0
+    start : (q : Quantifier) → RowAt rows r (Until q j k b) → (a : ℕ) → a < s → Holds M rows k a → value a ≼ 0
     start q at a l h = value-≼ q at l (to 0 (a + s * k) ∷ []) first (each-more (zero-sum 0 k right a l h) each-none)
 
-    -- where left holds it climbs along a step by no more than the weight
-    abbrev Climbs : ℕ → ℕ → ℕ → Type 0
-    Climbs a w c = φ M rows j a → (e : ℕ) → value c ≼ e → value a ≼ (w + e)
-
-    -- E: along each step
-    E-climb : RowAt rows r (Until Some j k b) → (a w c : ℕ) → a < s → Step M a w c → Climbs a w c
+    -- where left holds it climbs by no more than the weight. E: along each step
+    E-climb : RowAt rows r (Until Some j k b) → (a w c : ℕ) → a < s → Step M a w c → Climbs (Holds M rows j) value a w c
     E-climb at a w c l (go m) h e p =
         let d = w + e in
         value-≼ Some at l (to 0 (a + s * j) ∷ to w (c + s * H) ∷ [])
@@ -77,24 +75,28 @@ module _ (M : Model) (rows : List Row) (ok : Proper M) (order : Ordered rows) (x
         (each-more (zero-sum d j left a l h) (each-more (plus-≼ w (value c) p (le-refl d)) each-none))
 
     -- A: along a step with the greatest weight plus helper value
-    A-climb : RowAt rows r (Until Every j k b) → (a : ℕ) → a < s → (m : Move M a) × Climbs a (m .weight) (m .state)
+    A-climb : RowAt rows r (Until Every j k b) → (a : ℕ) → a < s → (m : Move M a) × Climbs (Holds M rows j) value a (m .weight) (m .state)
     A-climb at a l =
         let (w, c, m) = ok .live a l in
-        let p = peak (λ (t : Target). plus (t .weight) (value (t .node))) (leads-out M a m) in
-        (record { weight = p .top .weight; state = p .top .node; step = go (out-leads M a (p .there)) }, λ h e v.
-        let d = p .top .weight + e in
-        value-≼ Every at l (to 0 (a + s * j) ∷ map (λ (t : Target). to (t .weight) (t .node + s * H)) (out M a)) second
-        (each-more (zero-sum d j left a l h) (each-map (λ (t : Target). to (t .weight) (t .node + s * H)) (out M a)
-        (λ t n. p .above .at t n .carries (plus-≼ (p .top .weight) (value (p .top .node)) v (le-refl d))))))
+        let p = peak (λ (t : Target). plus (t .weight) (value (t .node))) (leads-out M a m) in (
+          record { weight = p .top .weight; state = p .top .node; step = go (out-leads M a (p .there)) },
+          λ h e v.
+              let d = p .top .weight + e in
+              value-≼ Every at l (to 0 (a + s * j) ∷ map (λ (t : Target). to (t .weight) (t .node + s * H)) (out M a)) second
+              (each-more (zero-sum d j left a l h) (each-map (λ (t : Target). to (t .weight) (t .node + s * H)) (out M a)
+              (λ t n. p .above .at t n .carries (plus-≼ (p .top .weight) (value (p .top .node)) v (le-refl d))))),
+        )
 
     -- where the until holds, the helper's value is within the bound
-    helper-complete : (q : Quantifier) → RowAt rows r (Until q j k b) → (a : ℕ) → a < s → sat.Until M q (φ M rows j) (φ M rows k) b a → meets b (value a) ≡ true
-    helper-complete Some at a l u = E-value M ok (φ M rows j) (φ M rows k) value (start Some at) b (E-climb at) l u
-    helper-complete Every at a l u = A-value M ok (φ M rows j) (φ M rows k) value (start Every at) b (λ a l. A-climb at a l .0) (λ a l. A-climb at a l .1) a l u
+    helper-complete : (q : Quantifier) → RowAt rows r (Until q j k b) → (a : ℕ) → a < s → sat.Until M q (Holds M rows j) (Holds M rows k) b a
+        → meets b (value a) ≡ true
+    helper-complete Some at a l u = E-value M ok (Holds M rows j) (Holds M rows k) value (start Some at) b (E-climb at) a l u
+    helper-complete Every at a l u =
+        A-value M ok (Holds M rows j) (Holds M rows k) value (start Every at) b (λ a l. A-climb at a l .0) (λ a l. A-climb at a l .1) a l u
 
   -- where a row's formula holds there is a reason for 0
-  row-complete : (r : ℕ) (row : Row) → RowAt rows r row → ((l : ℕ) → l ∈ operands row → RowZero l) → (a : ℕ) (l : a < s) → Sat M (grow (some row) (formulaOf rows)) a
-      → Why M rows x r l row 0
+  row-complete : (r : ℕ) (row : Row) → RowAt rows r row → ((l : ℕ) → l ∈ operands row → RowZero l) → (a : ℕ) (l : a < s)
+      → Sat M (grow (some row) (formulaOf rows)) a → Why M rows x r l row 0
   row-complete r True at op a l h = by-edge [] first each-none
   row-complete r False at op a l h = absurd h
   row-complete r (Proposition i) at op a l h = by-edge [] (rw h first) each-none
@@ -119,7 +121,8 @@ module _ (M : Model) (rows : List Row) (ok : Proper M) (order : Ordered rows) (x
       let (row, at) = element rows r h in
       rw (← obeys (a + s * r) (node-lt M rows l (omega arith)))
       (row-why M rows x r l at
-      (row-complete r row at (λ j m. let e = order .earlier r at m in from-rows n j (omega arith) (omega arith)) a l (rw (formula-of-row rows order r at) at t)))
+      (row-complete r row at (λ j m. let e = order .earlier r at m in from-rows n j (omega arith) (omega arith)) a l
+      (rw (formula-of-row rows order r at) at t)))
 
   pub complete : (r : ℕ) → r < length rows → (a : ℕ) → a < M .states → Sat M (formulaOf rows r) a → x (a + M .states * r) ≼ 0
   complete r h = from-rows (suc r) r (omega arith) h

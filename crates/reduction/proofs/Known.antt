@@ -24,12 +24,12 @@ use Rattle.formula.specs.declared.Row.the-variants.{Proposition, Until}
 use Rattle.formula.specs.Formula.{formulaOf}
 use Rattle.formula.specs.Rows.{operands}
 use Rattle.formula.specs.WellFormed.{RowAt}
+use Rattle.formula.proofs.Trees.{Ordered}
 use Rattle.runs.specs.Runs.{Leads}
 use Rattle.runs.specs.Sat.{Sat}
 use Rattle.runs.proofs.Proper.{Proper}
 use Rattle.reduction.specs.Built.{out, near, layout, graphOf}
 use Rattle.reduction.specs.Known.{M, p0-until-p1, T13, T14, T15}
-use Rattle.formula.proofs.Trees.{Ordered}
 use Rattle.reduction.proofs.Verdict.{yes-exactly}
 
 -- M is proper

@@ -1,12 +1,14 @@
 -- Why the built graph answers the question.
 --     Out        the list of a state's transitions
---     Blocks     which edges a node of the built graph has, and so why it is at most d after a round
+--     Stands     which edges stand in the built graph
+--     Blocks     why a node of the built graph is at most d after a round
 --     Sound      a number in any round is no empty promise
 --     Complete   where a formula holds, an assignment that obeys the rules is 0
 --     Verdict    settled rounds have 0 where the formula holds, and infinity where not
 --     Built      the built graph is well-formed where it fits; its lists from the front
 --     Known      on model M, T13 to T15 hold and fail as the paper says
 pub mod Out
+pub mod Stands
 pub mod Blocks
 pub mod Sound
 pub mod Complete

@@ -13,10 +13,10 @@ use Rattle.rules.specs.Rounds.{rounds, Settled}
 use Rattle.model.specs.Model.{Model}
 use Rattle.formula.specs.declared.Row.{Row}
 use Rattle.formula.specs.Formula.{formulaOf}
+use Rattle.formula.proofs.Trees.{Ordered}
 use Rattle.runs.specs.Sat.{Sat}
 use Rattle.runs.proofs.Proper.{Proper}
 use Rattle.reduction.specs.Built.{graphOf}
-use Rattle.formula.proofs.Trees.{Ordered}
 use Rattle.reduction.proofs.Sound.{sound}
 use Rattle.reduction.proofs.Complete.{complete}
 

@@ -42,8 +42,11 @@ module _ (M : Model) where
     later : {d e : ℕ} (at weight : ℕ → ℕ) → L (at 0) → Witness L R (Within e) (λ i. at (suc i)) (λ i. weight (suc i)) → weight 0 + e ≤ d
         → Witness L R (Within d) at weight
     unfolding total
-    later {d} {e} at weight l k fits = record { position = suc (k .position); arrives = k .arrives; cost = le-leb (total weight (suc (k .position))) d (omega (arith, leb-true (total (λ i. weight (suc i)) (k .position)) e (k .cost))); before = before }
+    later {d} {e} at weight l k fits = record { position = suc (k .position); arrives = k .arrives; cost = cost; before = before }
       where
+        cost : inside (Within d) (total weight (suc (k .position))) ≡ true
+        cost = let h = leb-true (total (λ i. weight (suc i)) (k .position)) e (k .cost) in le-leb (total weight (suc (k .position))) d (omega arith)
+
         before : (i : ℕ) → i < suc (k .position) → L (at i)
         before zero h = l
         before (suc i) h = k .before i (omega arith)
@@ -53,7 +56,8 @@ module _ (M : Model) where
     unfolding prepend
     E-later {a} {w} t l (ρ, k) fits = (prepend t ρ, later (push a (ρ .at)) (push w (ρ .weight)) l k fits)
 
-    pub A-later : {a d : ℕ} → L a → ((w c : ℕ) → Step M a w c → (e : ℕ) × Until M Every L R (Within e) c × (w + e ≤ d)) → Until M Every L R (Within d) a
+    pub A-later : {a d : ℕ} → L a → ((w c : ℕ) → Step M a w c → (e : ℕ) × Until M Every L R (Within e) c × (w + e ≤ d))
+        → Until M Every L R (Within d) a
     unfolding rest
     A-later l next ρ =
         let n = next (ρ .weight 0) (ρ .at 1) (rw (ρ .starts) at (ρ .steps 0)) in

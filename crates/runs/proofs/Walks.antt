@@ -23,6 +23,10 @@ along h at w zero base step = base
 along h at w (suc p) base step =
     step 0 (omega arith) (total (λ j. w (suc j)) p) (along h (λ j. at (suc j)) (λ j. w (suc j)) p base (λ i l. step (suc i) (omega arith)))
 
+-- values climb along a step from where L holds by no more than the weight
+abbrev pub Climbs : (ℕ → Type 0) → (ℕ → Value) → ℕ → ℕ → ℕ → Type 0
+Climbs L h a w c = L a → (e : ℕ) → h c ≼ e → h a ≼ (w + e)
+
 -- where a run may go from a state
 pub record Move (M : Model) (a : ℕ) : Type 0 where
   pub weight : ℕ
@@ -65,7 +69,12 @@ module _ (M : Model) (ok : Proper M) where
 
   -- the run that a strategy leads along
   abbrev follow : Strategy M → (a : ℕ) → a < M .states → Run M a
-  follow f a l = record { at = λ i. walk f (a, l) i .0; weight = paid f (a, l); starts = refl; steps = walked f (Step M) (λ a l. f a l .step) (a, l) }
+  follow f a l = record {
+    at = λ i. walk f (a, l) i .0;
+    weight = paid f (a, l);
+    starts = refl;
+    steps = walked f (Step M) (λ a l. f a l .step) (a, l);
+  }
 
   any-move : Strategy M
   any-move a l = let (w, c, m) = ok .live a l in record { weight = w; state = c; step = go m }
@@ -76,20 +85,19 @@ module _ (M : Model) (ok : Proper M) where
     until-now Some b a l r = (follow any-move a l, now M L R b r)
     until-now Every b a l r = λ ρ. now M L R b (rw (ρ .starts) r)
 
-    -- values that are 0 where R holds, and climb along a step from where L holds by no more than the weight
+    -- values that are 0 where R holds are within the bound where a run that they climb along has a witness
     module _ (h : ℕ → Value) (start : (a : ℕ) → a < M .states → R a → h a ≼ 0) (b : Bound) where
-      abbrev pub Climbs : ℕ → ℕ → ℕ → Type 0
-      Climbs a w c = L a → (e : ℕ) → h c ≼ e → h a ≼ (w + e)
-
-      -- then they are within the bound where a run that they climb along has a witness
-      run-value : {a : ℕ} (ρ : Run M a) → a < M .states → ((i : ℕ) → Climbs (ρ .at i) (ρ .weight i) (ρ .at (suc i))) → Witness L R b (ρ .at) (ρ .weight) → meets b (h a) ≡ true
+      run-value : {a : ℕ} (ρ : Run M a) → a < M .states → ((i : ℕ) → Climbs L h (ρ .at i) (ρ .weight i) (ρ .at (suc i)))
+          → Witness L R b (ρ .at) (ρ .weight) → meets b (h a) ≡ true
       run-value ρ l climb k =
           rw (ρ .starts) at (inside-meets b (k .cost)
-          (along h (ρ .at) (ρ .weight) (k .position) (start (ρ .at (k .position)) (among ρ l (k .position)) (k .arrives)) (λ i p. climb i (k .before i p))))
+          (along h (ρ .at) (ρ .weight) (k .position) (start (ρ .at (k .position)) (among ρ l (k .position)) (k .arrives))
+          (λ i p. climb i (k .before i p))))
 
       -- so where an E until holds, if they climb along each step; and where an A until does, if they climb along some step of each state
-      pub E-value : ((a w c : ℕ) → a < M .states → Step M a w c → Climbs a w c) → {a : ℕ} → a < M .states → Until M Some L R b a → meets b (h a) ≡ true
-      E-value climb l (ρ, k) = run-value ρ l (λ i. climb (ρ .at i) (ρ .weight i) (ρ .at (suc i)) (among ρ l i) (ρ .steps i)) k
+      pub E-value : ((a w c : ℕ) → a < M .states → Step M a w c → Climbs L h a w c) → (a : ℕ) → a < M .states → Until M Some L R b a → meets b (h a) ≡ true
+      E-value climb a l (ρ, k) = run-value ρ l (λ i. climb (ρ .at i) (ρ .weight i) (ρ .at (suc i)) (among ρ l i) (ρ .steps i)) k
 
-      pub A-value : (f : Strategy M) → ((a : ℕ) (l : a < M .states) → Climbs a (f a l .weight) (f a l .state)) → (a : ℕ) → a < M .states → Until M Every L R b a → meets b (h a) ≡ true
-      A-value f climb a l u = run-value (follow f a l) l (walked f Climbs climb (a, l)) (u (follow f a l))
+      pub A-value : (f : Strategy M) → ((a : ℕ) (l : a < M .states) → Climbs L h a (f a l .weight) (f a l .state))
+          → (a : ℕ) → a < M .states → Until M Every L R b a → meets b (h a) ≡ true
+      A-value f climb a l u = run-value (follow f a l) l (walked f (Climbs L h) climb (a, l)) (u (follow f a l))
