@@ -1,0 +1,70 @@
+// The line of each call: its letter, and a field for each answer. A body that is past the program's limits, cut short or has
+// bytes left over has an empty line. Numbers stand at fixed places, and what is left is the last message.
+ghost use Rattle.trials.specs.Lines.{Sound};
+use crate::line::Line;
+use crate::rooms;
+use crate::sums;
+use graph::Checked;
+use rounds::Outcome;
+use wire::Width;
+
+// Whether these bytes are a message of that size, within the program's limit.
+fn is_message(size: u32, s: &[u8]) -> bool {
+    size <= 65536 && size as usize == s.len()
+}
+
+// `G`: a graph.
+pub fn graph(body: &[u8]) -> Line
+    ensures { λ r. ⌜ Sound r ⌝ }
+{
+    if body.len() < 4 {
+        return Line::new();
+    }
+    let message = &body[4..];
+    if !is_message(wire::number_at(body, 0, Width::Four), message) {
+        return Line::new();
+    }
+    let number = match graph::check(message) {
+        Checked::Graph(_, _, _) => 0,
+        Checked::Refused(e) => e.number(),
+    };
+    Line::new().byte(b'G').number(number as u64)
+}
+
+// `R`: a budget, a room in numbers; a graph.
+pub fn rounds(body: &[u8], values: &mut [u64]) -> Line
+    ensures { λ r. ⌜ Sound r ⌝ }
+{
+    if body.len() < 12 {
+        return Line::new();
+    }
+    let budget = wire::number_at(body, 0, Width::Four);
+    let asked = wire::number_at(body, 4, Width::Four);
+    let message = &body[12..];
+    if !is_message(wire::number_at(body, 8, Width::Four), message) {
+        return Line::new();
+    }
+    let len = rooms::front_of_values(asked, values);
+    if len < asked as usize {
+        return Line::new();
+    }
+    rounds_in(message, budget, &mut values[..len])
+}
+
+fn rounds_in(message: &[u8], budget: u32, room: &mut [u64]) -> Line
+    ensures { λ r. ⌜ Sound r ⌝ }
+{
+    rooms::fill_values(room);
+    let outcome = rounds::solve(message, budget, room);
+    rounds_line(outcome, sums::of_values(room))
+}
+
+fn rounds_line(outcome: Outcome, room: u32) -> Line
+    ensures { λ r. ⌜ Sound r ⌝ }
+{
+    Line::new()
+        .byte(b'R')
+        .number(outcome.number() as u64)
+        .number(outcome.count() as u64)
+        .sum(room)
+}

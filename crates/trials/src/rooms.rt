@@ -1,0 +1,30 @@
+// The rooms that calls are lent: fronts of what the program has, filled afresh.
+ghost use Rattle.io.specs.Counts.{Counts};
+ghost use Rattle.trials.specs.Rooms.{Counting};
+
+// As many of the bytes as are asked for, or all. Both facts of `Counts` are asked where a front is lent.
+pub fn front_of_bytes(n: u32, s: &[u8]) -> usize
+    ensures { λ r. ⌜ Counts r (now (s .entry)) ⌝ }
+{
+    let k = n as usize;
+    if k < s.len() { k } else { s.len() }
+}
+
+// As many of the numbers as are asked for, or all.
+pub fn front_of_values(n: u32, s: &[u64]) -> usize
+    ensures { λ r. ⌜ Counts r (now (s .entry)) ⌝ }
+{
+    let k = n as usize;
+    if k < s.len() { k } else { s.len() }
+}
+
+// Number i is i + 1.
+pub fn fill_values(room: &mut [u64])
+    ensures { λ _. ⌜ Counting (now (room .exit)) ⌝ }
+{
+    let mut i = 0;
+    while i < room.len() {
+        room[i] = i as u64 + 1;
+        i += 1;
+    }
+}
