@@ -13,7 +13,7 @@ use Rattle.wire.specs.declared.State.{State}
 use Rattle.model.specs.Model.{Model, Transition, noneDead}
 
 -- with transitions in order, the first state that none leaves: the next one where a transition leaves this one
-abbrev pub afterFrom : ℕ → ℕ → ℕ
+unfoldable pub afterFrom : ℕ → ℕ → ℕ
 afterFrom first from = cond (eqb from first) (first + 1) first
 
 module _ (s : List ℕ) where

@@ -1,6 +1,6 @@
 -- The models that messages say: every count within its limit, every list in order, every name of a state that exists, no dead state.
 use Prim.Native.Nat.{ℕ, _≤_, _<_, _^_}
-use mathlib.Core.List.{List, map}
+use mathlib.Core.List.{map}
 use mathlib.Core.Path.{_≡_}
 use lib.ListN.{length}
 use Rattle.lists.specs.Lists.{_∈_}

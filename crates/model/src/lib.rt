@@ -74,7 +74,7 @@ fn labels(s: &[u8], p: u32, k: u32, first: State) -> Step
 
 // One transition of a model with n states.
 fn transition(s: &[u8], n: u32, st: State) -> Step
-    requires { ⌜ (st .at ≤ length (now s)) × (n ≤ 256) × (st .tally ≤ 256) ⌝ }
+    requires { ⌜ (st .at ≤ length (now s)) × (n ≤ 256) × (st .tally ≤ n) ⌝ }
     ensures { λ r. ⌜ r ≡ step (one (m.transitions (now (s .entry)) n) st) ⌝ }
 {
     let at = st.at;
@@ -164,7 +164,8 @@ fn header(s: &[u8]) -> Checked
     if 65535 < t {
         return Checked::Refused(Refusal::Limit);
     }
-    if s.len() != 13 + (n as usize) * 4 + (t as usize) * 8 {
+    let end = 13 + (n as usize) * 4 + (t as usize) * 8;
+    if s.len() != end {
         return Checked::Refused(Refusal::Length);
     }
     Checked::Model(n, p, t)

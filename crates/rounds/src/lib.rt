@@ -114,11 +114,11 @@ fn take_covers(s: &[u8], n: usize, k: u32, at: usize, room: &mut [u64])
         let bound = Bound::coded(wire::number_at(s, p + 2, Width::Four));
         let target = wire::number_at(s, p + 6, Width::Two) as usize;
         let value = room[target];
-        let j = n + source;
+        let own = n + source;
         p += 8;
         i -= 1;
         if Value(value).within(bound) {
-            room[j] = 0;
+            room[own] = 0;
         }
     }
 }

@@ -4,7 +4,6 @@ ghost use Rattle.trials.specs.Lines.{Sound};
 use crate::line::Line;
 use crate::rooms;
 use crate::sums;
-use graph::Checked;
 use rounds::Outcome;
 use wire::Width;
 
@@ -25,10 +24,28 @@ pub fn graph(body: &[u8]) -> Line
         return Line::new();
     }
     let number = match graph::check(message) {
-        Checked::Graph(_, _, _) => 0,
-        Checked::Refused(e) => e.number(),
+        graph::Checked::Graph(_, _, _) => 0,
+        graph::Checked::Refused(e) => e.number(),
     };
     Line::new().byte(b'G').number(number as u64)
+}
+
+// `M`: a model.
+pub fn model(body: &[u8]) -> Line
+    ensures { λ r. ⌜ Sound r ⌝ }
+{
+    if body.len() < 4 {
+        return Line::new();
+    }
+    let message = &body[4..];
+    if !is_message(wire::number_at(body, 0, Width::Four), message) {
+        return Line::new();
+    }
+    let number = match model::check(message) {
+        model::Checked::Model(_, _, _) => 0,
+        model::Checked::Refused(e) => e.number(),
+    };
+    Line::new().byte(b'M').number(number as u64)
 }
 
 // `R`: a budget, a room in numbers; a graph.

@@ -15,6 +15,7 @@ fn answer(letter: u8, body: &[u8], values: &mut [u64]) -> Line
 {
     match letter {
         b'G' => answers::graph(body),
+        b'M' => answers::model(body),
         b'R' => answers::rounds(body, values),
         _ => Line::new(),
     }

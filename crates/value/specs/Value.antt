@@ -42,6 +42,11 @@ same (fin a) inf = false
 same inf (fin b) = false
 same inf inf = true
 
+-- the number is within the bound
+abbrev pub inside : Bound → ℕ → Bool
+inside (Within k) a = leb a k
+inside Unbounded a = true
+
 -- the value is within the bound: at most its number; with no bound, finite
 abbrev pub meets : Bound → Value → Bool
 meets (Within k) a = atMost a k

@@ -8,6 +8,7 @@
 --     Start      the reading of a message's start, from the answer
 --     Stands     bytes that stand in a message at a position
 --     Exact      readers that read exactly what is written, and the start of a message
+--     Laid       bytes laid into a room one after another are laid in at once
 pub mod Bytes
 pub mod Fields
 pub mod Reading
@@ -17,3 +18,4 @@ pub mod Turns
 pub mod Start
 pub mod Stands
 pub mod Exact
+pub mod Laid

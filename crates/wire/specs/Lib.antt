@@ -6,3 +6,4 @@ pub mod Start
 pub mod Write
 pub mod Layout
 pub mod Step
+pub mod Laid

@@ -94,8 +94,8 @@ mul-value c = omega (arith, target-named c, long (c .before .before .before .bef
 slice-read-value : tie.Need-slice-read-value Inv-loop μ-loop
 slice-read-value c = omega (arith, target-named (c .before), long (c .before .before .before .before .before))
 
-add-j : tie.Need-add-j Inv-loop μ-loop
-add-j c = omega (arith, source-named (c .before .before .before .before), long (c .before .before .before .before .before))
+add-own : tie.Need-add-own Inv-loop μ-loop
+add-own c = omega (arith, source-named (c .before .before .before .before), long (c .before .before .before .before .before))
 
 add-p : tie.Need-add-p Inv-loop μ-loop
 add-p c = omega (arith, here (c .before .before .before .before .before) .inside)
@@ -158,7 +158,7 @@ take-covers-spec =
     cast-target
     mul-value
     slice-read-value
-    add-j
+    add-own
     add-p
     sub-i
     within-requires

@@ -1,0 +1,4 @@
+pub mod Held
+pub mod Size
+pub mod Bytes
+pub mod Built

@@ -1,0 +1,377 @@
+// The graph of an accepted model and formula, written into a lent room.
+ghost use mathlib.Core.Path.{_≡_};
+ghost use Prim.Native.Nat.{_+_, _*_, _-_, _≤_, _<_};
+ghost use mathlib.Core.List.{_++_, _∷_, []};
+ghost use lib.ListN.{length, getD};
+ghost use Rattle.lists.specs.Making.{keep, span};
+ghost use Rattle.value.specs.Value.{inside};
+ghost use Rattle.wire.specs.Bytes.{bytes};
+ghost use Rattle.wire.specs.Laid.{Laid};
+ghost use Rattle.wire.specs.Write.{writeAll};
+ghost use Rattle.graph.specs.Write.{writeTarget, writeHyper, writeCover};
+ghost use Rattle.model.specs.Model as model;
+ghost use Rattle.reduction.specs.Built as built;
+ghost use Rattle.build.specs.Held.{transitionsFrom, heldModel, heldRows, HoldsModel, HoldsRows, Starts, Own, Reads, leading};
+ghost use Rattle.build.specs.Size.{noSize, addSize, sizeOf, stateEdges, rowsEdges, leafEdges, nextSize, helperSize};
+ghost use Rattle.build.specs.Bytes.{hypersBytes, coversBytes, someNext, everyNext, someSteps, everySteps};
+ghost use Rattle.build.specs.Built.{builtOf, roomOf};
+use formula::Quantifier;
+use formula::Row;
+use refusal::Refusal;
+use value::Bound;
+use value::Value;
+use wire::Width;
+
+// How many hyperedges, how many targets in all, and in the one with the most.
+pub struct Size {
+    pub hypers: u64,
+    pub targets: u64,
+    pub most: u64,
+}
+
+// The length of the graph, or why it was not built.
+pub enum Built {
+    Graph(usize),
+    Refused(Refusal),
+}
+
+// Whether bit i of a label is set.
+fn bit(label: u32, i: u32) -> bool
+    ensures { λ r. ⌜ r ≡ model.bit label i ⌝ }
+{
+    let mut rest = label;
+    let mut k = i;
+    while 0 < k {
+        rest /= 2;
+        k -= 1;
+    }
+    rest % 2 == 1
+}
+
+// Whether proposition i holds in state a.
+fn holds(m: &[u8], n: u32, p: u32, t: u32, a: u32, i: u32) -> bool
+    requires { ⌜ HoldsModel (now m) n p t ⌝ }
+    requires { ⌜ a < n ⌝ }
+    ensures { λ r. ⌜ r ≡ model.holds (heldModel (now (m .entry)) n p t) i a ⌝ }
+{
+    let at = 13 + (a as usize) * 4;
+    bit(wire::number_at(m, at, Width::Four), i)
+}
+
+// The first transition from this one on that doesn't leave state a.
+fn past_state(m: &[u8], n: u32, p: u32, t: u32, a: u32, first: u32) -> u32
+    requires { ⌜ HoldsModel (now m) n p t ⌝ }
+    requires { ⌜ first ≤ t ⌝ }
+    ensures { λ r. ⌜ (first ≤ r) × (r ≤ t) × (r ≡ first + leading a (transitionsFrom (now (m .entry)) n first (t - first))) ⌝ }
+{
+    let base = 13 + (n as usize) * 4;
+    let mut i = first;
+    while i < t {
+        let from = wire::number_at(m, base + (i as usize) * 8, Width::Two);
+        if from != a {
+            return i;
+        }
+        i += 1;
+    }
+    i
+}
+
+// Where each state's transitions start: they come by rising `from`, so one pass finds every range.
+fn starts(m: &[u8], n: u32, p: u32, t: u32) -> [u32; 257]
+    requires { ⌜ HoldsModel (now m) n p t ⌝ }
+    ensures { λ r. ⌜ (257 ≡ length r) × Starts (now (m .entry)) n t r ⌝ }
+{
+    let mut table = [0u32; 257];
+    let mut first: u32 = 0;
+    let mut a: u32 = 0;
+    while a < n {
+        first = past_state(m, n, p, t, a, first);
+        a += 1;
+        let i = a as usize;
+        table[i] = first;
+    }
+    table
+}
+
+// How many of these transitions are within the bound.
+fn near_count(m: &[u8], n: u32, first: u32, many: u32, bound: Bound) -> u32
+    requires { ⌜ 13 + n * 4 + (first + many) * 8 ≤ length (now m) ⌝ }
+    ensures { λ r. ⌜ r ≡ length (keep (λ u. inside bound (u .weight)) (transitionsFrom (now (m .entry)) n first many)) ⌝ }
+{
+    let mut at = 13 + (n as usize) * 4 + (first as usize) * 8;
+    let mut i = many;
+    let mut near: u32 = 0;
+    while 0 < i {
+        let weight = wire::number_at(m, at + 2, Width::Four);
+        at += 8;
+        i -= 1;
+        if Value(weight as u64).within(bound) {
+            near += 1;
+        }
+    }
+    near
+}
+
+impl Size {
+    // The sizes of two lists of hyperedges, one behind the other.
+    fn plus(self, other: Size) -> Size
+        requires { ⌜ (self .hypers + other .hypers < 1000000000000) × (self .targets + other .targets < 1000000000000) ⌝ }
+        ensures { λ r. ⌜ r ≡ addSize self other ⌝ }
+    {
+        Size {
+            hypers: self.hypers + other.hypers,
+            targets: self.targets + other.targets,
+            most: if self.most < other.most { other.most } else { self.most },
+        }
+    }
+}
+
+// The size of the hyperedges of a row's node; the state's transitions are so many from one on.
+fn row_size(m: &[u8], n: u32, p: u32, t: u32, a: u32, first: u32, many: u32, row: Row) -> Size
+    requires { ⌜ HoldsModel (now m) n p t ⌝ }
+    requires { ⌜ Own (now m) n t a first many ⌝ }
+    ensures { λ r. ⌜ r ≡ sizeOf (built.rowEdges (heldModel (now (m .entry)) n p t) row a) ⌝ }
+{
+    match row {
+        Row::True => Size { hypers: 1, targets: 0, most: 0 },
+        Row::False => Size { hypers: 0, targets: 0, most: 0 },
+        Row::Proposition(i) => leaf_size(holds(m, n, p, t, a, i)),
+        Row::Negation(i) => leaf_size(!holds(m, n, p, t, a, i)),
+        Row::And(_, _) => Size { hypers: 1, targets: 2, most: 2 },
+        Row::Or(_, _) => Size { hypers: 2, targets: 2, most: 1 },
+        Row::Next(q, _, b) => next_size(q, near_count(m, n, first, many, b) as u64),
+        Row::Until(_, _, _, _) => Size { hypers: 0, targets: 0, most: 0 },
+    }
+}
+
+// One hyperedge without targets, or none.
+fn leaf_size(one: bool) -> Size
+    ensures { λ r. ⌜ r ≡ sizeOf (leafEdges one) ⌝ }
+{
+    if one {
+        Size { hypers: 1, targets: 0, most: 0 }
+    } else {
+        Size { hypers: 0, targets: 0, most: 0 }
+    }
+}
+
+// EX has a hyperedge for each transition, AX one with all.
+fn next_size(q: Quantifier, near: u64) -> Size
+    ensures { λ r. ⌜ r ≡ nextSize q near ⌝ }
+{
+    match q {
+        Quantifier::Some => Size { hypers: near, targets: near, most: if near < 1 { 0 } else { 1 } },
+        Quantifier::Every => Size { hypers: 1, targets: near, most: near },
+    }
+}
+
+// The size of the hyperedges of a row's helper node, where it has one.
+fn helper_size(row: Row, many: u64) -> Size
+    requires { ⌜ many ≤ 65535 ⌝ }
+    ensures { λ r. ⌜ r ≡ helperSize row many ⌝ }
+{
+    let Row::Until(q, _, _, _) = row else {
+        return Size { hypers: 0, targets: 0, most: 0 };
+    };
+    match q {
+        Quantifier::Some => Size { hypers: 1 + many, targets: 1 + 2 * many, most: if many < 1 { 1 } else { 2 } },
+        Quantifier::Every => Size { hypers: 2, targets: 2 + many, most: 1 + many },
+    }
+}
+
+// The size of the hyperedges of a row's nodes and helpers, over all states.
+fn states_size(m: &[u8], n: u32, p: u32, t: u32, table: &[u32], row: Row) -> Size
+    requires { ⌜ HoldsModel (now m) n p t ⌝ }
+    requires { ⌜ (n < length (now table)) × Starts (now m) n t (now table) ⌝ }
+    ensures { λ r. ⌜ r ≡ sizeOf (span (stateEdges (heldModel (now (m .entry)) n p t) row) 0 n) ⌝ }
+{
+    let mut sum = Size { hypers: 0, targets: 0, most: 0 };
+    let mut a: u32 = 0;
+    while a < n {
+        let i = a as usize;
+        let first = table[i];
+        let many = table[i + 1] - first;
+        let own = row_size(m, n, p, t, a, first, many, row);
+        let helper = helper_size(row, many as u64);
+        sum = sum.plus(own).plus(helper);
+        a += 1;
+    }
+    sum
+}
+
+// The size of all hyperedges of the graph.
+fn total_size(m: &[u8], n: u32, p: u32, t: u32, table: &[u32], f: &[u8], k: u32) -> Size
+    requires { ⌜ HoldsModel (now m) n p t ⌝ }
+    requires { ⌜ (n < length (now table)) × Starts (now m) n t (now table) ⌝ }
+    requires { ⌜ HoldsRows (now f) k p ⌝ }
+    ensures { λ r. ⌜ r ≡ sizeOf (rowsEdges (heldModel (now (m .entry)) n p t) (heldRows (now (f .entry)) k)) ⌝ }
+{
+    let mut sum = Size { hypers: 0, targets: 0, most: 0 };
+    let mut at: usize = 7;
+    let mut i = k;
+    while 0 < i {
+        let row = formula::row_at(f, at);
+        sum = sum.plus(states_size(m, n, p, t, table, row));
+        at += 8;
+        i -= 1;
+    }
+    sum
+}
+
+// How many until rows there are.
+fn count_untils(f: &[u8], k: u32, p: u32) -> u32
+    requires { ⌜ HoldsRows (now f) k p ⌝ }
+    ensures { λ r. ⌜ r ≡ length (built.untils (heldRows (now (f .entry)) k)) ⌝ }
+{
+    let mut untils: u32 = 0;
+    let mut at: usize = 7;
+    let mut i = k;
+    while 0 < i {
+        let row = formula::row_at(f, at);
+        at += 8;
+        i -= 1;
+        if let Row::Until(_, _, _, _) = row {
+            untils += 1;
+        }
+    }
+    untils
+}
+
+// The source and the target count of a hyperedge.
+fn put_head(room: &mut [u8], at: usize, source: u32, count: u32) -> usize
+    requires { ⌜ at + 4 ≤ length (now room) ⌝ }
+    ensures { λ r. ⌜ Laid (now (room .entry)) at (bytes 2 source ++ bytes 2 count) (now (room .exit)) r ⌝ }
+{
+    wire::store(room, at, Width::Two, source);
+    wire::store(room, at + 2, Width::Two, count);
+    at + 4
+}
+
+// A target.
+fn put_target(room: &mut [u8], at: usize, weight: u32, node: u32) -> usize
+    requires { ⌜ at + 6 ≤ length (now room) ⌝ }
+    ensures { λ r. ⌜ Laid (now (room .entry)) at (writeTarget (built.to weight node)) (now (room .exit)) r ⌝ }
+{
+    wire::store(room, at, Width::Four, weight);
+    wire::store(room, at + 4, Width::Two, node);
+    at + 6
+}
+
+// A hyperedge with one target at weight 0.
+fn put_single(room: &mut [u8], at: usize, v: u32, node: u32) -> usize
+    requires { ⌜ at + 10 ≤ length (now room) ⌝ }
+    ensures { λ r. ⌜ Laid (now (room .entry)) at (writeHyper (built.hyper v (built.to 0 node ∷ []))) (now (room .exit)) r ⌝ }
+{
+    let target = put_head(room, at, v, 1);
+    put_target(room, target, 0, node)
+}
+
+// A hyperedge with two targets, the first at weight 0.
+fn put_pair(room: &mut [u8], at: usize, v: u32, node: u32, weight: u32, other: u32) -> usize
+    requires { ⌜ at + 16 ≤ length (now room) ⌝ }
+    ensures { λ r. ⌜ Laid (now (room .entry)) at (writeHyper (built.hyper v (built.to 0 node ∷ built.to weight other ∷ []))) (now (room .exit)) r ⌝ }
+{
+    let first = put_head(room, at, v, 2);
+    let second = put_target(room, first, 0, node);
+    put_target(room, second, weight, other)
+}
+
+// Where a transition of the model stands.
+fn transition_at(n: u32, first: u32) -> usize
+    requires { ⌜ (n ≤ 256) × (first ≤ 65535) ⌝ }
+    ensures { λ r. ⌜ r ≡ 13 + n * 4 + first * 8 ⌝ }
+{
+    13 + (n as usize) * 4 + (first as usize) * 8
+}
+
+// EX: a hyperedge for each of these transitions within the bound, with the successor's node, shift further on.
+fn put_some_next(room: &mut [u8], at: usize, m: &[u8], n: u32, v: u32, first: u32, many: u32, bound: Bound, shift: u32) -> usize
+    requires { ⌜ Reads (now m) n first many shift ⌝ }
+    requires { ⌜ at + length (hypersBytes v (someNext (transitionsFrom (now m) n first many) bound shift)) ≤ length (now room) ⌝ }
+    ensures {
+        λ r. ⌜ Laid (now (room .entry)) at (hypersBytes v (someNext (transitionsFrom (now (m .entry)) n first many) bound shift))
+        (now (room .exit)) r ⌝
+    }
+{
+    let mut next = at;
+    let mut p = transition_at(n, first);
+    let mut i = many;
+    while 0 < i {
+        let weight = wire::number_at(m, p + 2, Width::Four);
+        let to = wire::number_at(m, p + 6, Width::Two);
+        p += 8;
+        i -= 1;
+        if Value(weight as u64).within(bound) {
+            next = put_single(room, next, v, to + shift);
+        }
+    }
+    next
+}
+
+// AX: the targets for each of these transitions within the bound.
+fn put_every_next(room: &mut [u8], at: usize, m: &[u8], n: u32, first: u32, many: u32, bound: Bound, shift: u32) -> usize
+    requires { ⌜ Reads (now m) n first many shift ⌝ }
+    requires { ⌜ at + length (writeAll writeTarget (everyNext (transitionsFrom (now m) n first many) bound shift)) ≤ length (now room) ⌝ }
+    ensures {
+        λ r. ⌜ Laid (now (room .entry)) at (writeAll writeTarget (everyNext (transitionsFrom (now (m .entry)) n first many) bound shift))
+        (now (room .exit)) r ⌝
+    }
+{
+    let mut next = at;
+    let mut p = transition_at(n, first);
+    let mut i = many;
+    while 0 < i {
+        let weight = wire::number_at(m, p + 2, Width::Four);
+        let to = wire::number_at(m, p + 6, Width::Two);
+        p += 8;
+        i -= 1;
+        if Value(weight as u64).within(bound) {
+            next = put_target(room, next, 0, to + shift);
+        }
+    }
+    next
+}
+
+// E until: a hyperedge for each of these transitions, with left and the successor's helper.
+fn put_some_steps(room: &mut [u8], at: usize, m: &[u8], n: u32, v: u32, first: u32, many: u32, left: u32, shift: u32) -> usize
+    requires { ⌜ Reads (now m) n first many shift ⌝ }
+    requires { ⌜ at + length (hypersBytes v (someSteps (transitionsFrom (now m) n first many) left shift)) ≤ length (now room) ⌝ }
+    ensures {
+        λ r. ⌜ Laid (now (room .entry)) at (hypersBytes v (someSteps (transitionsFrom (now (m .entry)) n first many) left shift))
+        (now (room .exit)) r ⌝
+    }
+{
+    let mut next = at;
+    let mut p = transition_at(n, first);
+    let mut i = many;
+    while 0 < i {
+        let weight = wire::number_at(m, p + 2, Width::Four);
+        let to = wire::number_at(m, p + 6, Width::Two);
+        next = put_pair(room, next, v, left, weight, to + shift);
+        p += 8;
+        i -= 1;
+    }
+    next
+}
+
+// A until: the successors' helpers as targets.
+fn put_every_steps(room: &mut [u8], at: usize, m: &[u8], n: u32, first: u32, many: u32, shift: u32) -> usize
+    requires { ⌜ Reads (now m) n first many shift ⌝ }
+    requires { ⌜ at + length (writeAll writeTarget (everySteps (transitionsFrom (now m) n first many) shift)) ≤ length (now room) ⌝ }
+    ensures {
+        λ r. ⌜ Laid (now (room .entry)) at (writeAll writeTarget (everySteps (transitionsFrom (now (m .entry)) n first many) shift))
+        (now (room .exit)) r ⌝
+    }
+{
+    let mut next = at;
+    let mut p = transition_at(n, first);
+    let mut i = many;
+    while 0 < i {
+        let weight = wire::number_at(m, p + 2, Width::Four);
+        let to = wire::number_at(m, p + 6, Width::Two);
+        next = put_target(room, next, weight, to + shift);
+        p += 8;
+        i -= 1;
+    }
+    next
+}

@@ -1,0 +1,120 @@
+-- What a good reading says: each field is there, each demand is met. Assumes nothing.
+use Prim.Native.Nat.{ℕ, _+_, _*_, _^_, _<_, _≤_}
+use mathlib.Core.List.{List}
+use mathlib.Core.Path.{_≡_, ap, _∙_}
+use lib.ListN.{length}
+use lib.Dec.{eqb}
+use borrow.Author.Tests.{ltb-true, leb-true, eqb-true}
+use native.Mathlib.Omega.{arith}
+use Rattle.lists.proofs.Tests.{by-test}
+use Rattle.wire.specs.declared.Field.the-variants.{Number}
+use Rattle.wire.specs.declared.State.{State}
+use Rattle.wire.specs.Field.{fieldAt}
+use Rattle.wire.specs.Read.{good}
+use Rattle.wire.specs.Reader.{one}
+use Rattle.wire.specs.Start.{readStart}
+use Rattle.wire.proofs.Fields.{value-inside}
+use Rattle.wire.proofs.Reading.{bind-good, and-good, demand-good, field-good, good-same}
+use Rattle.model.specs.Model.{Transition}
+use Rattle.model.specs.Message.{readLabel, readTransition, readHeader, labels, transitions, afterFrom, Counts}
+
+after-from-most : {n first from : ℕ} → first ≤ n → from < n → afterFrom first from ≤ n
+unfolding afterFrom
+after-from-most {n} {first} {from} most named =
+    by-test (eqb from first) (λ e. rw e (omega (arith, eqb-true))) (λ e. rw e most)
+
+module _ (s : List ℕ) where
+  -- what a good label says of the bytes
+  pub record LabelAt (p : ℕ) (st : State) (l : ℕ) : Type 0 where
+    pub label-there : fieldAt 4 s (st .at) ≡ Number l
+    pub label-fits : l < 2 ^ p
+
+  pub label-good : (p : ℕ) (st : State) (l : ℕ) → readLabel s p st ≡ good l → LabelAt p st l
+  unfolding readLabel
+  label-good p st l e =
+      let w = bind-good _ _ e in
+      let d = demand-good _ _ _ (w .rest) in
+      let same : w .value ≡ l = good-same (d .1) in
+      record {
+        label-there = field-good 4 s _ (w .first) ∙ ap Number same;
+        label-fits = rw (← same) (ltb-true _ _ (d .0));
+      }
+
+  -- what a good transition says of the bytes
+  pub record TransitionAt (n : ℕ) (st : State) (t : Transition) : Type 0 where
+    pub from-there : fieldAt 2 s (st .at) ≡ Number (t .from)
+    pub weight-there : fieldAt 4 s (st .at + 2) ≡ Number (t .weight)
+    pub to-there : fieldAt 2 s (st .at + 6) ≡ Number (t .to)
+    pub from-named : t .from < n
+    pub ordered : st .prev ≤ t .from
+    pub to-named : t .to < n
+
+  pub transition-good : (n : ℕ) (st : State) (t : Transition) → readTransition s n st ≡ good t → TransitionAt n st t
+  unfolding readTransition
+  transition-good n st t e =
+      let f = bind-good _ _ e in
+      let w = bind-good _ _ (f .rest) in
+      let v = bind-good _ _ (w .rest) in
+      let from-named = demand-good _ _ _ (v .rest) in
+      let ordered = demand-good _ _ _ (from-named .1) in
+      let to-named = demand-good _ _ _ (ordered .1) in
+      let same : record { from = f .value; weight = w .value; to = v .value } ≡ t = good-same (to-named .1) in
+      record {
+        from-there = field-good 2 s _ (f .first) ∙ ap (λ (u : Transition). Number (u .from)) same;
+        weight-there = field-good 4 s _ (w .first) ∙ ap (λ (u : Transition). Number (u .weight)) same;
+        to-there = field-good 2 s _ (v .first) ∙ ap (λ (u : Transition). Number (u .to)) same;
+        from-named = rw (← same) (ltb-true _ _ (from-named .0));
+        ordered = rw (← same) (leb-true _ _ (ordered .0));
+        to-named = rw (← same) (ltb-true _ _ (to-named .0));
+      }
+
+  -- the state past a good record lies inside the message
+  pub labels-stay : (p : ℕ) (st next : State) → one (labels s p) st ≡ good next → next .at ≤ length s
+  labels-stay p st next e =
+      let r = bind-good _ _ e in
+      let l = label-good p st (r .value) (r .first) in
+      omega (arith, value-inside 4 s (st .at) (l .label-there), ap (λ (u : State). u .at) (good-same (r .rest)))
+
+  -- and the first state that none leaves is at most their number
+  pub transitions-stay : (n : ℕ) (st next : State) → st .tally ≤ n → one (transitions s n) st ≡ good next → (next .at ≤ length s) × (next .tally ≤ n)
+  transitions-stay n st next most e =
+      let r = bind-good _ _ e in
+      let t = transition-good n st (r .value) (r .first) in
+      rw (← good-same (r .rest)) (omega (arith, value-inside 2 s (st .at + 6) (t .to-there)), after-from-most most (t .from-named))
+
+-- what a good header says of the bytes
+pub record HeaderAt (s : List ℕ) (k : Counts) : Type 0 where
+  pub opened : readStart s 13 1 2 ≡ good tt
+  pub states-there : fieldAt 2 s 6 ≡ Number (k .states)
+  pub propositions-there : fieldAt 1 s 8 ≡ Number (k .propositions)
+  pub transitions-there : fieldAt 4 s 9 ≡ Number (k .transitions)
+  pub states-least : 1 ≤ k .states
+  pub states-most : k .states ≤ 256
+  pub propositions-most : k .propositions ≤ 32
+  pub transitions-most : k .transitions ≤ 65535
+  pub long : length s ≡ 13 + k .states * 4 + k .transitions * 8
+
+pub header-good : (s : List ℕ) (k : Counts) → readHeader s ≡ good k → HeaderAt s k
+unfolding readHeader
+header-good s k e =
+    let opened = and-good _ _ e in
+    let n = bind-good _ _ (opened .1) in
+    let n-least = demand-good _ _ _ (n .rest) in
+    let n-most = demand-good _ _ _ (n-least .1) in
+    let p = bind-good _ _ (n-most .1) in
+    let p-most = demand-good _ _ _ (p .rest) in
+    let t = bind-good _ _ (p-most .1) in
+    let t-most = demand-good _ _ _ (t .rest) in
+    let long = demand-good _ _ _ (t-most .1) in
+    let same : record { states = n .value; propositions = p .value; transitions = t .value } ≡ k = good-same (long .1) in
+    record {
+      opened = opened .0;
+      states-there = field-good 2 s 6 (n .first) ∙ ap (λ (u : Counts). Number (u .states)) same;
+      propositions-there = field-good 1 s 8 (p .first) ∙ ap (λ (u : Counts). Number (u .propositions)) same;
+      transitions-there = field-good 4 s 9 (t .first) ∙ ap (λ (u : Counts). Number (u .transitions)) same;
+      states-least = rw (← same) (leb-true _ _ (n-least .0));
+      states-most = rw (← same) (leb-true _ _ (n-most .0));
+      propositions-most = rw (← same) (leb-true _ _ (p-most .0));
+      transitions-most = rw (← same) (leb-true _ _ (t-most .0));
+      long = eqb-true _ _ (long .0) ∙ ap (λ (u : Counts). 13 + u .states * 4 + u .transitions * 8) same;
+    }

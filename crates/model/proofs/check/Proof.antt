@@ -1,0 +1,139 @@
+-- `model::check` meets its contract: the header, the labels, the transitions, and whether a state is dead.
+use Prim.Native.Nat.{_+_, _*_}
+use mathlib.Core.Path.{_≡_, _∙_}
+use denote.Ref.{now}
+use borrow.Author.Tests.{lt-leb, le-leb}
+use borrow.Author.Needs.{needs}
+use native.Mathlib.Omega.{arith}
+use lib.Dec.{leb}
+use Rattle.lists.proofs.Tests.{by}
+use Rattle.wire.specs.Read.{good}
+use Rattle.wire.specs.Reader.{run}
+use Rattle.wire.proofs.Reading.{reading}
+use Rattle.wire.proofs.Readers.{run-good, run-bad, all-length}
+use Rattle.wire.proofs.Turns.{step-next, step-refused}
+use Rattle.model.specs.Model.{noneDead}
+use Rattle.model.specs.Message.{readHeader, readModel, start}
+use Rattle.model.specs.Message as m
+use Rattle.model.specs.Answers.{checked}
+use Rattle.model.proofs.Good.{header-good}
+use Rattle.model.proofs.Answered.{counted-model, counted-refused}
+use Rattle.model.proofs.Exact.{dead-known}
+use Rattle.model.proofs.check.Statement.{statement}
+use Rattle.model.proofs.check.Tie as tie
+
+-- the header is good, and so are the labels and the transitions
+head-good : (c : tie.After-known-told) → let k = c .before .head .given .0 in
+    readHeader (now (c .before .before .before .before .before .args .s)) ≡ good (record { states = k .0; propositions = k .1 .0; transitions = k .1 .1 .0 })
+head-good c = counted-model _ (by (c .before .before .before .header .ensures) (c .before .head .given .1))
+
+labels-next : (c : tie.After-enum-told2) → let k = c .before .before .before .before .head .given .0 in
+    run (m.labels (now (c .before .before .before .before .before .before .before .before .args .s)) (k .1 .0)) (k .0) (start 13) ≡ good (c .enum-told2 .given .0 .0)
+labels-next c = step-next _ (by (c .before .before .labels .ensures) (c .enum-told2 .given .1))
+
+transitions-next : (c : tie.After-known-told3) → let k = c .before .before .before .before .before .before .before .before .head .given .0 in
+    run (m.transitions (now (c .before .before .before .before .before .before .before .before .before .before .before .before .args .s)) (k .0)) (k .1 .1 .0) (start (13 + k .0 * 4)) ≡ good (c .before .st .given .0 .0)
+transitions-next c = step-next _ (by (c .before .before .before .transitions .ensures) (c .before .st .given .1))
+
+-- the first state that none leaves tells whether one is dead
+dead-is : (c : tie.After-known-told3) → let k = c .before .before .before .before .before .before .before .before .head .given .0 in
+    noneDead (k .0) (run-good _ _ _ _ (transitions-next c) .got) ≡ leb (k .0) (c .before .st .given .0 .0 .tally)
+dead-is c =
+    let h = c .before .before .before .before .before .before .before in
+    let small = header-good _ _ (head-good h) .states-most in
+    dead-known _ (λ i. omega (arith, h .before .before .before .before .shared-slice-known .given i)) _ _ _ _ (omega arith) (run-good _ _ _ _ (transitions-next c))
+
+header-requires : tie.Need-header-requires
+header-requires c κs = search needs
+
+enum-known-head : tie.Need-enum-known-head
+enum-known-head c = search needs
+
+enum-told : tie.Need-enum-told
+enum-told c = search needs
+
+returns : tie.Need-returns
+unfolding readModel checked
+returns c =
+    let refused = counted-refused _ (by (c .before .before .header .ensures) (c .enum-told .given .1)) in
+    c .enum-told .given .1 ∙ simp (reading, refused)
+
+labels-requires : tie.Need-labels-requires
+labels-requires c κs = let h = header-good _ _ (head-good c) in (omega (arith, h .long), h .propositions-most)
+
+enum-known-e : tie.Need-enum-known-e
+enum-known-e c = search needs
+
+returns-2 : tie.Need-returns-2
+unfolding readModel checked
+returns-2 c =
+    let r = c .before .before .before in
+    simp (reading, head-good (r .before), run-bad _ _ _ _ (step-refused _ (by (r .labels .ensures) (c .before .e .given .1))))
+
+enum-told-2 : tie.Need-enum-told-2
+enum-told-2 c = search needs
+
+cast-middle : tie.Need-cast-middle
+cast-middle c = search needs
+
+mul-middle : tie.Need-mul-middle
+mul-middle c = search needs
+
+add-middle : tie.Need-add-middle
+add-middle c = search needs
+
+transitions-requires : tie.Need-transitions-requires
+transitions-requires c κs = let h = header-good _ _ (head-good (c .before .before .before)) in (omega (arith, h .long), h .states-most, omega arith)
+
+enum-known-st : tie.Need-enum-known-st
+enum-known-st c = search needs
+
+enum-known-e-2 : tie.Need-enum-known-e-2
+enum-known-e-2 c = search needs
+
+returns-3 : tie.Need-returns-3
+unfolding readModel checked
+returns-3 c =
+    let r = c .before .before .before in
+    let ls = run-good _ _ _ _ (labels-next (r .before)) in
+    simp (reading, head-good (r .before .before .before .before), ls .there, run-bad _ _ _ _ (step-refused _ (by (r .transitions .ensures) (c .before .e2 .given .1))))
+
+returns-4 : tie.Need-returns-4
+unfolding readModel checked
+returns-4 c =
+    let t = c .before in
+    let l = t .before .before .before .before in
+    let ls = run-good _ _ _ _ (labels-next l) in
+    let ts = run-good _ _ _ _ (transitions-next t) in
+    simp (reading, head-good (l .before .before .before), ls .there, ts .there, dead-is t, lt-leb _ _ (c .if1 .taken))
+
+returns-5 : tie.Need-returns-5
+unfolding readModel checked
+returns-5 c =
+    let t = c .before in
+    let l = t .before .before .before .before in
+    let ls = run-good _ _ _ _ (labels-next l) in
+    let ts = run-good _ _ _ _ (transitions-next t) in
+    simp (reading, head-good (l .before .before .before), ls .there, ts .there, dead-is t, le-leb _ _ (c .if1 .left), all-length _ _ _ _ (ts .there))
+
+pub check-spec : {M : Type 1} → statement M
+check-spec =
+    tie.close
+    (tie.spec
+    header-requires
+    enum-known-head
+    enum-told
+    returns
+    labels-requires
+    enum-known-e
+    returns-2
+    enum-told-2
+    cast-middle
+    mul-middle
+    add-middle
+    transitions-requires
+    enum-known-st
+    enum-known-e-2
+    returns-3
+    returns-4
+    returns-5)

@@ -1,0 +1,72 @@
+-- `model::labels` meets its contract: the run of the i labels that are left is the whole run.
+use Prim.Native.Nat.{_≤_}
+use mathlib.Core.Path.{_≡_, refl}
+use lib.ListN.{length}
+use borrow.Author.Needs.{needs}
+use native.Mathlib.Omega.{arith}
+use Rattle.lists.proofs.Tests.{by}
+use Rattle.wire.specs.Reader.{run}
+use Rattle.model.specs.Message as m
+use Rattle.wire.specs.Step.{step}
+use Rattle.wire.proofs.Turns.{step-next, turn-next, turn-refused, turn-none}
+use Rattle.model.proofs.Good.{labels-stay}
+use Rattle.model.proofs.labels.Statement.{statement}
+use Rattle.model.proofs.labels.Tie as tie
+
+abbrev Inv-loop : tie.InvT-loop
+Inv-loop s p k limit st₀ i₀ st i = (st .at ≤ length s) × (step (run (m.labels s p) i st) ≡ step (run (m.labels s p) k st₀))
+
+abbrev μ-loop : tie.MeasureT-loop
+μ-loop s p k limit st₀ i₀ st i = i
+
+label-limit-requires : tie.Need-label-limit-requires Inv-loop μ-loop
+label-limit-requires c κs = omega arith
+
+loop-holds : tie.Need-loop-holds Inv-loop μ-loop
+loop-holds c = (omega arith, refl)
+
+label-requires : tie.Need-label-requires Inv-loop μ-loop
+label-requires c κs = omega arith
+
+enum-known-read : tie.Need-enum-known-read Inv-loop μ-loop
+enum-known-read c = search needs
+
+enum-told : tie.Need-enum-told Inv-loop μ-loop
+enum-told c = search needs
+
+returns : tie.Need-returns Inv-loop μ-loop
+returns c = turn-refused _ _ _ _ (c .before .before .before .before .loop .inv .1) (omega arith) (c .before .before .label .ensures) (c .enum-told .given .1)
+
+sub-i : tie.Need-sub-i Inv-loop μ-loop
+sub-i c = omega arith
+
+loop-less : tie.Need-loop-less Inv-loop μ-loop
+loop-less c = omega arith
+
+loop-again : tie.Need-loop-again Inv-loop μ-loop
+loop-again c =
+    let t = c .before .before .before in
+    let is = c .before .read .given .1 in (
+      labels-stay _ _ _ _ (step-next _ (by (t .label .ensures) is)),
+      turn-next _ _ _ _ (t .before .before .loop .inv .1) (omega arith) (t .label .ensures) is,
+    )
+
+returns-2 : tie.Need-returns-2 Inv-loop μ-loop
+returns-2 c = turn-none _ _ _ _ (c .before .loop .inv .1) (omega arith)
+
+pub labels-spec : {M : Type 1} → statement M
+labels-spec =
+    tie.close
+    (tie.spec
+    Inv-loop
+    μ-loop
+    label-limit-requires
+    loop-holds
+    label-requires
+    enum-known-read
+    enum-told
+    returns
+    sub-i
+    loop-less
+    loop-again
+    returns-2)

@@ -1,0 +1,78 @@
+-- Bytes laid into a room one after another are laid in at once. Assumes nothing.
+use Prim.Native.Nat.{ℕ, suc, _+_, _<_, _≤_}
+use mathlib.Core.List.{List, [], _∷_, _++_, append-assoc, append-nil}
+use mathlib.Core.Path.{_≡_, refl, sym, ap, ap₂, _∙_}
+use native.Mathlib.Nat.{add-zero}
+use native.Mathlib.Numerals.{add-one}
+use native.Mathlib.Omega.{arith}
+use lib.ListN.{length, take, drop, set, length-append, length-drop, take-append-drop}
+use lib.Seq.{length-take-le, take-at, drop-at, drop-drop, drop-append-add, append-snoc, set-split}
+use Rattle.wire.specs.Bytes.{bytes, put}
+use Rattle.wire.specs.Laid.{laid, Laid}
+use Rattle.wire.proofs.Bytes.{length-bytes}
+
+module _ (b : List ℕ) (at : ℕ) where
+  laid-none : laid b at [] ≡ b
+  unfolding laid
+  laid-none = simp (append-nil, add-zero, take-append-drop)
+
+  laid-one : (a : ℕ) → at < length b → laid b at (a ∷ []) ≡ set b at a
+  unfolding laid
+  laid-one a h = append-snoc (take at b) a (drop (at + 1) b) ∙ rw add-one (sym (set-split b at a h))
+
+  -- what stands before, with the bytes
+  front-length : (s : List ℕ) → at ≤ length b → length (take at b ++ s) ≡ at + length s
+  front-length s h = length-append (take at b) s ∙ ap (λ (n : ℕ). n + length s) (length-take-le at b h)
+
+  laid-length : (s : List ℕ) → at + length s ≤ length b → length (laid b at s) ≡ length b
+  unfolding laid
+  laid-length s h = simp (length-append (take at b ++ s), length-drop) (omega (arith, front-length s (omega arith)))
+
+  laid-then : (s t : List ℕ) → at ≤ length b → laid (laid b at s) (at + length s) t ≡ laid b at (s ++ t)
+  unfolding laid
+  laid-then s t h =
+      let front : List ℕ = take at b ++ s in
+      let rest : List ℕ = drop (at + length s) b in
+      let total : at + length s + length t ≡ at + length (s ++ t) = omega (arith, length-append s t) in
+      let back : drop (at + length s + length t) (front ++ rest) ≡ drop (at + length s + length t) b =
+      ap (λ (n : ℕ). drop (n + length t) (front ++ rest)) (sym (front-length s h)) ∙ drop-append-add front rest (length t) ∙ drop-drop (length t) (at + length s) b in
+      ap₂ (λ (x y : List ℕ). x ++ t ++ y) (take-at front rest (at + length s) (front-length s h)) back
+      ∙ ap₂ (λ (x : List ℕ) (n : ℕ). x ++ drop n b) (append-assoc (take at b) s t) total
+
+-- ---- the same of what a store leaves
+
+pub nothing : (b : List ℕ) (at : ℕ) → Laid b at [] b at
+nothing b at = record { room-is = sym (laid-none b at); next-is = omega arith }
+
+one : (b : List ℕ) (at a : ℕ) → at < length b → Laid b at (a ∷ []) (set b at a) (at + 1)
+one b at a h = record { room-is = sym (laid-one b at a h); next-is = refl }
+
+module _ {b : List ℕ} {at : ℕ} {s b′ : List ℕ} {next : ℕ} (l : Laid b at s b′ next) where
+  pub same-length : at + length s ≤ length b → length b′ ≡ length b
+  same-length h = ap length (l .room-is) ∙ laid-length b at s h
+
+  -- what is left still fits
+  pub fits : (t : List ℕ) → at + length (s ++ t) ≤ length b → next + length t ≤ length b′
+  fits t h = let e : length (s ++ t) ≡ length s + length t = length-append s t in omega (arith, same-length (omega arith), l .next-is)
+
+  -- one after another is at once
+  pub then : {t b″ : List ℕ} {end : ℕ} → Laid b′ next t b″ end → at ≤ length b → Laid b at (s ++ t) b″ end
+  then {t} {b″} {end} m h = record {
+    room-is = m .room-is ∙ ap₂ (λ (c : List ℕ) (n : ℕ). laid c n t) (l .room-is) (l .next-is) ∙ laid-then b at s t h;
+    next-is = omega (arith, m .next-is, l .next-is, length-append s t);
+  }
+
+  -- one byte more
+  pub more : (a : ℕ) → at + length s < length b → Laid b at (s ++ (a ∷ [])) (set b′ next a) (next + 1)
+  more a h = then (one b′ next a (omega (arith, same-length (omega arith), l .next-is))) (omega arith)
+
+  -- the same bytes and the same end, said otherwise
+  pub said : {t : List ℕ} {end : ℕ} → s ≡ t → next ≡ end → Laid b at t b′ end
+  said e f = record { room-is = l .room-is ∙ ap (laid b at) e; next-is = sym f ∙ l .next-is ∙ ap (λ (u : List ℕ). at + length u) e }
+
+-- ---- a number's bytes
+
+-- storing a number lays its bytes in
+pub laid-put : (b : List ℕ) (at k n : ℕ) → put b at k n ≡ laid b at (bytes k n)
+unfolding put laid
+laid-put b at k n = rw (length-bytes k n)
