@@ -1,7 +1,11 @@
 // The check of a formula message against a number of propositions: the first fault in the paper's order, or how many rows it has.
 ghost use mathlib.Core.Path.{_≡_};
 ghost use Prim.Native.Nat.{ℕ, _+_, _*_, _≤_, _<_};
+ghost use mathlib.Core.Bool.{_&&_};
+ghost use mathlib.Core.List.{[], _∷_};
+ghost use lib.Dec.{eqb};
 ghost use lib.ListN.{length, getD};
+ghost use Rattle.lists.specs.Lists.{_∈_};
 ghost use Rattle.wire.specs.Layout.{items, Sound};
 ghost use Rattle.wire.specs.Reader.{one, run};
 ghost use Rattle.wire.specs.Step.{step};
@@ -65,19 +69,32 @@ fn row_of(operator: u32, left: u32, right: u32, bound: u32) -> Row
     }
 }
 
-// Whether the fields that the row doesn't use are zero.
+// Whether four numbers are all zero.
+fn all_zero(a: u32, b: u32, c: u32, d: u32) -> bool
+    ensures { λ r. ⌜ r ≡ (eqb a 0 && (eqb b 0 && (eqb c 0 && eqb d 0))) ⌝ }
+{
+    if a != 0 {
+        return false;
+    }
+    if b != 0 {
+        return false;
+    }
+    if c != 0 {
+        return false;
+    }
+    d == 0
+}
+
+// Whether the fields that the row doesn't use are zero; one that it uses may be anything.
 fn spare_zero(row: Row, left: u32, right: u32, zero: u32, bound: u32) -> bool
     ensures { λ r. ⌜ r ≡ rows.spareZero row left right zero bound ⌝ }
 {
-    if zero != 0 {
-        return false;
-    }
     match row {
-        Row::True | Row::False => left == 0 && right == 0 && bound == 0,
-        Row::Proposition(_) | Row::Negation(_) => right == 0 && bound == 0,
-        Row::And(_, _) | Row::Or(_, _) => bound == 0,
-        Row::Next(_, _, _) => right == 0,
-        Row::Until(_, _, _, _) => true,
+        Row::True | Row::False => all_zero(left, right, zero, bound),
+        Row::Proposition(_) | Row::Negation(_) => all_zero(0, right, zero, bound),
+        Row::And(_, _) | Row::Or(_, _) => all_zero(0, 0, zero, bound),
+        Row::Next(_, _, _) => all_zero(0, right, zero, 0),
+        Row::Until(_, _, _, _) => all_zero(0, 0, zero, 0),
     }
 }
 
@@ -88,9 +105,8 @@ fn named(row: Row, p: u32, place: u32) -> bool
     match row {
         Row::True | Row::False => true,
         Row::Proposition(q) | Row::Negation(q) => q < p,
-        Row::And(l, r) | Row::Or(l, r) => l < place && r < place,
         Row::Next(_, l, _) => l < place,
-        Row::Until(_, l, r, _) => l < place && r < place,
+        Row::And(l, r) | Row::Or(l, r) | Row::Until(_, l, r, _) => l < place && r < place,
     }
 }
 
@@ -200,13 +216,62 @@ pub fn row_at(s: &[u8], at: usize) -> Row
     row_of(operator, left, right, bound)
 }
 
+// One use more of a row.
+fn count_use(counts: [u32; 64], row: u32) -> [u32; 64]
+    requires { ⌜ (row < 64) × (getD counts row 0 < 256) ⌝ }
+    ensures { λ r. ⌜ ((i : ℕ) → getD r i 0 ≡ getD counts i 0 + rows.times i (row ∷ [])) ⌝ }
+{
+    let mut more = counts;
+    let k = row as usize;
+    more[k] = more[k] + 1;
+    more
+}
+
+// The uses that a row makes of others.
+fn count_row(counts: [u32; 64], row: Row) -> [u32; 64]
+    requires { ⌜ ((l : ℕ) → l ∈ rows.operands row → l < 64) × ((i : ℕ) → getD counts i 0 < 255) ⌝ }
+    ensures { λ r. ⌜ ((i : ℕ) → getD r i 0 ≡ getD counts i 0 + rows.times i (rows.operands row)) ⌝ }
+{
+    match row {
+        Row::True | Row::False | Row::Proposition(_) | Row::Negation(_) => counts,
+        Row::Next(_, l, _) => count_use(counts, l),
+        Row::And(l, r) | Row::Or(l, r) | Row::Until(_, l, r, _) => count_use(count_use(counts, l), r),
+    }
+}
+
+// How often each row is an operand.
+fn count_rows(s: &[u8], f: u32) -> [u32; 64]
+    requires { ⌜ Sound (rowLayout (now s)) f 7 ⌝ }
+    requires { ⌜ f ≤ 64 ⌝ }
+    ensures { λ r. ⌜ ((i : ℕ) → getD r i 0 ≡ rows.uses i (items (rowLayout (now (s .entry))) f 7)) ⌝ }
+{
+    let mut counts = [0; 64];
+    let mut at = 7;
+    let mut k = f;
+    while 0 < k {
+        let more = count_row(counts, row_at(s, at));
+        counts = more;
+        at += 8;
+        k -= 1;
+    }
+    counts
+}
+
 // Whether every row but the last is an operand exactly once.
 fn used_once(s: &[u8], f: u32) -> bool
     requires { ⌜ Sound (rowLayout (now s)) f 7 ⌝ }
     requires { ⌜ (1 ≤ f) × (f ≤ 64) ⌝ }
     ensures { λ r. ⌜ r ≡ rows.usedOnce (items (rowLayout (now (s .entry))) f 7) ⌝ }
 {
-    s.len() == f as usize
+    let counts = count_rows(s, f);
+    let mut i = (f - 1) as usize;
+    while 0 < i {
+        i -= 1;
+        if counts[i] != 1 {
+            return false;
+        }
+    }
+    true
 }
 
 // A whole formula message, with the number of propositions it may name: how many rows it has, or its first fault.

@@ -4,6 +4,7 @@ use mathlib.Core.List.{List, _∷_}
 use mathlib.Core.Path.{_≡_, refl, ap, ap₂, subst, _∙_}
 use native.Mathlib.Nat.{not-suc-le-zero}
 use native.Mathlib.Numerals.{sub-one}
+use lib.ListN.{length}
 use Rattle.wire.specs.Read.{good}
 use Rattle.wire.specs.Reader.{Reader, readAll, past}
 use Rattle.wire.specs.Layout.{Layout, items, end, Sound, none, more}
@@ -40,17 +41,31 @@ module _ {A : Type 0} (L : Layout A) where
     pub end-is : R .position (past R st xs) ≡ end L k (R .position st)
     pub sound : Sound L k (R .position st)
 
-  pub reads-all : {S : Type 0} (R : Reader S A) → ((st : S) (a : A) → R .read st ≡ good a → Reads R st a) → (k : ℕ) (st : S) (xs : List A) → readAll R k st ≡ good xs → ReadsAll R k st xs
+  -- P k st says what the state before k records is: each record is read there, and leaves what the others need
+  pub reads-while : {S : Type 0} (R : Reader S A) (P : ℕ → S → Type 0)
+      → ((k : ℕ) (st : S) (a : A) → P (suc k) st → R .read st ≡ good a → Reads R st a × P k (R .next st a))
+      → (k : ℕ) (st : S) (xs : List A) → P k st → readAll R k st ≡ good xs → ReadsAll R k st xs
   unfolding readAll past items end
-  reads-all R each zero st xs e = subst (ReadsAll R zero st) (good-same e) (record { items-are = refl; end-is = refl; sound = none })
-  reads-all R each (suc k) st xs e =
+  reads-while R P each zero st xs p e = subst (ReadsAll R zero st) (good-same e) (record { items-are = refl; end-is = refl; sound = none })
+  reads-while R P each (suc k) st xs p e =
       let a = bind-good _ _ e in
       let r = bind-good _ _ (a .rest) in
-      let here = each st (a .value) (a .first) in
-      let others = reads-all R each k (R .next st (a .value)) (r .value) (r .first) in
+      let step = each k st (a .value) p (a .first) in
+      let here = step .0 in
+      let others = reads-while R P each k (R .next st (a .value)) (r .value) (step .1) (r .first) in
       subst (ReadsAll R (suc k) st) (good-same (r .rest))
       (record {
         items-are = ap₂ _∷_ (here .item-is) (others .items-are ∙ ap (items L k) (here .next-is));
         end-is = others .end-is ∙ ap (end L k) (here .next-is);
         sound = more (here .ok) (subst (Sound L k) (here .next-is) (others .sound));
       })
+
+  -- where no state matters
+  pub reads-all : {S : Type 0} (R : Reader S A) → ((st : S) (a : A) → R .read st ≡ good a → Reads R st a) → (k : ℕ) (st : S) (xs : List A) → readAll R k st ≡ good xs → ReadsAll R k st xs
+  reads-all R each k st xs e = reads-while R (λ k st. Unit) (λ k st a p h. (each st a h, tt)) k st xs tt e
+
+  -- k records are k
+  pub items-length : (k at : ℕ) → length (items L k at) ≡ k
+  unfolding items
+  items-length zero at = refl
+  items-length (suc k) at = ap suc (items-length k (L .next at))

@@ -1,0 +1,36 @@
+-- The reading from the answer. Assumes nothing.
+use Prim.Native.Nat.{ℕ}
+use mathlib.Core.List.{List}
+use mathlib.Core.Path.{_≡_}
+use lib.ListN.{length}
+use Rattle.refusal.specs.declared.Refusal.{Refusal}
+use Rattle.wire.specs.Read.{Read, good, bad}
+use Rattle.formula.specs.Answers.{judged, counted, checked}
+use Rattle.formula.specs.declared.Row.{Row}
+use Rattle.formula.specs.declared.Judged.the-variants as Judged
+use Rattle.formula.specs.declared.Checked.the-variants as Checked
+
+pub judged-fine : (x : Read Row) {row : Row} → judged x ≡ Judged.Fine row → x ≡ good row
+unfolding judged
+judged-fine (good a) e = cc
+judged-fine (bad a) e = cc
+
+pub judged-refused : (x : Read Row) {f : Refusal} → judged x ≡ Judged.Refused f → x ≡ bad f
+unfolding judged
+judged-refused (good a) e = cc
+judged-refused (bad a) e = cc
+
+pub counted-formula : (x : Read ℕ) {f : ℕ} → counted x ≡ Checked.Formula f → x ≡ good f
+unfolding counted
+counted-formula (good a) e = cc
+counted-formula (bad a) e = cc
+
+pub counted-refused : (x : Read ℕ) {f : Refusal} → counted x ≡ Checked.Refused f → x ≡ bad f
+unfolding counted
+counted-refused (good a) e = cc
+counted-refused (bad a) e = cc
+
+pub checked-refused : (x : Read (List Row)) {f : Refusal} → checked x ≡ Checked.Refused f → x ≡ bad f
+unfolding checked
+checked-refused (good a) e = cc
+checked-refused (bad a) e = cc

@@ -1,0 +1,159 @@
+-- What a good reading says: each field is there, each demand is met. Assumes nothing.
+use Prim.Native.Nat.{ℕ, _+_, _*_, _<_, _≤_}
+use mathlib.Core.List.{List}
+use mathlib.Core.Bool.{true}
+use mathlib.Core.Path.{_≡_, refl, sym, ap, subst, _∙_}
+use lib.Dec.{ltb}
+use lib.ListN.{length}
+use borrow.Author.Tests.{ltb-true, lt-ltb, leb-true, le-leb, eqb-true}
+use native.Mathlib.Omega.{arith}
+use Rattle.lists.specs.Lists.{_∈_, all}
+use Rattle.lists.proofs.Tests.{and-left, and-right}
+use Rattle.lists.proofs.Lists.{all-true, true-all}
+use Rattle.wire.specs.declared.Field.the-variants.{Number}
+use Rattle.wire.specs.declared.State.{State}
+use Rattle.wire.specs.Field.{fieldAt}
+use Rattle.wire.specs.Read.{good}
+use Rattle.wire.specs.Reader.{one, readAll}
+use Rattle.wire.specs.Start.{readStart}
+use Rattle.wire.proofs.Fields.{value-inside}
+use Rattle.wire.proofs.Reading.{bind-good, and-good, demand-good, field-good, good-same}
+use Rattle.wire.proofs.Readers.{all-length}
+use Rattle.wire.proofs.Exact.{good-bind, good-demand, all-there}
+use Rattle.formula.specs.declared.Row.{Row}
+use Rattle.formula.specs.Rows.{rowOf, spareZero, operands, propositions, named, usedOnce}
+use Rattle.formula.specs.Message.{judgeRow, readRow, rows, readHeader, readFormula}
+
+-- the names of a row exist: its propositions are below p, and its operands are earlier rows
+pub record Named (p place : ℕ) (row : Row) : Type 0 where
+  pub existing : {q : ℕ} → q ∈ propositions row → q < p
+  pub earlier : {l : ℕ} → l ∈ operands row → l < place
+
+pub named-names : (p place : ℕ) (row : Row) → named p place row ≡ true → Named p place row
+named-names p place row e =
+    let qs = all (λ q. ltb q p) (propositions row) in
+    let ls = all (λ l. ltb l place) (operands row) in
+    record {
+      existing = λ {q} m. ltb-true q p (all-true _ _ (and-left qs ls e) q m);
+      earlier = λ {l} m. ltb-true l place (all-true _ _ (and-right qs ls e) l m);
+    }
+
+pub names-named : (p place : ℕ) (row : Row) → Named p place row → named p place row ≡ true
+names-named p place row n =
+    rw (true-all (λ q. ltb q p) (propositions row) (λ q m. lt-ltb q p (n .existing m)))
+    (true-all (λ l. ltb l place) (operands row) (λ l m. lt-ltb l place (n .earlier m)))
+
+-- what a good judgement says of the fields
+pub record Fine (p place operator left right zero bound : ℕ) (row : Row) : Type 0 where
+  pub known : operator ≤ 9
+  pub is : rowOf operator left right bound ≡ row
+  pub spare : spareZero row left right zero bound ≡ true
+  pub names : Named p place row
+
+pub judge-good : (p place o l r z b : ℕ) (row : Row) → judgeRow p place o l r z b ≡ good row → Fine p place o l r z b row
+unfolding judgeRow
+judge-good p place o l r z b row e =
+    let known = demand-good _ _ _ e in
+    let spare = demand-good _ _ _ (known .1) in
+    let named = demand-good _ _ _ (spare .1) in
+    let same : rowOf o l r b ≡ row = good-same (named .1) in
+    record { known = leb-true _ _ (known .0); is = same; spare = rw (← same) (spare .0); names = named-names p place row (rw (← same) (named .0)) }
+
+module _ (s : List ℕ) (p : ℕ) where
+  -- what a good row says of the bytes
+  pub record RowGood (st : State) (row : Row) : Type 0 where
+    pub operator : ℕ
+    pub left : ℕ
+    pub right : ℕ
+    pub zero : ℕ
+    pub bound : ℕ
+    pub operator-there : fieldAt 1 s (st .at) ≡ Number operator
+    pub left-there : fieldAt 1 s (st .at + 1) ≡ Number left
+    pub right-there : fieldAt 1 s (st .at + 2) ≡ Number right
+    pub zero-there : fieldAt 1 s (st .at + 3) ≡ Number zero
+    pub bound-there : fieldAt 4 s (st .at + 4) ≡ Number bound
+    pub fine : Fine p (st .tally) operator left right zero bound row
+
+  pub row-good : (st : State) (row : Row) → readRow s p st ≡ good row → RowGood st row
+  unfolding readRow
+  row-good st row e =
+      let o = bind-good _ _ e in
+      let l = bind-good _ _ (o .rest) in
+      let r = bind-good _ _ (l .rest) in
+      let z = bind-good _ _ (r .rest) in
+      let b = bind-good _ _ (z .rest) in
+      record {
+        operator = o .value;
+        left = l .value;
+        right = r .value;
+        zero = z .value;
+        bound = b .value;
+        operator-there = field-good 1 s _ (o .first);
+        left-there = field-good 1 s _ (l .first);
+        right-there = field-good 1 s _ (r .first);
+        zero-there = field-good 1 s _ (z .first);
+        bound-there = field-good 4 s _ (b .first);
+        fine = judge-good _ _ _ _ _ _ _ row (b .rest);
+      }
+
+  -- the state past a good row lies inside the message, at the next place
+  pub rows-stay : (st next : State) → one (rows s p) st ≡ good next → (next .at ≤ length s) × (next .tally ≡ st .tally + 1)
+  rows-stay st next e =
+      let r = bind-good _ _ e in
+      let g = row-good st (r .value) (r .first) in
+      let is = good-same (r .rest) in
+      (rw (← is) (omega (arith, value-inside 4 s (st .at + 4) (g .bound-there))), rw (← is))
+
+-- what a good header says of the bytes
+pub record HeaderAt (s : List ℕ) (f : ℕ) : Type 0 where
+  pub opened : readStart s 7 1 3 ≡ good tt
+  pub f-there : fieldAt 1 s 6 ≡ Number f
+  pub f-least : 1 ≤ f
+  pub f-most : f ≤ 64
+  pub long : length s ≡ 7 + f * 8
+
+pub header-good : (s : List ℕ) (f : ℕ) → readHeader s ≡ good f → HeaderAt s f
+unfolding readHeader
+header-good s f e =
+    let opened = and-good _ _ e in
+    let there = bind-good _ _ (opened .1) in
+    let least = demand-good _ _ _ (there .rest) in
+    let most = demand-good _ _ _ (least .1) in
+    let long = demand-good _ _ _ (most .1) in
+    let same : there .value ≡ f = good-same (long .1) in
+    record {
+      opened = opened .0;
+      f-there = field-good 1 s 6 (there .first) ∙ ap Number same;
+      f-least = rw (← same) (leb-true _ _ (least .0));
+      f-most = rw (← same) (leb-true _ _ (most .0));
+      long = rw (← same) (eqb-true _ _ (long .0));
+    }
+
+-- where the rows start
+abbrev pub first : State
+first = record { at = 7; prev = 0; tally = 0 }
+
+-- what a good message says of its parts
+pub record FormulaAt (p : ℕ) (s : List ℕ) (rs : List Row) : Type 0 where
+  pub p-most : p ≤ 32
+  pub header : readHeader s ≡ good (length rs)
+  pub rows-there : readAll (rows s p) (length rs) first ≡ good rs
+  pub used : usedOnce rs ≡ true
+
+pub formula-good : (p : ℕ) (s : List ℕ) (rs : List Row) → readFormula p s ≡ good rs → FormulaAt p s rs
+unfolding readFormula
+formula-good p s rs e =
+    let p-most = demand-good _ _ _ e in
+    let header = bind-good _ _ (p-most .1) in
+    let there = bind-good _ _ (header .rest) in
+    let used = demand-good _ _ _ (there .rest) in
+    subst (FormulaAt p s) (good-same (used .1)) (record {
+      p-most = leb-true _ _ (p-most .0);
+      header = header .first ∙ ap good (sym (all-length _ _ _ _ (there .first)));
+      rows-there = all-there _ _ _ _ (there .first);
+      used = used .0;
+    })
+
+pub good-formula : (p : ℕ) (s : List ℕ) (rs : List Row) → FormulaAt p s rs → readFormula p s ≡ good rs
+unfolding readFormula
+good-formula p s rs g = good-demand _ (le-leb _ _ (g .p-most)) (good-bind _ (g .header) (good-bind _ (g .rows-there) (good-demand _ (g .used) refl)))

@@ -1,0 +1,4 @@
+pub mod Answered
+pub mod Good
+pub mod Uses
+pub mod Accepted

@@ -1,0 +1,70 @@
+-- `formula::all_rows` meets its contract: the run of the i rows that are left is the whole run.
+use Prim.Native.Nat.{_+_, _≤_}
+use mathlib.Core.Path.{_≡_, refl}
+use lib.ListN.{length}
+use borrow.Author.Needs.{needs}
+use native.Mathlib.Omega.{arith}
+use Rattle.lists.proofs.Tests.{by}
+use Rattle.wire.specs.Reader.{run}
+use Rattle.wire.specs.Step.{step}
+use Rattle.wire.proofs.Turns.{step-next, turn-next, turn-refused, turn-none}
+use Rattle.formula.specs.Message as m
+use Rattle.formula.proofs.Good.{rows-stay}
+use Rattle.formula.proofs.all_rows.Statement.{statement}
+use Rattle.formula.proofs.all_rows.Tie as tie
+
+abbrev Inv-loop : tie.InvT-loop
+Inv-loop s p k st₀ i₀ st i = (st .at ≤ length s) × (st .tally + i ≤ 64) × (step (run (m.rows s p) i st) ≡ step (run (m.rows s p) k st₀))
+
+abbrev μ-loop : tie.MeasureT-loop
+μ-loop s p k st₀ i₀ st i = i
+
+loop-holds : tie.Need-loop-holds Inv-loop μ-loop
+loop-holds c = (omega arith, omega arith, refl)
+
+one-row-requires : tie.Need-one-row-requires Inv-loop μ-loop
+one-row-requires c κs = omega arith
+
+enum-known-read : tie.Need-enum-known-read Inv-loop μ-loop
+enum-known-read c = search needs
+
+enum-told : tie.Need-enum-told Inv-loop μ-loop
+enum-told c = search needs
+
+returns : tie.Need-returns Inv-loop μ-loop
+returns c = turn-refused _ _ _ _ (c .before .before .before .before .loop .inv .2) (omega arith) (c .before .before .one-row .ensures) (c .enum-told .given .1)
+
+sub-i : tie.Need-sub-i Inv-loop μ-loop
+sub-i c = omega arith
+
+loop-less : tie.Need-loop-less Inv-loop μ-loop
+loop-less c = omega arith
+
+loop-again : tie.Need-loop-again Inv-loop μ-loop
+loop-again c =
+    let t = c .before .before .before in
+    let is = c .before .read .given .1 in
+    let stay = rows-stay _ _ _ _ (step-next _ (by (t .one-row .ensures) is)) in (
+      stay .0,
+      omega (arith, stay .1),
+      turn-next _ _ _ _ (t .before .before .loop .inv .2) (omega arith) (t .one-row .ensures) is,
+    )
+
+returns-2 : tie.Need-returns-2 Inv-loop μ-loop
+returns-2 c = turn-none _ _ _ _ (c .before .loop .inv .2) (omega arith)
+
+pub all-rows-spec : {M : Type 1} → statement M
+all-rows-spec =
+    tie.close
+    (tie.spec
+    Inv-loop
+    μ-loop
+    loop-holds
+    one-row-requires
+    enum-known-read
+    enum-told
+    returns
+    sub-i
+    loop-less
+    loop-again
+    returns-2)

@@ -1,0 +1,90 @@
+-- `formula::row_of` meets its contract: each arm is the row of its operator.
+use borrow.Author.Needs.{needs}
+use borrow.Author.Tests.{ne-eqb}
+use Rattle.formula.specs.Rows.{rowOf}
+use Rattle.formula.proofs.row_of.Statement.{statement}
+use Rattle.formula.proofs.row_of.Tie as tie
+
+coded-requires : tie.Need-coded-requires
+coded-requires c κs = search needs
+
+coded-requires-2 : tie.Need-coded-requires-2
+coded-requires-2 c κs = search needs
+
+coded-requires-3 : tie.Need-coded-requires-3
+coded-requires-3 c κs = search needs
+
+coded-requires-4 : tie.Need-coded-requires-4
+coded-requires-4 c κs = search needs
+
+returns : tie.Need-returns
+unfolding rowOf
+returns c = rw (c .match .keys1)
+
+returns-2 : tie.Need-returns-2
+unfolding rowOf
+returns-2 c = rw (c .match .keys2)
+
+returns-3 : tie.Need-returns-3
+unfolding rowOf
+returns-3 c = rw (c .match .keys3)
+
+returns-4 : tie.Need-returns-4
+unfolding rowOf
+returns-4 c = rw (c .match .keys4)
+
+returns-5 : tie.Need-returns-5
+unfolding rowOf
+returns-5 c = rw (c .match .keys5)
+
+returns-6 : tie.Need-returns-6
+unfolding rowOf
+returns-6 c = rw (c .match .keys6)
+
+returns-7 : tie.Need-returns-7
+unfolding rowOf
+returns-7 c = rw (c .before .match .keys7, c .coded .ensures)
+
+returns-8 : tie.Need-returns-8
+unfolding rowOf
+returns-8 c = rw (c .before .match .keys8, c .coded2 .ensures)
+
+returns-9 : tie.Need-returns-9
+unfolding rowOf
+returns-9 c = rw (c .before .match .keys9, c .coded3 .ensures)
+
+returns-10 : tie.Need-returns-10
+unfolding rowOf
+returns-10 c =
+    let is = c .before .match .rest in
+    rw (
+      ne-eqb _ _ (is .0 .0 .0 .0 .0 .0 .0 .0 .1),
+      ne-eqb _ _ (is .0 .0 .0 .0 .0 .0 .0 .1),
+      ne-eqb _ _ (is .0 .0 .0 .0 .0 .0 .1),
+      ne-eqb _ _ (is .0 .0 .0 .0 .0 .1),
+      ne-eqb _ _ (is .0 .0 .0 .0 .1),
+      ne-eqb _ _ (is .0 .0 .0 .1),
+      ne-eqb _ _ (is .0 .0 .1),
+      ne-eqb _ _ (is .0 .1),
+      ne-eqb _ _ (is .1),
+      c .coded4 .ensures,
+    )
+
+pub row-of-spec : {M : Type 1} → statement M
+row-of-spec =
+    tie.close
+    (tie.spec
+    coded-requires
+    coded-requires-2
+    coded-requires-3
+    coded-requires-4
+    returns
+    returns-2
+    returns-3
+    returns-4
+    returns-5
+    returns-6
+    returns-7
+    returns-8
+    returns-9
+    returns-10)
