@@ -48,6 +48,25 @@ pub fn model(body: &[u8]) -> Line
     Line::new().byte(b'M').number(number as u64)
 }
 
+// `F`: how many propositions there are; a formula.
+pub fn formula(body: &[u8]) -> Line
+    ensures { λ r. ⌜ Sound r ⌝ }
+{
+    if body.len() < 8 {
+        return Line::new();
+    }
+    let p = wire::number_at(body, 0, Width::Four);
+    let message = &body[8..];
+    if !is_message(wire::number_at(body, 4, Width::Four), message) {
+        return Line::new();
+    }
+    let number = match formula::check(message, p) {
+        formula::Checked::Formula(_) => 0,
+        formula::Checked::Refused(e) => e.number(),
+    };
+    Line::new().byte(b'F').number(number as u64)
+}
+
 // `R`: a budget, a room in numbers; a graph.
 pub fn rounds(body: &[u8], values: &mut [u64]) -> Line
     ensures { λ r. ⌜ Sound r ⌝ }

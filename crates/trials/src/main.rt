@@ -14,6 +14,7 @@ fn answer(letter: u8, body: &[u8], values: &mut [u64]) -> Line
     ensures { λ r. ⌜ Sound r ⌝ }
 {
     match letter {
+        b'F' => answers::formula(body),
         b'G' => answers::graph(body),
         b'M' => answers::model(body),
         b'R' => answers::rounds(body, values),
