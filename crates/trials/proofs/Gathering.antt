@@ -1,5 +1,4 @@
 -- A text of at most 64 bytes with more behind it.
--- Assumes nothing.
 use mathlib.Core.Path.{_≡_, refl, sym, ap, _∙_}
 use mathlib.Core.List.{List, [], _∷_, _++_, append-assoc, append-nil}
 use mathlib.Core.Logic.{⊎-elim}
@@ -9,7 +8,7 @@ use native.Mathlib.Numerals.{add-one}
 use native.Mathlib.Omega.{arith}
 use lib.Dec.{lit<}
 use lib.ListN.{length, take, set, getD, length-append, length-take}
-use lib.Seq.{take-all, take-at, take-suc, take-suc-set, length-take-le}
+use lib.Seq.{take-all, take-at, take-suc, take-suc-set}
 use Rattle.io.specs.Digits.{Fewest}
 use Rattle.trials.specs.declared.line.Line.{Line}
 use Rattle.trials.specs.Lines.{Sound, textOf, more}

@@ -5,6 +5,7 @@ use crate::line::Line;
 use crate::rooms;
 use crate::sums;
 use rounds::Outcome;
+use text::Written;
 use wire::Width;
 
 // Whether these bytes are a message of that size, within the program's limit.
@@ -65,6 +66,44 @@ pub fn formula(body: &[u8]) -> Line
         formula::Checked::Refused(e) => e.number(),
     };
     Line::new().byte(b'F').number(number as u64)
+}
+
+// `T`: how many propositions there are, a room in bytes; a formula.
+pub fn text(body: &[u8], bytes: &mut [u8]) -> Line
+    ensures { λ r. ⌜ Sound r ⌝ }
+{
+    if body.len() < 12 {
+        return Line::new();
+    }
+    let p = wire::number_at(body, 0, Width::Four);
+    let asked = wire::number_at(body, 4, Width::Four);
+    let message = &body[12..];
+    if !is_message(wire::number_at(body, 8, Width::Four), message) {
+        return Line::new();
+    }
+    let len = rooms::front_of_bytes(asked, bytes);
+    if len < asked as usize {
+        return Line::new();
+    }
+    text_in(message, p, &mut bytes[..len])
+}
+
+fn text_in(message: &[u8], p: u32, room: &mut [u8]) -> Line
+    ensures { λ r. ⌜ Sound r ⌝ }
+{
+    rooms::fill_bytes(room);
+    let written = text::text(message, p, room);
+    text_line(written, sums::of_bytes(room))
+}
+
+fn text_line(written: Written, room: u32) -> Line
+    ensures { λ r. ⌜ Sound r ⌝ }
+{
+    let line = Line::new().byte(b'T');
+    match written {
+        Written::Text(length) => line.number(0).number(length as u64).sum(room),
+        Written::Refused(e) => line.number(e.number() as u64).number(0).sum(room),
+    }
 }
 
 // `R`: a budget, a room in numbers; a graph.

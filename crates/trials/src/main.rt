@@ -10,13 +10,14 @@ use line::Line;
 use wire::Width;
 
 // The line that answers a call; an empty one where there is no such call.
-fn answer(letter: u8, body: &[u8], values: &mut [u64]) -> Line
+fn answer(letter: u8, body: &[u8], bytes: &mut [u8], values: &mut [u64]) -> Line
     ensures { λ r. ⌜ Sound r ⌝ }
 {
     match letter {
-        b'F' => answers::formula(body),
         b'G' => answers::graph(body),
         b'M' => answers::model(body),
+        b'F' => answers::formula(body),
+        b'T' => answers::text(body, bytes),
         b'R' => answers::rounds(body, values),
         _ => Line::new(),
     }
@@ -29,11 +30,11 @@ fn refuse(letter: u8) -> bool {
 }
 
 // Reads the body of a call, answers the call, and says whether to go on.
-fn answer_body(letter: u8, body: &mut [u8], values: &mut [u64]) -> bool {
+fn answer_body(letter: u8, body: &mut [u8], bytes: &mut [u8], values: &mut [u64]) -> bool {
     if io::read_full(STDIN_FILENO, body) < body.len() {
         return refuse(letter);
     }
-    let line = answer(letter, body, values);
+    let line = answer(letter, body, bytes, values);
     if line.len == 0 {
         return refuse(letter);
     }
@@ -41,7 +42,7 @@ fn answer_body(letter: u8, body: &mut [u8], values: &mut [u64]) -> bool {
 }
 
 // Answers the next call, if there is one, and says whether to go on.
-fn answer_next(space: &mut [u8], values: &mut [u64]) -> bool {
+fn answer_next(space: &mut [u8], bytes: &mut [u8], values: &mut [u64]) -> bool {
     let mut head = [0u8; 5];
     let got = io::read_full(STDIN_FILENO, &mut head);
     if got == 0 {
@@ -56,14 +57,14 @@ fn answer_next(space: &mut [u8], values: &mut [u64]) -> bool {
     if size < asked as usize {
         return refuse(letter);
     }
-    answer_body(letter, &mut space[..size], values)
+    answer_body(letter, &mut space[..size], bytes, values)
 }
 
 // A proved loop has to end, and nothing says that the input does: so it counts its turns down, from a number that no run
 // uses up.
-fn answer_all(space: &mut [u8], values: &mut [u64]) {
+fn answer_all(space: &mut [u8], bytes: &mut [u8], values: &mut [u64]) {
     let mut turns = u64::MAX;
-    while 0 < turns && answer_next(space, values) {
+    while 0 < turns && answer_next(space, bytes, values) {
         turns -= 1;
     }
 }
@@ -71,6 +72,7 @@ fn answer_all(space: &mut [u8], values: &mut [u64]) {
 // The largest call has 4 numbers and 2 messages; rooms are the fronts of what is lent here, and its lengths are their limits.
 fn main() {
     let mut space = [0u8; 131096];
+    let mut bytes = [0u8; 65536];
     let mut values = [0u64; 8192];
-    answer_all(&mut space, &mut values);
+    answer_all(&mut space, &mut bytes, &mut values);
 }

@@ -1,6 +1,7 @@
 // The rooms that calls are lent: fronts of what the program has, filled afresh.
+ghost use Prim.Native.Nat.{_+_, _%_};
 ghost use Rattle.io.specs.Counts.{Counts};
-ghost use Rattle.trials.specs.Rooms.{Counting};
+ghost use Rattle.trials.specs.Rooms.{Each};
 
 // As many of the bytes as are asked for, or all. Both facts of `Counts` are asked where a front is lent.
 pub fn front_of_bytes(n: u32, s: &[u8]) -> usize
@@ -18,9 +19,20 @@ pub fn front_of_values(n: u32, s: &[u64]) -> usize
     if k < s.len() { k } else { s.len() }
 }
 
+// Byte i is i mod 251.
+pub fn fill_bytes(room: &mut [u8])
+    ensures { λ _. ⌜ Each (λ i. i % 251) (now (room .exit)) ⌝ }
+{
+    let mut i = 0;
+    while i < room.len() {
+        room[i] = (i % 251) as u8;
+        i += 1;
+    }
+}
+
 // Number i is i + 1.
 pub fn fill_values(room: &mut [u64])
-    ensures { λ _. ⌜ Counting (now (room .exit)) ⌝ }
+    ensures { λ _. ⌜ Each (λ i. i + 1) (now (room .exit)) ⌝ }
 {
     let mut i = 0;
     while i < room.len() {

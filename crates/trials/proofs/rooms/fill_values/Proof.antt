@@ -1,23 +1,20 @@
--- `fill_values` meets its contract: after i turns the first i numbers are right.
--- Assumes nothing.
-use Prim.Native.Nat.{ℕ, _+_, _-_, _≤_, _<_}
-use mathlib.Core.Path.{_≡_, refl, _∙_}
+-- `fill_values` meets its contract: after i turns the first i places are filled.
+use Prim.Native.Nat.{_+_, _-_}
 use native.Mathlib.Omega.{arith}
-use borrow.Author.Count.{below-none, below-more}
 use borrow.Author.Needs.{needs}
-use lib.ListN.{length, getD, length-set}
-use lib.Seq.{getD-set-same, getD-set-other}
+use lib.ListN.{length, length-set}
+use Rattle.trials.proofs.Filling.{Filled, filled-none, filled-more, filled-all}
 use Rattle.trials.proofs.rooms.fill_values.Statement.{statement}
 use Rattle.trials.proofs.rooms.fill_values.Tie as tie
 
 abbrev Inv-loop : tie.InvT-loop
-Inv-loop room₀ i₀ room i = (i ≤ length room) × (length room ≡ length room₀) × ((k : ℕ) → k < i → getD room k 0 ≡ k + 1)
+Inv-loop room₀ i₀ room i = Filled (λ k. k + 1) room₀ room i
 
 abbrev μ-loop : tie.MeasureT-loop
 μ-loop room₀ i₀ room i = length room - i
 
 loop-holds : tie.Need-loop-holds Inv-loop μ-loop
-loop-holds c = (omega arith, refl, below-none _)
+loop-holds c = filled-none (λ k. k + 1) (c .args .room .now)
 
 add-room : tie.Need-add-room Inv-loop μ-loop
 add-room c = omega arith
@@ -35,20 +32,13 @@ loop-less : tie.Need-loop-less Inv-loop μ-loop
 loop-less c = simp length-set (omega arith)
 
 loop-again : tie.Need-loop-again Inv-loop μ-loop
-loop-again c =
-    let i = c .before .loop .i in
-    let room = c .before .loop .room in
-    let inv = c .before .loop .inv in (
-      simp length-set (omega arith),
-      length-set room i (i + 1) ∙ inv .1,
-      below-more _ i (λ k l. getD-set-other room i k (i + 1) 0 (λ e. omega arith) ∙ inv .2 k l) (getD-set-same room i (i + 1) 0 (c .loop-test .taken)),
-    )
+loop-again c = filled-more (λ k. k + 1) (c .before .loop .inv) (c .loop-test .taken)
 
 same-length : tie.Need-same-length Inv-loop μ-loop
-same-length c = c .before .loop .inv .1
+same-length c = c .before .loop .inv .kept
 
 returns : tie.Need-returns Inv-loop μ-loop
-returns c = λ i l. c .before .loop .inv .2 i (omega arith)
+returns c = filled-all (λ k. k + 1) (c .before .loop .inv) (c .loop-test .left)
 
 pub fill-values-spec : {M : Type 1} → statement M
 fill-values-spec =

@@ -1,5 +1,4 @@
 -- `front_of_bytes` meets its contract.
--- Assumes nothing.
 use native.Mathlib.Omega.{arith}
 use Rattle.io.proofs.Counting.{counts}
 use Rattle.trials.proofs.rooms.front_of_bytes.Statement.{statement}

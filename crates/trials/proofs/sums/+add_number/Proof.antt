@@ -1,5 +1,4 @@
 -- `add_number` meets its contract, by recursion on the count of bytes.
--- Assumes nothing.
 use mathlib.Core.Path.{_≡_, refl, ap, sym, _∙_}
 use native.Mathlib.Omega.{arith}
 use Rattle.wire.specs.Bytes.{bytes}

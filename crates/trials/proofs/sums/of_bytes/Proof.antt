@@ -1,9 +1,7 @@
 -- `of_bytes` meets its contract: going on from the sum of the first i leads to the sum of all.
--- Assumes nothing.
 use Prim.Native.Nat.{_-_, _≤_}
 use mathlib.Core.Path.{_≡_, refl, sym, _∙_}
 use native.Mathlib.Omega.{arith}
-use borrow.Author.Needs.{needs}
 use lib.ListN.{length, drop, drop-of-length-le}
 use Rattle.trials.specs.Sums.{afterAll}
 use Rattle.trials.proofs.Adding.{after-next}
@@ -11,7 +9,7 @@ use Rattle.trials.proofs.sums.of_bytes.Statement.{statement}
 use Rattle.trials.proofs.sums.of_bytes.Tie as tie
 
 abbrev Inv-loop : tie.InvT-loop
-Inv-loop s sum₀ i₀ sum i = (i ≤ length s) × (afterAll sum (drop i s) ≡ afterAll 1 (s))
+Inv-loop s sum₀ i₀ sum i = (i ≤ length s) × (afterAll sum (drop i s) ≡ afterAll 1 s)
 
 abbrev μ-loop : tie.MeasureT-loop
 μ-loop s sum₀ i₀ sum i = length s - i

@@ -1,5 +1,4 @@
 -- `of_values` meets its contract: going on from the sum of the first i leads to the sum of all.
--- Assumes nothing.
 use Prim.Native.Nat.{_-_, _≤_}
 use mathlib.Core.Path.{_≡_, refl, sym, _∙_}
 use native.Mathlib.Omega.{arith}

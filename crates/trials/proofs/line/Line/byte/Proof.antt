@@ -1,5 +1,4 @@
 -- `Line::byte` meets its contract: a byte is stored behind the text, or there is no room for it.
--- Assumes nothing.
 use mathlib.Core.Path.{_∙_}
 use mathlib.Core.List.{[], _∷_}
 use native.Mathlib.Omega.{arith}

@@ -1,5 +1,4 @@
 -- `Line::number` meets its contract: a space, and the digits that `io` writes.
--- Assumes nothing.
 use borrow.Author.Needs.{needs}
 use Rattle.trials.specs.Lines.{textOf}
 use Rattle.trials.proofs.Gathering.{more-field}

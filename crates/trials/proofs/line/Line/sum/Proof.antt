@@ -1,5 +1,4 @@
 -- `Line::sum` meets its contract: a space, and the 8 digits that `io` writes.
--- Assumes nothing.
 use Prim.Native.Nat.{ℕ}
 use mathlib.Core.Path.{ap, _∙_}
 use borrow.Author.Needs.{needs}

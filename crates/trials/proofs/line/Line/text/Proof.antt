@@ -1,5 +1,4 @@
 -- `Line::text` meets its contract: after i turns the line has the first i bytes more.
--- Assumes nothing.
 use Prim.Native.Nat.{ℕ, _-_, _≤_}
 use mathlib.Core.Path.{_≡_, ap, _∙_}
 use mathlib.Core.List.{List, [], _∷_}

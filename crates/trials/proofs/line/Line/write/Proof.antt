@@ -1,5 +1,4 @@
 -- `Line::write` meets its contract: what it writes lies within the line's bytes.
--- Assumes nothing.
 use mathlib.Core.Path.{sym}
 use native.Mathlib.Omega.{arith}
 use borrow.Author.Needs.{needs}
