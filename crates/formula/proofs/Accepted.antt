@@ -21,8 +21,7 @@ row-reads : (s : List ℕ) (p k : ℕ) (st : State) (row : Row) → st .tally + 
 row-reads s p k st row few e =
     let g = row-good s p st row e in
     let there : row ≡ rowAt s (st .at) =
-    rw (value-is 1 s _ (g .operator-there), value-is 1 s _ (g .left-there), value-is 1 s _ (g .right-there), value-is 4 s _ (g .bound-there)) (sym (g .fine .is)) in
-    (
+    rw (value-is 1 s _ (g .operator-there), value-is 1 s _ (g .left-there), value-is 1 s _ (g .right-there), value-is 4 s _ (g .bound-there)) (sym (g .fine .is)) in (
       record {
         item-is = there;
         next-is = refl;

@@ -1,7 +1,8 @@
 -- The reading from the answer. Assumes nothing.
 use Prim.Native.Nat.{ℕ}
 use mathlib.Core.List.{List}
-use mathlib.Core.Path.{_≡_}
+use mathlib.Core.Path.{_≡_, refl}
+use native.Mathlib.Omega.{arith}
 use lib.ListN.{length}
 use Rattle.refusal.specs.declared.Refusal.{Refusal}
 use Rattle.wire.specs.Read.{Read, good, bad}
@@ -29,6 +30,17 @@ pub counted-refused : (x : Read ℕ) {f : Refusal} → counted x ≡ Checked.Ref
 unfolding counted
 counted-refused (good a) e = cc
 counted-refused (bad a) e = cc
+
+-- an accepted message has rows, as many as the answer says
+pub record Rows (x : Read (List Row)) (f : ℕ) : Type 0 where
+  pub rows : List Row
+  pub read : x ≡ good rows
+  pub long : length rows ≡ f
+
+pub checked-formula : (x : Read (List Row)) {f : ℕ} → checked x ≡ Checked.Formula f → Rows x f
+unfolding checked
+checked-formula (good rs) {f} e = record { rows = rs; read = refl; long = cc }
+checked-formula (bad a) e = let z : _≡_ {A = ℕ} 0 1 = cc in absurd (omega arith)
 
 pub checked-refused : (x : Read (List Row)) {f : Refusal} → checked x ≡ Checked.Refused f → x ≡ bad f
 unfolding checked

@@ -1,4 +1,19 @@
-pub mod Answered
+-- Laws of formula messages.
+--     Good       what a good reading says of the bytes
+--     Uses       how often rows are operands, counted in a table
+--     Accepted   what an accepted message holds, by position
+--     Answered   the reading from an answer
+--     Spelt      the fields that a row is written with
+--     Exact      accepted messages are exactly the writings of well-formed rows
+--     Sums       sums over a list and over a range of numbers
+--     Trees      the rows are a tree: the formula of a row, the size of the root, the rows that it is made of
+--     Laws       there is one answer
 pub mod Good
 pub mod Uses
 pub mod Accepted
+pub mod Answered
+pub mod Spelt
+pub mod Exact
+pub mod Sums
+pub mod Trees
+pub mod Laws

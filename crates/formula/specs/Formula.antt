@@ -1,12 +1,15 @@
 -- Formulas of weighted CTL with upper bounds, and the formula that rows make.
-use Prim.Native.Nat.{ℕ, suc, zero, _-_}
+use Prim.Native.Nat.{ℕ, suc, zero, _+_, _-_}
 use mathlib.Core.List.{List}
 use mathlib.Core.Option.{Option, some, none}
+use mathlib.Core.Path.{_≡_}
 use lib.ListN.{getElem?, length}
+use Rattle.lists.specs.Lists.{_∈_}
 use Rattle.value.specs.declared.Bound.{Bound}
 use Rattle.formula.specs.declared.Quantifier.{Quantifier}
 use Rattle.formula.specs.declared.Row.{Row}
 use Rattle.formula.specs.declared.Row.the-variants as Row
+use Rattle.formula.specs.Rows.{operands}
 
 pub data Formula : Type 0 where
   true′ false′ : Formula
@@ -38,3 +41,19 @@ formulaOf rows i = tree (length rows) rows i
 -- the root is the last row
 abbrev pub rootOf : List Row → Formula
 rootOf rows = formulaOf rows (length rows - 1)
+
+-- how many operators and propositions a formula has
+unfoldable pub size : Formula → ℕ
+size true′ = 1
+size false′ = 1
+size (prop i) = 1
+size (not-prop i) = 1
+size (and x y) = 1 + size x + size y
+size (or x y) = 1 + size x + size y
+size (next q x b) = 1 + size x
+size (until q x y b) = 1 + size x + size y
+
+-- row i is made of row j: it is that row, or one of those that it is made of has j for an operand
+pub data Reaches (rows : List Row) (i : ℕ) : ℕ → Type 0 where
+  here : Reaches rows i i
+  through : {j l : ℕ} {row : Row} → Reaches rows i j → getElem? rows j ≡ some row → l ∈ operands row → Reaches rows i l

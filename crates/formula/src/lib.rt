@@ -235,7 +235,10 @@ fn count_row(counts: [u32; 64], row: Row) -> [u32; 64]
     match row {
         Row::True | Row::False | Row::Proposition(_) | Row::Negation(_) => counts,
         Row::Next(_, l, _) => count_use(counts, l),
-        Row::And(l, r) | Row::Or(l, r) | Row::Until(_, l, r, _) => count_use(count_use(counts, l), r),
+        Row::And(l, r) | Row::Or(l, r) | Row::Until(_, l, r, _) => count_use(
+            count_use(counts, l),
+            r,
+        ),
     }
 }
 

@@ -1,0 +1,46 @@
+-- How long a text is: at most 18 bytes for each operator and proposition, so 1,152 for 64 rows. Assumes nothing.
+use Prim.Native.Nat.{ℕ, _+_, _*_, _≤_}
+use mathlib.Core.List.{_++_}
+use native.Mathlib.Omega.{arith}
+use lib.ListN.{length, length-append}
+use Rattle.value.specs.declared.Bound.{Bound}
+use Rattle.value.specs.declared.Bound.the-variants.{Within, Unbounded}
+use Rattle.formula.specs.declared.Quantifier.{Quantifier}
+use Rattle.formula.specs.declared.Quantifier.the-variants.{Some, Every}
+use Rattle.formula.specs.Formula.{Formula, true′, false′, prop, not-prop, and, or, next, until}
+use Rattle.text.specs.Text.{boundText, quantifierText, text}
+use Rattle.text.proofs.Decimal.{decimal-length}
+
+unfoldable pub size : Formula → ℕ
+size true′ = 1
+size false′ = 1
+size (prop i) = 1
+size (not-prop i) = 1
+size (and φ ψ) = 1 + size φ + size ψ
+size (or φ ψ) = 1 + size φ + size ψ
+size (next q φ b) = 1 + size φ
+size (until q φ ψ b) = 1 + size φ + size ψ
+
+-- `<=` and at most ten digits
+bound-length : (b : Bound) → length (boundText b) ≤ 12
+bound-length (Within k) = omega (arith, decimal-length 10 k)
+bound-length Unbounded = omega arith
+
+quantifier-length : (q : Quantifier) → length (quantifierText q) ≤ 1
+quantifier-length Some = omega arith
+quantifier-length Every = omega arith
+
+pub text-length : (φ : Formula) → length (text φ) ≤ 18 * size φ
+unfolding text size
+text-length true′ = omega arith
+text-length false′ = omega arith
+text-length (prop i) = omega (arith, decimal-length 10 i)
+text-length (not-prop i) = omega (arith, decimal-length 10 i)
+text-length (and φ ψ) = simp length-append (omega (arith, text-length φ, text-length ψ))
+text-length (or φ ψ) = simp length-append (omega (arith, text-length φ, text-length ψ))
+text-length (next q φ b) = simp length-append (omega (arith, text-length φ, bound-length b, quantifier-length q))
+text-length (until q φ ψ b) = simp length-append (omega (arith, text-length φ, text-length ψ, bound-length b, quantifier-length q))
+
+-- so a room of 2,048 bytes is enough for 64 rows
+pub text-short : (φ : Formula) → size φ ≤ 64 → length (text φ) ≤ 2048
+text-short φ h = omega (arith, text-length φ)

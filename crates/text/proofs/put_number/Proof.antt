@@ -1,0 +1,20 @@
+-- `text::put_number` meets its contract.
+use borrow.Author.Needs.{needs}
+use Rattle.text.proofs.Laid.{_then_}
+use Rattle.text.proofs.put_number.Statement.{statement}
+use Rattle.text.proofs.put_number.Tie as tie
+
+put-word-requires : tie.Need-put-word-requires
+put-word-requires c κs = search needs
+
+put-decimal-requires : tie.Need-put-decimal-requires
+put-decimal-requires c κs = search needs
+
+same-length : tie.Need-same-length
+same-length c = search needs
+
+returns : tie.Need-returns
+returns c = c .before .before .before .before .before .before .put-word .ensures then c .before .before .put-decimal .ensures
+
+pub put-number-spec : {M : Type 1} → statement M
+put-number-spec = tie.close (tie.spec put-word-requires put-decimal-requires same-length returns)
