@@ -1,10 +1,11 @@
--- What an accepted message gives the writing of its text: its rows by position, and a text of at most 1,152 bytes. Assumes nothing.
+-- What an accepted message gives the writing of its text: the root by position, and a text that is short. Assumes nothing.
 use Prim.Native.Nat.{ℕ, _+_, _*_, _-_, _≤_, _<_}
 use mathlib.Core.List.{List}
 use mathlib.Core.Option.{some}
 use mathlib.Core.Path.{_≡_, refl, sym, ap, subst, _∙_}
 use native.Mathlib.Omega.{arith}
 use lib.ListN.{length, getElem?}
+use Rattle.wire.specs.Bytes.{Bytes}
 use Rattle.wire.specs.Read.{Read, good, bad}
 use Rattle.wire.specs.Layout.{items}
 use Rattle.formula.specs.declared.Row.{Row}
@@ -16,26 +17,13 @@ use Rattle.formula.specs.Message.{readFormula}
 use Rattle.formula.specs.WellFormed.{WellFormed}
 use Rattle.formula.proofs.Good.{formula-good, header-good}
 use Rattle.formula.proofs.Accepted.{holds}
+use Rattle.formula.proofs.Exact.{accepted-written}
 use Rattle.text.specs.Text.{text}
 use Rattle.text.specs.Rows.{countOf, rowsOf, rowText, Ready}
-use Rattle.text.proofs.Length.{size, text-length}
+use Rattle.text.proofs.Length.{accepted-text-short}
 use Rattle.text.proofs.Rows.{items-at}
 
-well-formed : (p : ℕ) (s : List ℕ) (rows : List Row) → readFormula p s ≡ good rows → WellFormed p rows
-well-formed p s rows e = ?
-
-size-root : (p : ℕ) (rows : List Row) → WellFormed p rows → size (rootOf rows) ≡ length rows
-size-root p rows w = ?
-
-pub accepted-text-length : {p : ℕ} {rows : List Row} → WellFormed p rows → length (text (rootOf rows)) ≤ 1152
-accepted-text-length {p} {rows} w = omega (arith, text-length (rootOf rows), size-root p rows w, w .rows-fit)
-
--- so a room of 2,048 bytes always suffices
-pub accepted-text-short : {p : ℕ} {rows : List Row} → WellFormed p rows → length (text (rootOf rows)) ≤ 2048
-accepted-text-short w = let h = accepted-text-length w in omega arith
-
--- ---- the root of an accepted message, by position
-
+-- the root of an accepted message, by position
 pub record Root (x : Read (List Row)) (s : List ℕ) (f : ℕ) : Type 0 where
   pub rows : List Row
   pub reads : x ≡ good rows
@@ -44,7 +32,10 @@ pub record Root (x : Read (List Row)) (s : List ℕ) (f : ℕ) : Type 0 where
   pub text-is : rowText s (f - 1) ≡ text (rootOf rows)
   pub short : length (rowText s (f - 1)) ≤ 2048
 
-module _ (p : ℕ) (s : List ℕ) (rows : List Row) (e : readFormula p s ≡ good rows) where
+module _ (p : ℕ) (s : List ℕ) (b : Bytes s) (rows : List Row) (e : readFormula p s ≡ good rows) where
+  well : WellFormed p rows
+  well = accepted-written p s rows b e .1
+
   count-is : countOf s ≡ length rows
   count-is = let h = header-good s (length rows) (formula-good p s rows e .header) in omega (arith, h .long)
 
@@ -53,10 +44,9 @@ module _ (p : ℕ) (s : List ℕ) (rows : List Row) (e : readFormula p s ≡ goo
 
   last-ready : Ready s (length rows - 1)
   last-ready =
-      let w = well-formed p s rows e in
       record {
-        there = omega (arith, count-is, w .some-row);
-        earlier = λ j h m. w .earlier j (subst (λ (l : List Row). getElem? l j ≡ some (rowAt s (7 + j * 8))) rows-are (items-at s (countOf s) 7 j h)) m;
+        there = omega (arith, count-is, well .some-row);
+        earlier = λ j h m. well .earlier j (subst (λ (l : List Row). getElem? l j ≡ some (rowAt s (7 + j * 8))) rows-are (items-at s (countOf s) 7 j h)) m;
       }
 
   last-text : rowText s (length rows - 1) ≡ text (rootOf rows)
@@ -65,20 +55,19 @@ module _ (p : ℕ) (s : List ℕ) (rows : List Row) (e : readFormula p s ≡ goo
 
   last-root : Root (readFormula p s) s (length rows)
   last-root =
-      let w = well-formed p s rows e in
       record {
         rows = rows;
         reads = e;
-        some-row = w .some-row;
+        some-row = well .some-row;
         ready = last-ready;
         text-is = last-text;
-        short = rw last-text (accepted-text-short w);
+        short = rw last-text (accepted-text-short well);
       }
 
-pub checked-root : (p : ℕ) (s : List ℕ) {f : ℕ} → checked (readFormula p s) ≡ Checked.Formula f → Root (readFormula p s) s f
+pub checked-root : (p : ℕ) (s : List ℕ) → Bytes s → {f : ℕ} → checked (readFormula p s) ≡ Checked.Formula f → Root (readFormula p s) s f
 unfolding checked
-checked-root p s {f} e = go (readFormula p s) refl e
+checked-root p s b {f} e = go (readFormula p s) refl e
   where
     go : (x : Read (List Row)) → readFormula p s ≡ x → checked x ≡ Checked.Formula f → Root (readFormula p s) s f
-    go (good rows) reads same = let count : length rows ≡ f = cc in subst (Root (readFormula p s) s) count (last-root p s rows reads)
+    go (good rows) reads same = let count : length rows ≡ f = cc in subst (Root (readFormula p s) s) count (last-root p s b rows reads)
     go (bad r) reads same = let z : _≡_ {A = ℕ} 0 1 = cc in absurd (omega arith)

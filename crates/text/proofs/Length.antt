@@ -1,25 +1,18 @@
 -- How long a text is: at most 18 bytes for each operator and proposition, so 1,152 for 64 rows. Assumes nothing.
-use Prim.Native.Nat.{ℕ, _+_, _*_, _≤_}
-use mathlib.Core.List.{_++_}
+use Prim.Native.Nat.{ℕ, _*_, _≤_}
+use mathlib.Core.List.{List}
 use native.Mathlib.Omega.{arith}
 use lib.ListN.{length, length-append}
 use Rattle.value.specs.declared.Bound.{Bound}
 use Rattle.value.specs.declared.Bound.the-variants.{Within, Unbounded}
 use Rattle.formula.specs.declared.Quantifier.{Quantifier}
 use Rattle.formula.specs.declared.Quantifier.the-variants.{Some, Every}
-use Rattle.formula.specs.Formula.{Formula, true′, false′, prop, not-prop, and, or, next, until}
+use Rattle.formula.specs.declared.Row.{Row}
+use Rattle.formula.specs.Formula.{Formula, true′, false′, prop, not-prop, and, or, next, until, size, rootOf}
+use Rattle.formula.specs.WellFormed.{WellFormed}
+use Rattle.formula.proofs.Trees.{tree-size}
 use Rattle.text.specs.Text.{boundText, quantifierText, text}
 use Rattle.text.proofs.Decimal.{decimal-length}
-
-unfoldable pub size : Formula → ℕ
-size true′ = 1
-size false′ = 1
-size (prop i) = 1
-size (not-prop i) = 1
-size (and φ ψ) = 1 + size φ + size ψ
-size (or φ ψ) = 1 + size φ + size ψ
-size (next q φ b) = 1 + size φ
-size (until q φ ψ b) = 1 + size φ + size ψ
 
 -- `<=` and at most ten digits
 bound-length : (b : Bound) → length (boundText b) ≤ 12
@@ -41,6 +34,13 @@ text-length (or φ ψ) = simp length-append (omega (arith, text-length φ, text-
 text-length (next q φ b) = simp length-append (omega (arith, text-length φ, bound-length b, quantifier-length q))
 text-length (until q φ ψ b) = simp length-append (omega (arith, text-length φ, text-length ψ, bound-length b, quantifier-length q))
 
--- so a room of 2,048 bytes is enough for 64 rows
+-- so a room of 2,048 bytes is enough for 64 operators and propositions
 pub text-short : (φ : Formula) → size φ ≤ 64 → length (text φ) ≤ 2048
 text-short φ h = omega (arith, text-length φ)
+
+-- an accepted formula has as many of them as it has rows, so 1,152 bytes suffice
+pub accepted-text-length : {p : ℕ} {rows : List Row} → WellFormed p rows → length (text (rootOf rows)) ≤ 1152
+accepted-text-length {rows = rows} w = omega (arith, text-length (rootOf rows), tree-size w, w .rows-fit)
+
+pub accepted-text-short : {p : ℕ} {rows : List Row} → WellFormed p rows → length (text (rootOf rows)) ≤ 2048
+accepted-text-short w = let h = accepted-text-length w in omega arith

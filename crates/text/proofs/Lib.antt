@@ -1,17 +1,19 @@
 -- Laws of the text of formulas.
 --     Decimal    decimal digits make their number, and end where the digits end
---     Length     how long a text is: 2,048 bytes suffice for 64 rows
+--     Length     how long a text is: 2,048 bytes suffice for an accepted formula
 --     Tells      the text determines the formula
 --     Known      the texts of the paper's examples
 --     Laid       bytes laid into a room one after another
 --     Rows       the text of a row is made of the texts of its operands
---     Answers    the answer and the room in each of the three cases
 --     Accepted   what an accepted message gives the writing of its text
+--     Answers    the answer and the room in each of the three cases
+--     Laws       there is one answer, and the program's room is never too small
 pub mod Decimal
 pub mod Length
 pub mod Tells
 pub mod Known
 pub mod Laid
 pub mod Rows
-pub mod Answers
 pub mod Accepted
+pub mod Answers
+pub mod Laws

@@ -1,21 +1,23 @@
 -- The text of a row is made of the texts of its operands. Assumes nothing.
 use Prim.Native.Nat.{ℕ, zero, suc, _+_, _*_, _<_, _≤_}
 use mathlib.Core.List.{List, [], _∷_, _++_, append-assoc, List·Memᴰ·head, List·Memᴰ·tail, List·Memᴰ·not-nil}
-use mathlib.Core.Option.{Option, some, none}
-use mathlib.Core.Path.{_≡_, refl, sym, ap, ap₂, subst, _∙_}
+use mathlib.Core.Option.{some}
+use mathlib.Core.Path.{_≡_, refl, sym, ap, subst, _∙_}
 use native.Mathlib.Nat.{not-suc-le-zero}
 use native.Mathlib.Omega.{arith}
 use lib.ListN.{length, getElem?, length-append}
 use Rattle.lists.specs.Lists.{_∈_}
+use Rattle.lists.proofs.Places.{place-lt}
 use Rattle.wire.specs.Layout.{items}
 use Rattle.value.specs.declared.Bound.{Bound}
 use Rattle.formula.specs.declared.Quantifier.{Quantifier}
 use Rattle.formula.specs.declared.Quantifier.the-variants.{Some, Every}
 use Rattle.formula.specs.declared.Row.{Row}
 use Rattle.formula.specs.declared.Row.the-variants.{True, False, Proposition, Negation, And, Or, Next, Until}
-use Rattle.formula.specs.Formula.{Formula, and, or, next, until, grow, tree, formulaOf}
+use Rattle.formula.specs.Formula.{Formula, grow, formulaOf}
 use Rattle.formula.specs.Rows.{operands}
 use Rattle.formula.specs.Layouts.{rowAt, rowLayout}
+use Rattle.formula.proofs.Trees.{Ordered, formula-of-row}
 use Rattle.text.specs.Text.{word, decimal, boundText, quantifierText, text}
 use Rattle.text.specs.Rows.{countOf, rowsOf, rowText, Ready}
 
@@ -89,39 +91,6 @@ text-grow (Or l r) φ = refl
 text-grow (Next q l b) φ = simp append-assoc
 text-grow (Until q l r b) φ = simp append-assoc
 
--- ---- the formula of a row
-
--- a row grows alike from formulas that agree at its operands
-grow-same : (row : Row) (φ ψ : ℕ → Formula) → ((l : ℕ) → l ∈ operands row → φ l ≡ ψ l) → grow (some row) φ ≡ grow (some row) ψ
-grow-same True φ ψ same = refl
-grow-same False φ ψ same = refl
-grow-same (Proposition i) φ ψ same = refl
-grow-same (Negation i) φ ψ same = refl
-grow-same (And l r) φ ψ same = ap₂ and (same l (List·Memᴰ·head refl)) (same r (List·Memᴰ·tail (List·Memᴰ·head refl)))
-grow-same (Or l r) φ ψ same = ap₂ or (same l (List·Memᴰ·head refl)) (same r (List·Memᴰ·tail (List·Memᴰ·head refl)))
-grow-same (Next q l b) φ ψ same = ap (λ (χ : Formula). next q χ b) (same l (List·Memᴰ·head refl))
-grow-same (Until q l r b) φ ψ same =
-    ap₂ (λ (χ ξ : Formula). until q χ ξ b) (same l (List·Memᴰ·head refl)) (same r (List·Memᴰ·tail (List·Memᴰ·head refl)))
-
-module _ (rows : List Row) (earlier : (i : ℕ) (row : Row) → getElem? rows i ≡ some row → (l : ℕ) → l ∈ operands row → l < i) where
-  -- any depth above the row's place gives the whole tree
-  tree-deep : (n m i : ℕ) → i < n → i < m → tree n rows i ≡ tree m rows i
-  unfolding tree
-  tree-deep zero m i h k = absurd (not-suc-le-zero h)
-  tree-deep (suc n) zero i h k = absurd (not-suc-le-zero k)
-  tree-deep (suc n) (suc m) i h k = go (getElem? rows i) refl (tree-deep n m)
-    where
-      go : (o : Option Row) → getElem? rows i ≡ o → ((l : ℕ) → l < n → l < m → tree n rows l ≡ tree m rows l) → grow o (λ l. tree n rows l) ≡ grow o (λ l. tree m rows l)
-      go none e same = refl
-      go (some row) e same =
-          grow-same row (λ l. tree n rows l) (λ l. tree m rows l)
-          (λ l inside. let lower = earlier i row e l inside in same l (omega arith) (omega arith))
-
-  formula-grows : (i : ℕ) (row : Row) → i < length rows → getElem? rows i ≡ some row → formulaOf rows i ≡ grow (some row) (λ l. formulaOf rows l)
-  unfolding tree
-  formula-grows i row h e = tree-deep (length rows) (suc (length rows)) i h (omega arith)
-      ∙ ap (λ (o : Option Row). grow o (λ l. formulaOf rows l)) e
-
 -- ---- rows by position
 
 module _ (s : List ℕ) where
@@ -138,11 +107,6 @@ module _ (s : List ℕ) where
       let later : at + 8 + j * 8 ≡ at + suc j * 8 = omega arith in
       items-at k (at + 8) j (omega arith) ∙ ap (λ (n : ℕ). some (rowAt s n)) later
 
-at-inside : {A : Type 0} (l : List A) (i : ℕ) {a : A} → getElem? l i ≡ some a → i < length l
-at-inside [] i e = let z : _≡_ {A = ℕ} 0 1 = cc in absurd (omega arith)
-at-inside (b ∷ l) zero e = omega arith
-at-inside (b ∷ l) (suc i) e = let h = at-inside l i e in omega arith
-
 -- what is known of an operand l of row i
 pub record Operand (s : List ℕ) (i l : ℕ) : Type 0 where
   pub earlier : l < i
@@ -150,19 +114,20 @@ pub record Operand (s : List ℕ) (i l : ℕ) : Type 0 where
   pub shorter : length (rowText s l) ≤ length (rowText s i)
 
 module _ {s : List ℕ} {i : ℕ} (ready : Ready s i) where
-  earlier-rows : (j : ℕ) (row : Row) → getElem? (rowsOf s) j ≡ some row → (l : ℕ) → l ∈ operands row → l < j
-  earlier-rows j row e l inside =
-      let below : j < countOf s = subst (λ (n : ℕ). j < n) (items-length s (countOf s) 7) (at-inside (rowsOf s) j e) in
-      let there : some row ≡ some (rowAt s (7 + j * 8)) = sym e ∙ items-at s (countOf s) 7 j below in
-      let same : row ≡ rowAt s (7 + j * 8) = cc in
-      ready .earlier j below (subst (λ (x : Row). l ∈ operands x) same inside)
+  ordered : Ordered (rowsOf s)
+  ordered = record {
+    earlier = λ j {row} e {l} inside.
+        let below : j < countOf s = subst (λ (n : ℕ). j < n) (items-length s (countOf s) 7) (place-lt (rowsOf s) j e) in
+        let there : some row ≡ some (rowAt s (7 + j * 8)) = sym e ∙ items-at s (countOf s) 7 j below in
+        let same : row ≡ rowAt s (7 + j * 8) = cc in
+        ready .earlier j below (subst (λ (x : Row). l ∈ operands x) same inside);
+  }
 
   module _ {row : Row} (e : rowAt s (7 + i * 8) ≡ row) where
     pub row-made : rowText s i ≡ made row (λ l. rowText s l)
     unfolding rowText
     row-made =
-        let there : i < length (rowsOf s) = subst (λ (n : ℕ). i < n) (sym (items-length s (countOf s) 7)) (ready .there) in
-        ap text (formula-grows (rowsOf s) earlier-rows i row there (items-at s (countOf s) 7 i (ready .there) ∙ ap some e))
+        ap text (formula-of-row (rowsOf s) ordered i (items-at s (countOf s) 7 i (ready .there) ∙ ap some e))
         ∙ text-grow row (λ l. formulaOf (rowsOf s) l)
 
     pub row-long : length (rowText s i) ≡ madeLength row (λ l. length (rowText s l))

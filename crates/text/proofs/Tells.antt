@@ -1,13 +1,13 @@
 -- The text determines the formula: it can be read back, whatever follows it. Assumes nothing.
 use Prim.Native.Nat.{ℕ, zero, suc, _+_, _^_, _<_, _≤_}
-use mathlib.Core.List.{List, [], _∷_, _++_, append-assoc, List·Memᴰ·head, List·Memᴰ·tail}
+use mathlib.Core.List.{List, [], _∷_, _++_, append-assoc}
 use mathlib.Core.Option.{Option, some, none}
 use mathlib.Core.Path.{_≡_, refl, sym, ap, _∙_}
 use mathlib.Core.Bool.{cond}
 use native.Mathlib.Omega.{arith}
 use lib.Dec.{eqb}
 use lib.ListN.{getD, drop, getElem?}
-use Rattle.lists.specs.Lists.{_∈_}
+use Rattle.lists.proofs.Places.{first, place-∈}
 use Rattle.value.specs.Coded.{Sayable}
 use Rattle.value.specs.declared.Bound.{Bound}
 use Rattle.value.specs.declared.Bound.the-variants.{Within, Unbounded}
@@ -15,11 +15,10 @@ use Rattle.formula.specs.declared.Quantifier.{Quantifier}
 use Rattle.formula.specs.declared.Quantifier.the-variants.{Some, Every}
 use Rattle.formula.specs.declared.Row.{Row}
 use Rattle.formula.specs.declared.Row.the-variants as Row
-use Rattle.formula.specs.Formula.{Formula, true′, false′, prop, not-prop, and, or, next, until, grow, tree, rootOf}
+use Rattle.formula.specs.Formula.{Formula, true′, false′, prop, not-prop, and, or, next, until, grow, tree, rootOf, size}
 use Rattle.formula.specs.WellFormed.{WellFormed}
 use Rattle.text.specs.Text.{boundText, quantifierText, text}
 use Rattle.text.proofs.Decimal.{Stops, value, leading, after, decimal-read, decimal-rest}
-use Rattle.text.proofs.Length.{size}
 
 -- propositions and bounds have at most ten digits
 abbrev pub SmallBound : Bound → Type 0
@@ -177,11 +176,6 @@ text-tells φ ψ s s′ same = text-tells-rest φ ψ [] [] s s′ refl refl (ap 
 
 -- ---- accepted formulas are small
 
-at-member : {A : Type 0} (l : List A) (i : ℕ) {a : A} → getElem? l i ≡ some a → a ∈ l
-at-member [] i e = let z : _≡_ {A = ℕ} 0 1 = cc in absurd (omega arith)
-at-member (b ∷ l) zero {a} e = let here : a ≡ b = cc in List·Memᴰ·head here
-at-member (b ∷ l) (suc i) e = List·Memᴰ·tail (at-member l i e)
-
 sayable-small : (b : Bound) → Sayable b → SmallBound b
 sayable-small (Within k) h = omega arith
 sayable-small Unbounded h = tt
@@ -195,12 +189,12 @@ small-tree {p} rows w (suc n) i = go (getElem? rows i) refl (small-tree rows w n
     go none e small = tt
     go (some Row.True) e small = tt
     go (some Row.False) e small = tt
-    go (some (Row.Proposition q)) e small = omega (arith, w .propositions-named i e (List·Memᴰ·head refl), w .propositions-fit)
-    go (some (Row.Negation q)) e small = omega (arith, w .propositions-named i e (List·Memᴰ·head refl), w .propositions-fit)
+    go (some (Row.Proposition q)) e small = omega (arith, w .propositions-named i e first, w .propositions-fit)
+    go (some (Row.Negation q)) e small = omega (arith, w .propositions-named i e first, w .propositions-fit)
     go (some (Row.And l r)) e small = (small l, small r)
     go (some (Row.Or l r)) e small = (small l, small r)
-    go (some (Row.Next q l b)) e small = (small l, sayable-small b (w .sayable (at-member rows i e)))
-    go (some (Row.Until q l r b)) e small = (small l, small r, sayable-small b (w .sayable (at-member rows i e)))
+    go (some (Row.Next q l b)) e small = (small l, sayable-small b (w .sayable (place-∈ rows i e)))
+    go (some (Row.Until q l r b)) e small = (small l, small r, sayable-small b (w .sayable (place-∈ rows i e)))
 
 pub accepted-text-tells : {p p′ : ℕ} {rows rows′ : List Row} → WellFormed p rows → WellFormed p′ rows′ → text (rootOf rows) ≡ text (rootOf rows′) → rootOf rows ≡ rootOf rows′
 accepted-text-tells {rows = rows} {rows′ = rows′} w w′ same =

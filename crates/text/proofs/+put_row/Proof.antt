@@ -1,6 +1,6 @@
 -- The proof of the cycle of calls {put_row}: the measure is the row's place, and operands are earlier rows; the pieces are stored one after another.
 use Prim.Native.Nat.{ℕ, _<_, _≤_, _+_, _*_}
-use mathlib.Core.List.{List, List·Memᴰ·head, List·Memᴰ·tail}
+use mathlib.Core.List.{List}
 use mathlib.Core.Path.{_≡_, refl}
 use native.Mathlib.Omega.{arith}
 use lib.ListN.{length}
@@ -8,6 +8,7 @@ use borrow.Author.Needs.{needs}
 use borrow.Fn.Kinds.{In}
 use borrow.Fn.PlainCycle.{Measures, is, falls, and}
 use Rattle.lists.specs.Lists.{_∈_}
+use Rattle.lists.proofs.Places.{first, second}
 use Rattle.lists.proofs.Tests.{by}
 use Rattle.formula.specs.declared.Row.{Row}
 use Rattle.formula.specs.Layouts.{rowAt}
@@ -158,7 +159,7 @@ module _ (t : ℕ) where
 
   put-row-requires : lts.Need-put-row-requires claims given f.Post
   put-row-requires c κs =
-      let a = and-asks (c .before .before .before .before .before .before .before) _ (List·Memᴰ·head refl) in
+      let a = and-asks (c .before .before .before .before .before .before .before) _ first in
       (a .0, (a .1, omega (arith, and-long (c .before .before .before .before .before .before .before))))
 
   slice-aggregate-put-word-4 : lts.Need-slice-aggregate-put-word-4 claims given f.Post
@@ -169,7 +170,7 @@ module _ (t : ℕ) where
 
   put-row-requires-2 : lts.Need-put-row-requires-2 claims given f.Post
   put-row-requires-2 c κs =
-      let a = and-asks (c .before .before .before .before .before .before .before .before .before .before .before .before .before .before .before .before) _ (List·Memᴰ·tail (List·Memᴰ·head refl)) in
+      let a = and-asks (c .before .before .before .before .before .before .before .before .before .before .before .before .before .before .before .before) _ second in
       (a .0, (a .1, omega (arith, and-long (c .before .before .before .before .before .before .before .before .before .before .before .before .before .before .before .before))))
 
   slice-aggregate-put-word-5 : lts.Need-slice-aggregate-put-word-5 claims given f.Post
@@ -189,7 +190,7 @@ module _ (t : ℕ) where
 
   put-row-requires-3 : lts.Need-put-row-requires-3 claims given f.Post
   put-row-requires-3 c κs =
-      let a = or-asks (c .before .before .before .before .before .before .before) _ (List·Memᴰ·head refl) in
+      let a = or-asks (c .before .before .before .before .before .before .before) _ first in
       (a .0, (a .1, omega (arith, or-long (c .before .before .before .before .before .before .before))))
 
   slice-aggregate-put-word-7 : lts.Need-slice-aggregate-put-word-7 claims given f.Post
@@ -200,7 +201,7 @@ module _ (t : ℕ) where
 
   put-row-requires-4 : lts.Need-put-row-requires-4 claims given f.Post
   put-row-requires-4 c κs =
-      let a = or-asks (c .before .before .before .before .before .before .before .before .before .before .before .before .before .before .before .before) _ (List·Memᴰ·tail (List·Memᴰ·head refl)) in
+      let a = or-asks (c .before .before .before .before .before .before .before .before .before .before .before .before .before .before .before .before) _ second in
       (a .0, (a .1, omega (arith, or-long (c .before .before .before .before .before .before .before .before .before .before .before .before .before .before .before .before))))
 
   slice-aggregate-put-word-8 : lts.Need-slice-aggregate-put-word-8 claims given f.Post
@@ -223,7 +224,7 @@ module _ (t : ℕ) where
 
   put-row-requires-5 : lts.Need-put-row-requires-5 claims given f.Post
   put-row-requires-5 c κs =
-      let a = next-asks (c .before .before .before .before .before .before .before .before .before .before .before) _ (List·Memᴰ·head refl) in
+      let a = next-asks (c .before .before .before .before .before .before .before .before .before .before .before) _ first in
       (a .0, (a .1, omega (arith, next-long (c .before .before .before .before .before .before .before .before .before .before .before))))
 
   enum-known-row-6 : lts.Need-enum-known-row-6 claims given f.Post
@@ -240,7 +241,7 @@ module _ (t : ℕ) where
 
   put-row-requires-6 : lts.Need-put-row-requires-6 claims given f.Post
   put-row-requires-6 c κs =
-      let a = until-asks (c .before .before .before .before .before .before .before .before .before .before .before) _ (List·Memᴰ·head refl) in
+      let a = until-asks (c .before .before .before .before .before .before .before .before .before .before .before) _ first in
       (a .0, (a .1, omega (arith, until-long (c .before .before .before .before .before .before .before .before .before .before .before))))
 
   slice-aggregate-put-bounded-2 : lts.Need-slice-aggregate-put-bounded-2 claims given f.Post
@@ -256,7 +257,7 @@ module _ (t : ℕ) where
       let c2 = c3 .before .before .before .before in
       let c1 = c2 .before .before .before .before .before in
       let r = c1 .before .before .before in
-      let a = until-asks r _ (List·Memᴰ·tail (List·Memᴰ·head refl)) in
+      let a = until-asks r _ second in
       (a .0, (a .1, laid.fits-before (c1 .put-quantifier2 .ensures then c2 .put-word9 .ensures then c3 .put-row6 .ensures then c4 .put-bounded2 .ensures) _ (word "]") (whole (r .before .before) (r .row6 .given .1))))
 
   slice-aggregate-put-word-10 : lts.Need-slice-aggregate-put-word-10 claims given f.Post

@@ -1,6 +1,6 @@
 -- The proof of the cycle of calls {row_length}: the measure is the row's place, and operands are earlier rows.
 use Prim.Native.Nat.{ℕ, _<_, _≤_, _+_, _*_}
-use mathlib.Core.List.{List, List·Memᴰ·head, List·Memᴰ·tail}
+use mathlib.Core.List.{List}
 use mathlib.Core.Logic.{_⊎_, inl, inr, ⊎-elim}
 use mathlib.Core.Path.{_≡_, refl, sym, ap₂, _∙_}
 use native.Mathlib.Omega.{arith}
@@ -9,6 +9,7 @@ use borrow.Author.Needs.{needs}
 use borrow.Fn.Kinds.{In}
 use borrow.Fn.PlainCycle.{Measures, is, falls, and}
 use Rattle.lists.specs.Lists.{_∈_}
+use Rattle.lists.proofs.Places.{first, second}
 use Rattle.lists.proofs.Tests.{by}
 use Rattle.formula.specs.declared.Row.{Row}
 use Rattle.formula.specs.declared.Row.the-variants.{And, Or}
@@ -118,7 +119,7 @@ module _ (t : ℕ) where
   add-result-3 c = omega (arith, long (c .before .before .before .before) (c .before .before .row5 .given .1))
 
   row-length-requires : lts.Need-row-length-requires claims given f.Post
-  row-length-requires c κs = asks (c .before .before .before .before) (c .before .before .row5 .given .1) _ (List·Memᴰ·head refl)
+  row-length-requires c κs = asks (c .before .before .before .before) (c .before .before .row5 .given .1) _ first
 
   add-result-4 : lts.Need-add-result-4 claims given f.Post
   add-result-4 c = omega (arith, long (c .before .before .before .before .before) (c .before .before .before .row5 .given .1))
@@ -133,25 +134,25 @@ module _ (t : ℕ) where
   add-result-5 c = omega (arith, long (c .before .before .before .before) (c .before .before .row6 .given .1))
 
   row-length-requires-2 : lts.Need-row-length-requires-2 claims given f.Post
-  row-length-requires-2 c κs = asks (c .before .before .before .before) (c .before .before .row6 .given .1) _ (List·Memᴰ·head refl)
+  row-length-requires-2 c κs = asks (c .before .before .before .before) (c .before .before .row6 .given .1) _ first
 
   add-result-6 : lts.Need-add-result-6 claims given f.Post
   add-result-6 c = omega (arith, long (c .before .before .before .before .before) (c .before .before .before .row6 .given .1))
 
   row-length-requires-3 : lts.Need-row-length-requires-3 claims given f.Post
-  row-length-requires-3 c κs = asks (c .before .before .before .before .before) (c .before .before .before .row6 .given .1) _ (List·Memᴰ·tail (List·Memᴰ·head refl))
+  row-length-requires-3 c κs = asks (c .before .before .before .before .before) (c .before .before .before .row6 .given .1) _ second
 
   add-result-7 : lts.Need-add-result-7 claims given f.Post
   add-result-7 c = omega (arith, long (c .before .before .before .before .before .before) (c .before .before .before .before .row6 .given .1))
 
   row-length-requires-4 : lts.Need-row-length-requires-4 claims given f.Post
-  row-length-requires-4 c κs = ⊎-elim (λ e. asks (c .before) e _ (List·Memᴰ·head refl)) (λ e. asks (c .before) e _ (List·Memᴰ·head refl)) (two c)
+  row-length-requires-4 c κs = ⊎-elim (λ e. asks (c .before) e _ first) (λ e. asks (c .before) e _ first) (two c)
 
   add-result-8 : lts.Need-add-result-8 claims given f.Post
   add-result-8 c = omega (arith, sum (c .before))
 
   row-length-requires-5 : lts.Need-row-length-requires-5 claims given f.Post
-  row-length-requires-5 c κs = ⊎-elim (λ e. asks (c .before .before) e _ (List·Memᴰ·tail (List·Memᴰ·head refl))) (λ e. asks (c .before .before) e _ (List·Memᴰ·tail (List·Memᴰ·head refl))) (two (c .before))
+  row-length-requires-5 c κs = ⊎-elim (λ e. asks (c .before .before) e _ second) (λ e. asks (c .before .before) e _ second) (two (c .before))
 
   add-result-9 : lts.Need-add-result-9 claims given f.Post
   add-result-9 c = omega (arith, sum (c .before .before))

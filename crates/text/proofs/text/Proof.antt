@@ -4,6 +4,7 @@ use native.Mathlib.Omega.{arith}
 use lib.ListN.{length}
 use borrow.Author.Needs.{needs}
 use Rattle.lists.proofs.Tests.{by}
+use Rattle.wire.specs.Bytes.{Bytes}
 use Rattle.formula.specs.Message.{readFormula}
 use Rattle.formula.proofs.Answered.{checked-refused}
 use Rattle.text.proofs.Accepted.{Root, checked-root}
@@ -12,12 +13,15 @@ use Rattle.text.proofs.Laid.{said}
 use Rattle.text.proofs.text.Statement.{statement}
 use Rattle.text.proofs.text.Tie as tie
 
+bytes : (c : tie.After-known-told2) → Bytes (c .before .before .before .before .before .before .args .s .now)
+bytes c i = omega (arith, c .before .before .before .before .before .shared-slice-known .given i)
+
 -- the root of the accepted message
 root : (c : tie.After-known-told2)
     → Root (readFormula (c .before .before .before .before .before .before .args .p) (c .before .before .before .before .before .before .args .s .now))
     (c .before .before .before .before .before .before .args .s .now)
     (c .before .f .given .0 .0)
-root c = checked-root _ _ (by (c .before .before .before .check .ensures) (c .before .f .given .1))
+root c = checked-root _ _ (bytes c) (by (c .before .before .before .check .ensures) (c .before .f .given .1))
 
 check-requires : tie.Need-check-requires
 check-requires c κs = search needs
