@@ -1,0 +1,56 @@
+-- `of_bytes` meets its contract: going on from the sum of the first i leads to the sum of all.
+use Prim.Native.Nat.{_-_, _≤_}
+use mathlib.Core.Path.{_≡_, refl, sym, _∙_}
+use native.Mathlib.Omega.{arith}
+use lib.ListN.{length, drop, drop-of-length-le}
+use Rattle.trials.specs.Sums.{afterAll}
+use Rattle.trials.proofs.Adding.{after-next}
+use Rattle.trials.proofs.sums.of_bytes.Statement.{statement}
+use Rattle.trials.proofs.sums.of_bytes.Tie as tie
+
+abbrev Inv-loop : tie.InvT-loop
+Inv-loop s sum₀ i₀ sum i = (i ≤ length s) × (afterAll sum (drop i s) ≡ afterAll 1 s)
+
+abbrev μ-loop : tie.MeasureT-loop
+μ-loop s sum₀ i₀ sum i = length s - i
+
+loop-holds : tie.Need-loop-holds Inv-loop μ-loop
+loop-holds c = (omega arith, refl)
+
+shared-slice-read-add : tie.Need-shared-slice-read-add Inv-loop μ-loop
+shared-slice-read-add c = omega arith
+
+add-requires : tie.Need-add-requires Inv-loop μ-loop
+add-requires c κs = tt
+
+add-i : tie.Need-add-i Inv-loop μ-loop
+add-i c = omega arith
+
+loop-less : tie.Need-loop-less Inv-loop μ-loop
+loop-less c = omega arith
+
+loop-again : tie.Need-loop-again Inv-loop μ-loop
+loop-again c =
+    let at = c .before .before .before .loop in
+    let s = c .before .before .before .before .before .args .s .now in
+    (omega arith, rw (c .add .ensures) (sym (after-next (at .sum) s (at .i) (omega arith)) ∙ at .inv .1))
+
+returns : tie.Need-returns Inv-loop μ-loop
+unfolding afterAll
+returns c =
+    let at = c .before .loop in
+    rw (drop-of-length-le (c .before .before .before .args .s .now) (c .loop-test .left)) at (at .inv .1)
+
+pub of-bytes-spec : {M : Type 1} → statement M
+of-bytes-spec =
+    tie.close
+    (tie.spec
+    Inv-loop
+    μ-loop
+    loop-holds
+    shared-slice-read-add
+    add-requires
+    add-i
+    loop-less
+    loop-again
+    returns)

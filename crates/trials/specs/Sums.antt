@@ -1,0 +1,25 @@
+-- Adler-32 sums: two halves below 65,521, the lower one starting from 1.
+use Prim.Native.Nat.{ℕ, _+_, _*_, _/_, _%_}
+use mathlib.Core.List.{List, [], _∷_, _++_}
+use Rattle.wire.specs.Bytes.{bytes}
+
+-- the sum of these halves
+abbrev pub joined : ℕ → ℕ → ℕ
+joined b a = (b + a) % 65521 * 65536 + a
+
+-- a sum with one byte more
+abbrev pub after : ℕ → ℕ → ℕ
+after sum x = joined (sum / 65536) ((sum % 65536 + x) % 65521)
+
+-- a sum with these bytes more
+unfoldable pub afterAll : ℕ → List ℕ → ℕ
+afterAll sum [] = sum
+afterAll sum (x ∷ xs) = afterAll (after sum x) xs
+
+abbrev pub adler : List ℕ → ℕ
+adler s = afterAll 1 s
+
+-- numbers as 8 bytes each, big-endian
+unfoldable pub wide : List ℕ → List ℕ
+wide [] = []
+wide (n ∷ ns) = bytes 8 n ++ wide ns

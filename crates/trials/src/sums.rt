@@ -1,0 +1,50 @@
+// Adler-32 sums of rooms.
+ghost use mathlib.Core.Path.{_≡_};
+ghost use Rattle.wire.specs.Bytes.{bytes};
+ghost use Rattle.trials.specs.Sums.{after, afterAll, adler, wide};
+
+// A sum with one byte more.
+fn add(sum: u32, x: u8) -> u32
+    ensures { λ r. ⌜ r ≡ after sum x ⌝ }
+{
+    let a = (sum % 65536 + x as u32) % 65521;
+    let b = (sum / 65536 + a) % 65521;
+    b * 65536 + a
+}
+
+// A sum with the last k bytes of a number more.
+fn add_number(sum: u32, n: u64, k: u32) -> u32
+    ensures { λ r. ⌜ r ≡ afterAll sum (bytes k n) ⌝ }
+{
+    if 0 < k {
+        let before = add_number(sum, n / 256, k - 1);
+        return add(before, (n % 256) as u8);
+    }
+    sum
+}
+
+// The sum of bytes.
+pub fn of_bytes(s: &[u8]) -> u32
+    ensures { λ r. ⌜ r ≡ adler (now (s .entry)) ⌝ }
+{
+    let mut sum = 1;
+    let mut i = 0;
+    while i < s.len() {
+        sum = add(sum, s[i]);
+        i += 1;
+    }
+    sum
+}
+
+// The sum of numbers as 8 bytes each.
+pub fn of_values(s: &[u64]) -> u32
+    ensures { λ r. ⌜ r ≡ adler (wide (now (s .entry))) ⌝ }
+{
+    let mut sum = 1;
+    let mut i = 0;
+    while i < s.len() {
+        sum = add_number(sum, s[i], 8);
+        i += 1;
+    }
+    sum
+}
