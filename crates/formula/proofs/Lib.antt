@@ -6,7 +6,7 @@
 --     Spelt      the fields that a row is written with
 --     Exact      accepted messages are exactly the writings of well-formed rows
 --     Sums       sums over a list and over a range of numbers
---     Trees      the rows are a tree: the formula of a row, the size of the root, the rows that it is made of
+--     Trees      the rows are a tree: the formula of a row, the size of the root, the rows that it reaches
 --     Laws       there is one answer
 pub mod Good
 pub mod Uses

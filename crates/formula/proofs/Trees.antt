@@ -1,4 +1,5 @@
--- The rows of a message are a tree: the formula of a row is its operator over the formulas of its operands, the root has as many operators and propositions as there are rows, and is made of every row. Assumes nothing.
+-- The rows of a message are a tree: the formula of a row is its operator over the formulas of its operands,
+-- the root has as many operators and propositions as there are rows, and it reaches every row. Assumes nothing.
 use Prim.Native.Nat.{ℕ, zero, suc, _+_, _*_, _-_, _≤_, _<_}
 use mathlib.Core.List.{List, [], _∷_, _++_, List·Memᴰ·not-nil, List·Memᴰ·append-cases}
 use mathlib.Core.Logic.{_⊎_, inl, inr}
@@ -37,7 +38,7 @@ grow-same (Until c l k b) φ ψ q = ap₂ (λ x y. until c x y b) (q l first) (q
 
 module _ (rows : List Row) (ok : Ordered rows) where
   -- any two depths above the row give one tree
-  tree-same : (n m i : ℕ) → i < n → i < m → tree n rows i ≡ tree m rows i
+  pub tree-same : (n m i : ℕ) → i < n → i < m → tree n rows i ≡ tree m rows i
   unfolding tree
   tree-same zero m i p q = absurd (not-suc-le-zero p)
   tree-same (suc n) zero i p q = absurd (not-suc-le-zero q)
@@ -103,7 +104,7 @@ rows-sum w (row ∷ rows) k f =
     omega (arith, sumOf-append w (operands row) (operandsOf rows))
 
 module _ {p : ℕ} {rows : List Row} (well : WellFormed p rows) where
-  -- every operand but the root's row is one exactly once
+  -- every row but the last is an operand exactly once, and the last is none
   once : (i : ℕ) → i < length rows - 1 → times i (operandsOf rows) ≡ 1
   once i h = sym (uses-times i rows) ∙ well .used-once i (omega arith)
 
@@ -124,7 +125,7 @@ module _ {p : ℕ} {rows : List Row} (well : WellFormed p rows) where
       ap (sumFrom w 0) (omega (arith, well .some-row)) ∙ sumFrom-last w 0 last ∙ ap (λ (i : ℕ). sumFrom w 0 last + w i) (zero-add last) in
       omega arith
 
-  -- the root is made of every row
+  -- the root reaches every row
   reaches : (d i : ℕ) → length rows ≤ i + d → i < length rows → Reaches rows (length rows - 1) i
   reaches zero i h k = absurd (omega arith)
   reaches (suc d) i h k = go (eq-or-lt-of-le (omega arith)) (reaches d)

@@ -42,7 +42,7 @@ formulaOf rows i = tree (length rows) rows i
 abbrev pub rootOf : List Row → Formula
 rootOf rows = formulaOf rows (length rows - 1)
 
--- how many operators and propositions a formula has
+-- how many operators and propositions a formula has; a negated proposition is one
 unfoldable pub size : Formula → ℕ
 size true′ = 1
 size false′ = 1
@@ -53,7 +53,7 @@ size (or x y) = 1 + size x + size y
 size (next q x b) = 1 + size x
 size (until q x y b) = 1 + size x + size y
 
--- row i is made of row j: it is that row, or one of those that it is made of has j for an operand
+-- row i reaches a row: it is that row, or it reaches one that has it for an operand
 pub data Reaches (rows : List Row) (i : ℕ) : ℕ → Type 0 where
   here : Reaches rows i i
   through : {j l : ℕ} {row : Row} → Reaches rows i j → getElem? rows j ≡ some row → l ∈ operands row → Reaches rows i l

@@ -1,13 +1,11 @@
 -- The rows of a formula message.
 use Prim.Native.Nat.{ℕ, _+_, _-_}
 use mathlib.Core.List.{List, [], _∷_}
-use mathlib.Core.Bool.{Bool, true, false, cond, _&&_}
+use mathlib.Core.Bool.{Bool, cond, _&&_}
 use lib.ListN.{length}
 use lib.Dec.{eqb, ltb}
 use Rattle.lists.specs.Lists.{all, upTo}
-use Rattle.value.specs.declared.Bound.{Bound}
-use Rattle.value.specs.Coded.{boundOf, codeOf}
-use Rattle.formula.specs.declared.Quantifier.{Quantifier}
+use Rattle.value.specs.Coded.{boundOf}
 use Rattle.formula.specs.declared.Quantifier.the-variants.{Some, Every}
 use Rattle.formula.specs.declared.Row.{Row}
 use Rattle.formula.specs.declared.Row.the-variants.{True, False, Proposition, Negation, And, Or, Next, Until}

@@ -1,6 +1,6 @@
 // The check of a formula message against a number of propositions: the first fault in the paper's order, or how many rows it has.
 ghost use mathlib.Core.Path.{_≡_};
-ghost use Prim.Native.Nat.{ℕ, _+_, _*_, _≤_, _<_};
+ghost use Prim.Native.Nat.{ℕ, _+_, _≤_, _<_};
 ghost use mathlib.Core.Bool.{_&&_};
 ghost use mathlib.Core.List.{[], _∷_};
 ghost use lib.Dec.{eqb};
@@ -85,7 +85,7 @@ fn all_zero(a: u32, b: u32, c: u32, d: u32) -> bool
     d == 0
 }
 
-// Whether the fields that the row doesn't use are zero; one that it uses may be anything.
+// Whether the fields that the row doesn't use are zero: one that it uses counts as zero.
 fn spare_zero(row: Row, left: u32, right: u32, zero: u32, bound: u32) -> bool
     ensures { λ r. ⌜ r ≡ rows.spareZero row left right zero bound ⌝ }
 {

@@ -1,5 +1,4 @@
 -- `formula::count_row` meets its contract: each operand of the row is one use more.
-use Prim.Native.Nat.{_<_}
 use mathlib.Core.List.{[], _∷_, List·Memᴰ·head, List·Memᴰ·tail}
 use mathlib.Core.Logic.{⊎-elim}
 use mathlib.Core.Path.{_≡_, refl}

@@ -1,13 +1,13 @@
 -- `formula::count_rows` meets its contract: the uses counted and those that the k rows left make are all uses.
-use Prim.Native.Nat.{ℕ, _+_, _*_, _≤_}
+use Prim.Native.Nat.{ℕ, _+_}
 use mathlib.Core.Path.{_≡_}
 use denote.Ref.{now}
-use lib.ListN.{length, getD}
+use lib.ListN.{getD}
 use native.Mathlib.Omega.{arith}
 use Rattle.wire.specs.Layout.{items, Sound}
 use Rattle.wire.proofs.Layouts.{sound-more, items-length}
-use Rattle.formula.specs.Rows.{operands, times, uses}
-use Rattle.formula.specs.Layouts.{rowAt, rowLayout}
+use Rattle.formula.specs.Rows.{uses}
+use Rattle.formula.specs.Layouts.{rowLayout}
 use Rattle.formula.proofs.Uses.{none-counted, uses-few, uses-more, uses-none}
 use Rattle.formula.proofs.count_rows.Statement.{statement}
 use Rattle.formula.proofs.count_rows.Tie as tie

@@ -15,20 +15,36 @@ use Rattle.formula.proofs.Answered.{judged-fine, judged-refused}
 use Rattle.formula.proofs.one_row.Statement.{statement}
 use Rattle.formula.proofs.one_row.Tie as tie
 
+-- where each field was asked for, and where the function starts
+abbrev start : tie.After-known-told → tie.Start
+start c = c .before .before .before .before .before
+
+abbrev to-left : tie.After-known-told2 → tie.After-known-told
+to-left c = c .before .before .before .before
+
+abbrev to-right : tie.After-known-told3 → tie.After-known-told2
+to-right c = c .before .before .before .before
+
+abbrev to-zero : tie.After-known-told4 → tie.After-known-told3
+to-zero c = c .before .before .before .before
+
+abbrev to-bound : tie.After-known-told5 → tie.After-known-told4
+to-bound c = c .before .before .before .before
+
 -- the fields that are there
-operator-there : (c : tie.After-known-told) → let a = c .before .before .before .before .before .args in fieldAt 1 (now (a .s)) (a .st .at) ≡ Number (c .before .operator .given .0 .0)
+operator-there : (c : tie.After-known-told) → let a = start c .args in fieldAt 1 (now (a .s)) (a .st .at) ≡ Number (c .before .operator .given .0 .0)
 operator-there c = by (c .before .before .before .read .ensures) (c .before .operator .given .1)
 
-left-there : (c : tie.After-known-told2) → let a = c .before .before .before .before .before .before .before .before .before .args in fieldAt 1 (now (a .s)) (a .st .at + 1) ≡ Number (c .before .left .given .0 .0)
+left-there : (c : tie.After-known-told2) → let a = start (to-left c) .args in fieldAt 1 (now (a .s)) (a .st .at + 1) ≡ Number (c .before .left .given .0 .0)
 left-there c = by (c .before .before .before .read2 .ensures) (c .before .left .given .1)
 
-right-there : (c : tie.After-known-told3) → let a = c .before .before .before .before .before .before .before .before .before .before .before .before .before .args in fieldAt 1 (now (a .s)) (a .st .at + 2) ≡ Number (c .before .right .given .0 .0)
+right-there : (c : tie.After-known-told3) → let a = start (to-left (to-right c)) .args in fieldAt 1 (now (a .s)) (a .st .at + 2) ≡ Number (c .before .right .given .0 .0)
 right-there c = by (c .before .before .before .read3 .ensures) (c .before .right .given .1)
 
-zero-there : (c : tie.After-known-told4) → let a = c .before .before .before .before .before .before .before .before .before .before .before .before .before .before .before .before .before .args in fieldAt 1 (now (a .s)) (a .st .at + 3) ≡ Number (c .before .zero .given .0 .0)
+zero-there : (c : tie.After-known-told4) → let a = start (to-left (to-right (to-zero c))) .args in fieldAt 1 (now (a .s)) (a .st .at + 3) ≡ Number (c .before .zero .given .0 .0)
 zero-there c = by (c .before .before .before .read4 .ensures) (c .before .zero .given .1)
 
-bound-there : (c : tie.After-known-told5) → let a = c .before .before .before .before .before .before .before .before .before .before .before .before .before .before .before .before .before .before .before .before .before .args in fieldAt 4 (now (a .s)) (a .st .at + 4) ≡ Number (c .before .bound .given .0 .0)
+bound-there : (c : tie.After-known-told5) → let a = start (to-left (to-right (to-zero (to-bound c)))) .args in fieldAt 4 (now (a .s)) (a .st .at + 4) ≡ Number (c .before .bound .given .0 .0)
 bound-there c = by (c .before .before .before .read5 .ensures) (c .before .bound .given .1)
 
 read-requires : tie.Need-read-requires
@@ -58,7 +74,9 @@ enum-told-2 c = search needs
 
 returns-2 : tie.Need-returns-2
 unfolding readRow step
-returns-2 c = simp (reading, operator-there (c .before .before .before), by (c .before .before .read2 .ensures) (c .enum-told2 .given .1))
+returns-2 c =
+    let k = c .before .before .before in
+    simp (reading, operator-there k, by (c .before .before .read2 .ensures) (c .enum-told2 .given .1))
 
 add-right-at : tie.Need-add-right-at
 add-right-at c = search needs
@@ -74,7 +92,9 @@ enum-told-3 c = search needs
 
 returns-3 : tie.Need-returns-3
 unfolding readRow step
-returns-3 c = simp (reading, operator-there (c .before .before .before .before .before .before .before), left-there (c .before .before .before), by (c .before .before .read3 .ensures) (c .enum-told3 .given .1))
+returns-3 c =
+    let k = c .before .before .before in
+    simp (reading, operator-there (to-left k), left-there k, by (c .before .before .read3 .ensures) (c .enum-told3 .given .1))
 
 add-zero-at : tie.Need-add-zero-at
 add-zero-at c = search needs
@@ -90,7 +110,9 @@ enum-told-4 c = search needs
 
 returns-4 : tie.Need-returns-4
 unfolding readRow step
-returns-4 c = simp (reading, operator-there (c .before .before .before .before .before .before .before .before .before .before .before), left-there (c .before .before .before .before .before .before .before), right-there (c .before .before .before), by (c .before .before .read4 .ensures) (c .enum-told4 .given .1))
+returns-4 c =
+    let k = c .before .before .before in
+    simp (reading, operator-there (to-left (to-right k)), left-there (to-right k), right-there k, by (c .before .before .read4 .ensures) (c .enum-told4 .given .1))
 
 add-bound-at : tie.Need-add-bound-at
 add-bound-at c = search needs
@@ -106,7 +128,9 @@ enum-told-5 c = search needs
 
 returns-5 : tie.Need-returns-5
 unfolding readRow step
-returns-5 c = simp (reading, operator-there (c .before .before .before .before .before .before .before .before .before .before .before .before .before .before .before), left-there (c .before .before .before .before .before .before .before .before .before .before .before), right-there (c .before .before .before .before .before .before .before), zero-there (c .before .before .before), by (c .before .before .read5 .ensures) (c .enum-told5 .given .1))
+returns-5 c =
+    let k = c .before .before .before in
+    simp (reading, operator-there (to-left (to-right (to-zero k))), left-there (to-right (to-zero k)), right-there (to-zero k), zero-there k, by (c .before .before .read5 .ensures) (c .enum-told5 .given .1))
 
 judge-requires : tie.Need-judge-requires
 judge-requires c κs = search needs
@@ -118,28 +142,27 @@ returns-6 : tie.Need-returns-6
 unfolding readRow step
 returns-6 c =
     let j = c .before .before .before in
-    let b = j .before in
-    simp (reading, operator-there (b .before .before .before .before .before .before .before .before .before .before .before .before .before .before .before .before), left-there (b .before .before .before .before .before .before .before .before .before .before .before .before), right-there (b .before .before .before .before .before .before .before .before), zero-there (b .before .before .before .before), bound-there b, judged-refused _ (by (j .judge .ensures) (c .before .e .given .1)))
+    let k = j .before in
+    simp (reading, operator-there (to-left (to-right (to-zero (to-bound k)))), left-there (to-right (to-zero (to-bound k))), right-there (to-zero (to-bound k)), zero-there (to-bound k), bound-there k, judged-refused _ (by (j .judge .ensures) (c .before .e .given .1)))
 
 enum-told-6 : tie.Need-enum-told-6
 enum-told-6 c = search needs
 
 add-end : tie.Need-add-end
 add-end c =
-    let b = c .before .before .before in
-    let start = b .before .before .before .before .before .before .before .before .before .before .before .before .before .before .before .before .before .before .before .before .before in
-    let a = start .args in
-    omega (arith, start .good, value-inside 4 (now (a .s)) (a .st .at + 4) (bound-there b))
+    let k = c .before .before .before in
+    let s = start (to-left (to-right (to-zero (to-bound k)))) in
+    omega (arith, s .good, value-inside 4 (now (s .args .s)) (s .args .st .at + 4) (bound-there k))
 
 add-place : tie.Need-add-place
-add-place c = omega (arith, c .before .before .before .before .before .before .before .before .before .before .before .before .before .before .before .before .before .before .before .before .before .before .before .before .before .pre)
+add-place c = omega (arith, start (to-left (to-right (to-zero (to-bound (c .before .before .before .before))))) .pre)
 
 returns-7 : tie.Need-returns-7
 unfolding readRow step
 returns-7 c =
     let j = c .before .before .before in
-    let b = j .before in
-    simp (reading, operator-there (b .before .before .before .before .before .before .before .before .before .before .before .before .before .before .before .before), left-there (b .before .before .before .before .before .before .before .before .before .before .before .before), right-there (b .before .before .before .before .before .before .before .before), zero-there (b .before .before .before .before), bound-there b, judged-fine _ (by (j .judge .ensures) (c .before .enum-told6 .given .1)))
+    let k = j .before in
+    simp (reading, operator-there (to-left (to-right (to-zero (to-bound k)))), left-there (to-right (to-zero (to-bound k))), right-there (to-zero (to-bound k)), zero-there (to-bound k), bound-there k, judged-fine _ (by (j .judge .ensures) (c .before .enum-told6 .given .1)))
 
 pub one-row-spec : {M : Type 1} → statement M
 one-row-spec =
