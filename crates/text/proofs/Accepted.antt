@@ -1,10 +1,9 @@
 -- What an accepted message gives the writing of its text: the root by position, and a text that is short. Assumes nothing.
-use Prim.Native.Nat.{ℕ, _+_, _*_, _-_, _≤_, _<_}
+use Prim.Native.Nat.{ℕ, _-_, _≤_}
 use mathlib.Core.List.{List}
-use mathlib.Core.Option.{some}
 use mathlib.Core.Path.{_≡_, refl, sym, ap, subst, _∙_}
 use native.Mathlib.Omega.{arith}
-use lib.ListN.{length, getElem?}
+use lib.ListN.{length}
 use Rattle.wire.specs.Bytes.{Bytes}
 use Rattle.wire.specs.Read.{Read, good, bad}
 use Rattle.wire.specs.Layout.{items}
@@ -12,16 +11,15 @@ use Rattle.formula.specs.declared.Row.{Row}
 use Rattle.formula.specs.declared.Checked.the-variants as Checked
 use Rattle.formula.specs.Answers.{checked}
 use Rattle.formula.specs.Formula.{rootOf, formulaOf}
-use Rattle.formula.specs.Layouts.{rowAt, rowLayout}
+use Rattle.formula.specs.Layouts.{rowLayout}
 use Rattle.formula.specs.Message.{readFormula}
-use Rattle.formula.specs.WellFormed.{WellFormed}
+use Rattle.formula.specs.WellFormed.{RowAt, WellFormed}
 use Rattle.formula.proofs.Good.{formula-good, header-good}
 use Rattle.formula.proofs.Accepted.{holds}
 use Rattle.formula.proofs.Exact.{accepted-written}
 use Rattle.text.specs.Text.{text}
 use Rattle.text.specs.Rows.{countOf, rowsOf, rowText, Ready}
 use Rattle.text.proofs.Length.{accepted-text-short}
-use Rattle.text.proofs.Rows.{items-at}
 
 -- the root of an accepted message, by position
 pub record Root (x : Read (List Row)) (s : List ℕ) (f : ℕ) : Type 0 where
@@ -46,7 +44,7 @@ module _ (p : ℕ) (s : List ℕ) (b : Bytes s) (rows : List Row) (e : readFormu
   last-ready =
       record {
         there = omega (arith, count-is, well .some-row);
-        earlier = λ j h m. well .earlier j (subst (λ (l : List Row). getElem? l j ≡ some (rowAt s (7 + j * 8))) rows-are (items-at s (countOf s) 7 j h)) m;
+        earlier = λ j {row} at m. well .earlier j (subst (λ (l : List Row). RowAt l j row) rows-are at) m;
       }
 
   last-text : rowText s (length rows - 1) ≡ text (rootOf rows)

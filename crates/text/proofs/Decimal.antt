@@ -3,11 +3,11 @@ use Prim.Native.Nat.{ℕ, zero, suc, _+_, _*_, _-_, _/_, _%_, _^_, _<_, _≤_}
 use mathlib.Core.List.{List, [], _∷_, _++_}
 use mathlib.Core.Path.{_≡_, refl, sym, ap, _∙_}
 use mathlib.Core.Bool.{Bool, true, false, cond, _&&_}
-use native.Mathlib.Nat.{pow-suc, not-suc-le-zero}
+use native.Mathlib.Nat.{pow-suc}
 use native.Mathlib.Omega.{arith}
 use lib.Dec.{ltb, leb}
-use lib.ListN.{length, getD, length-append, List·getD-append}
-use borrow.Author.Tests.{lt-ltb, le-ltb, ltb-true, ltb-false, le-leb, leb-true}
+use lib.ListN.{length, getD, length-append}
+use borrow.Author.Tests.{lt-ltb, le-ltb, ltb-true, ltb-false, le-leb}
 use Rattle.lists.specs.Lists.{all}
 use Rattle.lists.proofs.Tests.{by-test, and-left, and-right}
 use Rattle.text.specs.Text.{word, digit, decimalIn, decimal}
@@ -171,3 +171,6 @@ decimal-last n h =
     by-digit n
     (λ l. let last : n % 10 ≡ n = omega arith in rw (decimal-one 9 n l, front-none n l, last))
     (λ l. rw (decimal-more 9 n l, front-some n l, decimal-enough 8 (n / 10) (omega arith)))
+
+pub front-length : (n : ℕ) → n < 10 ^ 10 → length (decimal n) ≡ length (front n) + 1
+front-length n h = ap length (decimal-last n h) ∙ length-append (front n) _

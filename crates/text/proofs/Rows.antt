@@ -1,13 +1,12 @@
 -- The text of a row is made of the texts of its operands. Assumes nothing.
 use Prim.Native.Nat.{ℕ, zero, suc, _+_, _*_, _<_, _≤_}
-use mathlib.Core.List.{List, [], _∷_, _++_, append-assoc, List·Memᴰ·head, List·Memᴰ·tail, List·Memᴰ·not-nil}
+use mathlib.Core.List.{List, _∷_, _++_, append-assoc, List·Memᴰ·head, List·Memᴰ·tail, List·Memᴰ·not-nil}
 use mathlib.Core.Option.{some}
-use mathlib.Core.Path.{_≡_, refl, sym, ap, subst, _∙_}
+use mathlib.Core.Path.{_≡_, refl, ap, _∙_}
 use native.Mathlib.Nat.{not-suc-le-zero}
 use native.Mathlib.Omega.{arith}
 use lib.ListN.{length, getElem?, length-append}
 use Rattle.lists.specs.Lists.{_∈_}
-use Rattle.lists.proofs.Places.{place-lt}
 use Rattle.wire.specs.Layout.{items}
 use Rattle.value.specs.declared.Bound.{Bound}
 use Rattle.formula.specs.declared.Quantifier.{Quantifier}
@@ -17,7 +16,8 @@ use Rattle.formula.specs.declared.Row.the-variants.{True, False, Proposition, N
 use Rattle.formula.specs.Formula.{Formula, grow, formulaOf}
 use Rattle.formula.specs.Rows.{operands}
 use Rattle.formula.specs.Layouts.{rowAt, rowLayout}
-use Rattle.formula.proofs.Trees.{Ordered, formula-of-row}
+use Rattle.formula.specs.WellFormed.{RowAt}
+use Rattle.formula.proofs.Trees.{formula-of-row}
 use Rattle.text.specs.Text.{word, decimal, boundText, quantifierText, text}
 use Rattle.text.specs.Rows.{countOf, rowsOf, rowText, Ready}
 
@@ -94,12 +94,7 @@ text-grow (Until q l r b) φ = simp append-assoc
 -- ---- rows by position
 
 module _ (s : List ℕ) where
-  items-length : (k at : ℕ) → length (items (rowLayout s) k at) ≡ k
-  unfolding items
-  items-length zero at = refl
-  items-length (suc k) at = ap suc (items-length k (at + 8))
-
-  pub items-at : (k at j : ℕ) → j < k → getElem? (items (rowLayout s) k at) j ≡ some (rowAt s (at + j * 8))
+  items-at : (k at j : ℕ) → j < k → getElem? (items (rowLayout s) k at) j ≡ some (rowAt s (at + j * 8))
   unfolding items
   items-at zero at j h = absurd (not-suc-le-zero h)
   items-at (suc k) at zero h = let here : at ≡ at + 0 * 8 = omega arith in ap (λ (n : ℕ). some (rowAt s n)) here
@@ -114,28 +109,21 @@ pub record Operand (s : List ℕ) (i l : ℕ) : Type 0 where
   pub shorter : length (rowText s l) ≤ length (rowText s i)
 
 module _ {s : List ℕ} {i : ℕ} (ready : Ready s i) where
-  ordered : Ordered (rowsOf s)
-  ordered = record {
-    earlier = λ j {row} e {l} inside.
-        let below : j < countOf s = subst (λ (n : ℕ). j < n) (items-length s (countOf s) 7) (place-lt (rowsOf s) j e) in
-        let there : some row ≡ some (rowAt s (7 + j * 8)) = sym e ∙ items-at s (countOf s) 7 j below in
-        let same : row ≡ rowAt s (7 + j * 8) = cc in
-        ready .earlier j below (subst (λ (x : Row). l ∈ operands x) same inside);
-  }
-
   module _ {row : Row} (e : rowAt s (7 + i * 8) ≡ row) where
+    row-there : RowAt (rowsOf s) i row
+    row-there = items-at s (countOf s) 7 i (ready .there) ∙ ap some e
+
     pub row-made : rowText s i ≡ made row (λ l. rowText s l)
     unfolding rowText
     row-made =
-        ap text (formula-of-row (rowsOf s) ordered i (items-at s (countOf s) 7 i (ready .there) ∙ ap some e))
-        ∙ text-grow row (λ l. formulaOf (rowsOf s) l)
+        ap text (formula-of-row (rowsOf s) (record { earlier = ready .earlier }) i row-there) ∙ text-grow row (λ l. formulaOf (rowsOf s) l)
 
     pub row-long : length (rowText s i) ≡ madeLength row (λ l. length (rowText s l))
     row-long = ap length row-made ∙ length-made row (λ l. rowText s l)
 
     pub operand : (l : ℕ) → l ∈ operands row → Operand s i l
     operand l inside =
-        let lower : l < i = ready .earlier i (ready .there) (subst (λ (x : Row). l ∈ operands x) (sym e) inside) in
+        let lower = ready .earlier i row-there inside in
         record {
           earlier = lower;
           ready = record { there = omega (arith, ready .there); earlier = ready .earlier };

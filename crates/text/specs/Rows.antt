@@ -1,5 +1,5 @@
 -- The texts of the rows of an accepted message, and what the writing of one needs to know.
-use Prim.Native.Nat.{ℕ, _+_, _*_, _-_, _/_, _<_}
+use Prim.Native.Nat.{ℕ, _-_, _/_, _<_}
 use mathlib.Core.List.{List}
 use lib.ListN.{length}
 use Rattle.lists.specs.Lists.{_∈_}
@@ -7,7 +7,8 @@ use Rattle.wire.specs.Layout.{items}
 use Rattle.formula.specs.declared.Row.{Row}
 use Rattle.formula.specs.Formula.{formulaOf}
 use Rattle.formula.specs.Rows.{operands}
-use Rattle.formula.specs.Layouts.{rowAt, rowLayout}
+use Rattle.formula.specs.Layouts.{rowLayout}
+use Rattle.formula.specs.WellFormed.{RowAt}
 use Rattle.text.specs.Text.{text}
 
 -- how many rows a message has, by its length, and the rows
@@ -24,4 +25,4 @@ rowText s i = text (formulaOf (rowsOf s) i)
 -- row i is there, and the operands of each row are earlier rows
 pub record Ready (s : List ℕ) (i : ℕ) : Type 0 where
   pub there : i < countOf s
-  pub earlier : (j : ℕ) → j < countOf s → {l : ℕ} → l ∈ operands (rowAt s (7 + j * 8)) → l < j
+  pub earlier : (j : ℕ) {row : Row} → RowAt (rowsOf s) j row → {l : ℕ} → l ∈ operands row → l < j

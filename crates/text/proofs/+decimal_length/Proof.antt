@@ -1,12 +1,11 @@
 -- The proof of the cycle of calls {decimal_length}: the measure is the number, and all but its last digit are those of its tenth part.
-use Prim.Native.Nat.{ℕ, _<_, _/_, _+_, _^_}
-use mathlib.Core.Path.{_≡_, ap, _∙_}
+use Prim.Native.Nat.{ℕ, _<_, _/_}
+use mathlib.Core.Path.{ap}
 use native.Mathlib.Omega.{arith}
-use lib.ListN.{length, length-append}
+use lib.ListN.{length}
 use borrow.Fn.Kinds.{In}
 use borrow.Fn.PlainCycle.{Measures, is, falls, and}
-use Rattle.text.specs.Text.{decimal}
-use Rattle.text.proofs.Decimal.{decimal-length, front, front-none, front-some, decimal-last}
+use Rattle.text.proofs.Decimal.{decimal-length, front-none, front-some, front-length}
 use Rattle.text.proofs.decimal_length.Reads as f
 use Rattle.text.proofs.decimal_length.Kinds as kinds
 use Rattle.text.proofs.+decimal_length.Lts-decimal_length as lts
@@ -15,9 +14,6 @@ use Rattle.text.proofs.+decimal_length.Tie.{close}
 
 abbrev μ : Measures 0 kinds.ps ℕ
 μ κs a = a .0
-
-long : (n : ℕ) → n < 10 ^ 10 → length (decimal n) ≡ length (front n) + 1
-long n h = ap length (decimal-last n h) ∙ length-append (front n) _
 
 -- what the function is given at the measure t, and what a call of it asks below t
 module _ (t : ℕ) where
@@ -34,10 +30,10 @@ module _ (t : ℕ) where
   add-result c = omega (arith, decimal-length 10 (c .before .before .args .n / 10))
 
   returns : lts.Need-returns (below, f.Post) given f.Post
-  returns c = let n = c .before .args .n in omega (arith, long n (omega arith), ap length (front-none n (omega arith)))
+  returns c = let n = c .before .args .n in omega (arith, front-length n (omega arith), ap length (front-none n (omega arith)))
 
   returns-2 : lts.Need-returns-2 (below, f.Post) given f.Post
-  returns-2 c = let n = c .before .before .args .n in omega (arith, long n (omega arith), ap length (front-some n (omega arith)))
+  returns-2 c = let n = c .before .before .args .n in omega (arith, front-length n (omega arith), ap length (front-some n (omega arith)))
 
 pub +decimal-length-spec : {M : Type 1} → statement M
 +decimal-length-spec =

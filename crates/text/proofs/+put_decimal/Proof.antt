@@ -1,15 +1,14 @@
 -- The proof of the cycle of calls {put_decimal}: the measure is the number; the digits of its tenth part come first, then its last digit.
-use Prim.Native.Nat.{ℕ, _<_, _≤_, _+_, _/_, _^_}
+use Prim.Native.Nat.{ℕ, _<_, _+_}
 use mathlib.Core.Logic.{⊎-elim}
 use mathlib.Core.List.{List}
-use mathlib.Core.Path.{_≡_, refl, sym, ap, _∙_}
+use mathlib.Core.Path.{refl, ap}
 use native.Mathlib.Omega.{arith}
-use lib.ListN.{length, length-append, length-set}
+use lib.ListN.{length}
 use borrow.Fn.Kinds.{In}
 use borrow.Fn.PlainCycle.{Measures, is, falls, and}
-use Rattle.text.specs.Text.{decimal}
 use Rattle.text.specs.Laid.{Laid}
-use Rattle.text.proofs.Decimal.{front, front-none, front-some, decimal-last}
+use Rattle.text.proofs.Decimal.{front, front-none, front-some, front-length, decimal-last}
 use Rattle.text.proofs.Laid.{nothing, more, said}
 use Rattle.text.proofs.Laid as laid
 use Rattle.text.proofs.put_decimal.Reads as f
@@ -20,9 +19,6 @@ use Rattle.text.proofs.+put_decimal.Tie.{close}
 
 abbrev μ : Measures 1 kinds.ps ℕ
 μ κs a = a .1 .1 .0
-
-long : (n : ℕ) → n < 10 ^ 10 → length (decimal n) ≡ length (front n) + 1
-long n h = ap length (decimal-last n h) ∙ length-append (front n) _
 
 -- what the function is given at the measure t, and what a call of it asks below t
 module _ (t : ℕ) where
@@ -35,7 +31,7 @@ module _ (t : ℕ) where
   put-decimal-requires : lts.Need-put-decimal-requires (below, f.Post) given f.Post
   put-decimal-requires c κs =
       let n = c .before .before .before .args .n in
-      (omega arith, omega (arith, long n (omega arith), ap length (front-some n (omega arith))))
+      (omega arith, omega (arith, front-length n (omega arith), ap length (front-some n (omega arith))))
 
   cast-room : lts.Need-cast-room (below, f.Post) given f.Post
   cast-room c = omega arith
@@ -58,7 +54,7 @@ module _ (t : ℕ) where
     stored = ⊎-elim (λ w. said (nothing b at (omega arith)) (front-none n (omega arith)) (w .1) (w .2)) (λ w. said (w .2 .ensures) (front-some n (omega arith)) (w .5) (w .6)) (c .if1 .came)
 
     room-left : at + length (front n) < length b
-    room-left = omega (arith, long n (omega arith))
+    room-left = omega (arith, front-length n (omega arith))
 
   slice-write-room : lts.Need-slice-write-room (below, f.Post) given f.Post
   slice-write-room c = omega (arith, stored c .next-is, laid.same-length (stored c), room-left c)
