@@ -8,10 +8,8 @@ use lib.ListN.{length, length-append}
 use Rattle.lists.specs.Lists.{_∈_}
 use Rattle.lists.specs.Making.{keep}
 use Rattle.value.specs.declared.Bound.{Bound}
-use Rattle.value.specs.declared.Bound.the-variants.{Within, Unbounded}
 use Rattle.value.specs.Value.{inside, meets}
 use Rattle.value.specs.Stored.{infinite, meaning}
-use Rattle.value.proofs.Stored.{meaning-finite}
 use Rattle.wire.specs.Bytes.{bytes, number}
 use Rattle.wire.specs.Laid.{Laid}
 use Rattle.wire.specs.Layout.{items}
@@ -24,6 +22,7 @@ use Rattle.graph.specs.Write.{writeTarget, writeHyper}
 use Rattle.model.specs.Model.{Transition}
 use Rattle.reduction.specs.Built.{to, hyper}
 use Rattle.build.specs.Held.{transitionLayout, transitionsFrom, Reads}
+use Rattle.build.proofs.Counting.{weight-within}
 
 -- ---- lists of records
 
@@ -74,13 +73,6 @@ pub hyper-laid : {b : List ℕ} {at : ℕ} {b′ : List ℕ} {next : ℕ} {b″ 
     → Laid b at (writeHyper (hyper v ts)) b″ end
 unfolding writeHyper
 hyper-laid v ts h m fits = then h m fits
-
--- ---- the test of a transition's weight
-
--- a weight is within a bound as a number exactly when it is as a value
-pub weight-within : (b : Bound) {w : ℕ} → w < infinite → meets b (meaning w) ≡ inside b w
-weight-within (Within k) {w} h = rw (meaning-finite {k = w} (omega arith))
-weight-within Unbounded {w} h = rw (meaning-finite {k = w} (omega arith))
 
 -- ---- a loop over transitions that lays in what one makes of each
 

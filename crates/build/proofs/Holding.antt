@@ -23,7 +23,7 @@ use Rattle.formula.specs.WellFormed as formula
 use Rattle.formula.proofs.Good.{formula-good, header-good as rows-header}
 use Rattle.formula.proofs.Accepted.{holds}
 use Rattle.formula.proofs.Exact as formula-exact
-use Rattle.build.specs.Held.{transitionLayout, labelLayout, transitionsFrom, heldModel, heldRows, HoldsModel, HoldsRows}
+use Rattle.build.specs.Held.{transitionLayout, labelLayout, heldModel, heldRows, HoldsModel, HoldsRows}
 
 module _ (m : List ℕ) where
   labels-read : (p : ℕ) (st : State) (l : ℕ) → readLabel m p st ≡ good l → Reads (labelLayout m) (labels m p) st l

@@ -121,7 +121,11 @@ impl Size {
         Size {
             hypers: self.hypers + other.hypers,
             targets: self.targets + other.targets,
-            most: if self.most < other.most { other.most } else { self.most },
+            most: if self.most < other.most {
+                other.most
+            } else {
+                self.most
+            },
         }
     }
 }
@@ -133,14 +137,34 @@ fn row_size(m: &[u8], n: u32, p: u32, t: u32, a: u32, first: u32, many: u32, row
     ensures { λ r. ⌜ r ≡ sizeOf (built.rowEdges (heldModel (now (m .entry)) n p t) row a) ⌝ }
 {
     match row {
-        Row::True => Size { hypers: 1, targets: 0, most: 0 },
-        Row::False => Size { hypers: 0, targets: 0, most: 0 },
+        Row::True => Size {
+            hypers: 1,
+            targets: 0,
+            most: 0,
+        },
+        Row::False => Size {
+            hypers: 0,
+            targets: 0,
+            most: 0,
+        },
         Row::Proposition(i) => leaf_size(holds(m, n, p, t, a, i)),
         Row::Negation(i) => leaf_size(!holds(m, n, p, t, a, i)),
-        Row::And(_, _) => Size { hypers: 1, targets: 2, most: 2 },
-        Row::Or(_, _) => Size { hypers: 2, targets: 2, most: 1 },
+        Row::And(_, _) => Size {
+            hypers: 1,
+            targets: 2,
+            most: 2,
+        },
+        Row::Or(_, _) => Size {
+            hypers: 2,
+            targets: 2,
+            most: 1,
+        },
         Row::Next(q, _, b) => next_size(q, near_count(m, n, first, many, b) as u64),
-        Row::Until(_, _, _, _) => Size { hypers: 0, targets: 0, most: 0 },
+        Row::Until(_, _, _, _) => Size {
+            hypers: 0,
+            targets: 0,
+            most: 0,
+        },
     }
 }
 
@@ -149,9 +173,17 @@ fn leaf_size(one: bool) -> Size
     ensures { λ r. ⌜ r ≡ sizeOf (leafEdges one) ⌝ }
 {
     if one {
-        Size { hypers: 1, targets: 0, most: 0 }
+        Size {
+            hypers: 1,
+            targets: 0,
+            most: 0,
+        }
     } else {
-        Size { hypers: 0, targets: 0, most: 0 }
+        Size {
+            hypers: 0,
+            targets: 0,
+            most: 0,
+        }
     }
 }
 
@@ -160,8 +192,16 @@ fn next_size(q: Quantifier, near: u64) -> Size
     ensures { λ r. ⌜ r ≡ nextSize q near ⌝ }
 {
     match q {
-        Quantifier::Some => Size { hypers: near, targets: near, most: if near < 1 { 0 } else { 1 } },
-        Quantifier::Every => Size { hypers: 1, targets: near, most: near },
+        Quantifier::Some => Size {
+            hypers: near,
+            targets: near,
+            most: if near < 1 { 0 } else { 1 },
+        },
+        Quantifier::Every => Size {
+            hypers: 1,
+            targets: near,
+            most: near,
+        },
     }
 }
 
@@ -171,11 +211,23 @@ fn helper_size(row: Row, many: u64) -> Size
     ensures { λ r. ⌜ r ≡ helperSize row many ⌝ }
 {
     let Row::Until(q, _, _, _) = row else {
-        return Size { hypers: 0, targets: 0, most: 0 };
+        return Size {
+            hypers: 0,
+            targets: 0,
+            most: 0,
+        };
     };
     match q {
-        Quantifier::Some => Size { hypers: 1 + many, targets: 1 + 2 * many, most: if many < 1 { 1 } else { 2 } },
-        Quantifier::Every => Size { hypers: 2, targets: 2 + many, most: 1 + many },
+        Quantifier::Some => Size {
+            hypers: 1 + many,
+            targets: 1 + 2 * many,
+            most: if many < 1 { 1 } else { 2 },
+        },
+        Quantifier::Every => Size {
+            hypers: 2,
+            targets: 2 + many,
+            most: 1 + many,
+        },
     }
 }
 
@@ -185,7 +237,11 @@ fn states_size(m: &[u8], n: u32, p: u32, t: u32, table: &[u32], row: Row) -> Siz
     requires { ⌜ (n < length (now table)) × Starts (now m) n t (now table) ⌝ }
     ensures { λ r. ⌜ r ≡ sizeOf (span (stateEdges (heldModel (now (m .entry)) n p t) row) 0 n) ⌝ }
 {
-    let mut sum = Size { hypers: 0, targets: 0, most: 0 };
+    let mut sum = Size {
+        hypers: 0,
+        targets: 0,
+        most: 0,
+    };
     let mut a: u32 = 0;
     while a < n {
         let i = a as usize;
@@ -206,7 +262,11 @@ fn total_size(m: &[u8], n: u32, p: u32, t: u32, table: &[u32], f: &[u8], k: u32)
     requires { ⌜ HoldsRows (now f) k p ⌝ }
     ensures { λ r. ⌜ r ≡ sizeOf (rowsEdges (heldModel (now (m .entry)) n p t) (heldRows (now (f .entry)) k)) ⌝ }
 {
-    let mut sum = Size { hypers: 0, targets: 0, most: 0 };
+    let mut sum = Size {
+        hypers: 0,
+        targets: 0,
+        most: 0,
+    };
     let mut at: usize = 7;
     let mut i = k;
     while 0 < i {
@@ -285,13 +345,21 @@ fn transition_at(n: u32, first: u32) -> usize
 }
 
 // EX: a hyperedge for each of these transitions within the bound, with the successor's node, shift further on.
-fn put_some_next(room: &mut [u8], at: usize, m: &[u8], n: u32, v: u32, first: u32, many: u32, bound: Bound, shift: u32) -> usize
+fn put_some_next(
+    room: &mut [u8],
+    at: usize,
+    m: &[u8],
+    n: u32,
+    v: u32,
+    first: u32,
+    many: u32,
+    bound: Bound,
+    shift: u32,
+) -> usize
     requires { ⌜ Reads (now m) n first many shift ⌝ }
     requires { ⌜ at + length (hypersBytes v (someNext (transitionsFrom (now m) n first many) bound shift)) ≤ length (now room) ⌝ }
-    ensures {
-        λ r. ⌜ Laid (now (room .entry)) at (hypersBytes v (someNext (transitionsFrom (now (m .entry)) n first many) bound shift))
-        (now (room .exit)) r ⌝
-    }
+    ensures { λ r. ⌜ Laid (now (room .entry)) at (hypersBytes v (someNext (transitionsFrom (now (m .entry)) n first many) bound shift))
+        (now (room .exit)) r ⌝ }
 {
     let mut next = at;
     let mut p = transition_at(n, first);
@@ -310,13 +378,20 @@ fn put_some_next(room: &mut [u8], at: usize, m: &[u8], n: u32, v: u32, first: u3
 }
 
 // AX: the targets for each of these transitions within the bound.
-fn put_every_next(room: &mut [u8], at: usize, m: &[u8], n: u32, first: u32, many: u32, bound: Bound, shift: u32) -> usize
+fn put_every_next(
+    room: &mut [u8],
+    at: usize,
+    m: &[u8],
+    n: u32,
+    first: u32,
+    many: u32,
+    bound: Bound,
+    shift: u32,
+) -> usize
     requires { ⌜ Reads (now m) n first many shift ⌝ }
     requires { ⌜ at + length (writeAll writeTarget (everyNext (transitionsFrom (now m) n first many) bound shift)) ≤ length (now room) ⌝ }
-    ensures {
-        λ r. ⌜ Laid (now (room .entry)) at (writeAll writeTarget (everyNext (transitionsFrom (now (m .entry)) n first many) bound shift))
-        (now (room .exit)) r ⌝
-    }
+    ensures { λ r. ⌜ Laid (now (room .entry)) at (writeAll writeTarget (everyNext (transitionsFrom (now (m .entry)) n first many) bound shift))
+        (now (room .exit)) r ⌝ }
 {
     let mut next = at;
     let mut p = transition_at(n, first);
@@ -335,13 +410,21 @@ fn put_every_next(room: &mut [u8], at: usize, m: &[u8], n: u32, first: u32, many
 }
 
 // E until: a hyperedge for each of these transitions, with left and the successor's helper.
-fn put_some_steps(room: &mut [u8], at: usize, m: &[u8], n: u32, v: u32, first: u32, many: u32, left: u32, shift: u32) -> usize
+fn put_some_steps(
+    room: &mut [u8],
+    at: usize,
+    m: &[u8],
+    n: u32,
+    v: u32,
+    first: u32,
+    many: u32,
+    left: u32,
+    shift: u32,
+) -> usize
     requires { ⌜ Reads (now m) n first many shift ⌝ }
     requires { ⌜ at + length (hypersBytes v (someSteps (transitionsFrom (now m) n first many) left shift)) ≤ length (now room) ⌝ }
-    ensures {
-        λ r. ⌜ Laid (now (room .entry)) at (hypersBytes v (someSteps (transitionsFrom (now (m .entry)) n first many) left shift))
-        (now (room .exit)) r ⌝
-    }
+    ensures { λ r. ⌜ Laid (now (room .entry)) at (hypersBytes v (someSteps (transitionsFrom (now (m .entry)) n first many) left shift))
+        (now (room .exit)) r ⌝ }
 {
     let mut next = at;
     let mut p = transition_at(n, first);
@@ -357,13 +440,19 @@ fn put_some_steps(room: &mut [u8], at: usize, m: &[u8], n: u32, v: u32, first: u
 }
 
 // A until: the successors' helpers as targets.
-fn put_every_steps(room: &mut [u8], at: usize, m: &[u8], n: u32, first: u32, many: u32, shift: u32) -> usize
+fn put_every_steps(
+    room: &mut [u8],
+    at: usize,
+    m: &[u8],
+    n: u32,
+    first: u32,
+    many: u32,
+    shift: u32,
+) -> usize
     requires { ⌜ Reads (now m) n first many shift ⌝ }
     requires { ⌜ at + length (writeAll writeTarget (everySteps (transitionsFrom (now m) n first many) shift)) ≤ length (now room) ⌝ }
-    ensures {
-        λ r. ⌜ Laid (now (room .entry)) at (writeAll writeTarget (everySteps (transitionsFrom (now (m .entry)) n first many) shift))
-        (now (room .exit)) r ⌝
-    }
+    ensures { λ r. ⌜ Laid (now (room .entry)) at (writeAll writeTarget (everySteps (transitionsFrom (now (m .entry)) n first many) shift))
+        (now (room .exit)) r ⌝ }
 {
     let mut next = at;
     let mut p = transition_at(n, first);
@@ -376,360 +465,4 @@ fn put_every_steps(room: &mut [u8], at: usize, m: &[u8], n: u32, first: u32, man
         i -= 1;
     }
     next
-}
-
-// The hyperedges of the node of state a and the row at place r; the state's transitions are so many from one on.
-fn put_row(
-    room: &mut [u8],
-    at: usize,
-    m: &[u8],
-    n: u32,
-    p: u32,
-    t: u32,
-    a: u32,
-    r: u32,
-    first: u32,
-    many: u32,
-    row: Row,
-) -> usize
-    requires { ⌜ HoldsModel (now m) n p t ⌝ }
-    requires { ⌜ Own (now m) n t a first many ⌝ }
-    requires { ⌜ RowFits n r row ⌝ }
-    requires { ⌜ at + length (hypersBytes (a + n * r) (built.rowEdges (heldModel (now m) n p t) row a)) ≤ length (now room) ⌝ }
-    ensures {
-        λ e. ⌜ Laid (now (room .entry)) at (hypersBytes (a + n * r) (built.rowEdges (heldModel (now (m .entry)) n p t) row a))
-        (now (room .exit)) e ⌝
-    }
-{
-    let v = a + n * r;
-    match row {
-        Row::True => put_head(room, at, v, 0),
-        Row::False => at,
-        Row::Proposition(i) => put_leaf(room, at, v, holds(m, n, p, t, a, i)),
-        Row::Negation(i) => put_leaf(room, at, v, !holds(m, n, p, t, a, i)),
-        Row::And(l, k) => put_pair(room, at, v, a + n * l, 0, a + n * k),
-        Row::Or(l, k) => {
-            let second = put_single(room, at, v, a + n * l);
-            put_single(room, second, v, a + n * k)
-        }
-        Row::Next(q, l, b) => put_next(room, at, m, n, v, first, many, q, b, n * l),
-        Row::Until(_, _, _, _) => at,
-    }
-}
-
-// A hyperedge without targets, or none.
-fn put_leaf(room: &mut [u8], at: usize, v: u32, one: bool) -> usize
-    requires { ⌜ at + length (hypersBytes v (leafEdges one)) ≤ length (now room) ⌝ }
-    ensures { λ r. ⌜ Laid (now (room .entry)) at (hypersBytes v (leafEdges one)) (now (room .exit)) r ⌝ }
-{
-    if one {
-        return put_head(room, at, v, 0);
-    }
-    at
-}
-
-// EX has a hyperedge for each transition within the bound, AX one with all.
-fn put_next(
-    room: &mut [u8],
-    at: usize,
-    m: &[u8],
-    n: u32,
-    v: u32,
-    first: u32,
-    many: u32,
-    q: Quantifier,
-    bound: Bound,
-    shift: u32,
-) -> usize
-    requires { ⌜ Reads (now m) n first many shift ⌝ }
-    requires { ⌜ at + length (hypersBytes v (nextEdges q (transitionsFrom (now m) n first many) bound shift)) ≤ length (now room) ⌝ }
-    ensures {
-        λ r. ⌜ Laid (now (room .entry)) at (hypersBytes v (nextEdges q (transitionsFrom (now (m .entry)) n first many) bound shift))
-        (now (room .exit)) r ⌝
-    }
-{
-    match q {
-        Quantifier::Some => put_some_next(room, at, m, n, v, first, many, bound, shift),
-        Quantifier::Every => {
-            let targets = put_head(room, at, v, near_count(m, n, first, many, bound));
-            put_every_next(room, targets, m, n, first, many, bound, shift)
-        }
-    }
-}
-
-// The hyperedges of the helper node of state a at place h, for an until of these operands.
-fn put_helper(
-    room: &mut [u8],
-    at: usize,
-    m: &[u8],
-    n: u32,
-    a: u32,
-    h: u32,
-    first: u32,
-    many: u32,
-    q: Quantifier,
-    l: u32,
-    k: u32,
-) -> usize
-    requires { ⌜ Reads (now m) n first many (n * h) ⌝ }
-    requires { ⌜ (a < n) × (n * l + n ≤ 4096) × (n * k + n ≤ 4096) × (many < 65535) ⌝ }
-    requires { ⌜ at + length (hypersBytes (a + n * h) (helperList n a q l k h (transitionsFrom (now m) n first many))) ≤ length (now room) ⌝ }
-    ensures {
-        λ r. ⌜ Laid (now (room .entry)) at (hypersBytes (a + n * h) (helperList n a q l k h (transitionsFrom (now (m .entry)) n first many)))
-        (now (room .exit)) r ⌝
-    }
-{
-    let v = a + n * h;
-    let left = a + n * l;
-    let shift = n * h;
-    let second = put_single(room, at, v, a + n * k);
-    match q {
-        Quantifier::Some => put_some_steps(room, second, m, n, v, first, many, left, shift),
-        Quantifier::Every => {
-            let head = put_head(room, second, v, many + 1);
-            let targets = put_target(room, head, 0, left);
-            put_every_steps(room, targets, m, n, first, many, shift)
-        }
-    }
-}
-
-// The hyperedges of a row's nodes, over all states.
-fn put_row_states(
-    room: &mut [u8],
-    at: usize,
-    m: &[u8],
-    n: u32,
-    p: u32,
-    t: u32,
-    table: &[u32],
-    r: u32,
-    row: Row,
-) -> usize
-    requires { ⌜ HoldsModel (now m) n p t ⌝ }
-    requires { ⌜ (n < length (now table)) × Starts (now m) n t (now table) ⌝ }
-    requires { ⌜ RowFits n r row ⌝ }
-    requires { ⌜ at + length (rowBytes (heldModel (now m) n p t) r row) ≤ length (now room) ⌝ }
-    ensures { λ e. ⌜ Laid (now (room .entry)) at (rowBytes (heldModel (now (m .entry)) n p t) r row) (now (room .exit)) e ⌝ }
-{
-    let mut next = at;
-    let mut a: u32 = 0;
-    while a < n {
-        let i = a as usize;
-        let first = table[i];
-        let many = table[i + 1] - first;
-        next = put_row(room, next, m, n, p, t, a, r, first, many, row);
-        a += 1;
-    }
-    next
-}
-
-// The hyperedges of all rows' nodes.
-fn put_rows(room: &mut [u8], at: usize, m: &[u8], n: u32, p: u32, t: u32, table: &[u32], f: &[u8], k: u32) -> usize
-    requires { ⌜ HoldsModel (now m) n p t ⌝ }
-    requires { ⌜ (n < length (now table)) × Starts (now m) n t (now table) ⌝ }
-    requires { ⌜ HoldsRows (now f) k p ⌝ }
-    requires { ⌜ n * k ≤ 4096 ⌝ }
-    requires { ⌜ at + length (rowsBytes (heldModel (now m) n p t) 0 (heldRows (now f) k)) ≤ length (now room) ⌝ }
-    ensures {
-        λ e. ⌜ Laid (now (room .entry)) at (rowsBytes (heldModel (now (m .entry)) n p t) 0 (heldRows (now (f .entry)) k)) (now (room .exit)) e ⌝
-    }
-{
-    let mut next = at;
-    let mut row_at: usize = 7;
-    let mut r: u32 = 0;
-    while r < k {
-        let row = formula::row_at(f, row_at);
-        next = put_row_states(room, next, m, n, p, t, table, r, row);
-        row_at += 8;
-        r += 1;
-    }
-    next
-}
-
-// The hyperedges of an until row's helper nodes, over all states.
-fn put_helper_states(
-    room: &mut [u8],
-    at: usize,
-    m: &[u8],
-    n: u32,
-    p: u32,
-    t: u32,
-    table: &[u32],
-    h: u32,
-    q: Quantifier,
-    l: u32,
-    k: u32,
-) -> usize
-    requires { ⌜ HoldsModel (now m) n p t ⌝ }
-    requires { ⌜ (n < length (now table)) × Starts (now m) n t (now table) ⌝ }
-    requires { ⌜ (n * h + n ≤ 4096) × (l < h) × (k < h) × Narrow (heldModel (now m) n p t) ⌝ }
-    requires { ⌜ at + length (helperBytes (heldModel (now m) n p t) h q l k) ≤ length (now room) ⌝ }
-    ensures { λ e. ⌜ Laid (now (room .entry)) at (helperBytes (heldModel (now (m .entry)) n p t) h q l k) (now (room .exit)) e ⌝ }
-{
-    let mut next = at;
-    let mut a: u32 = 0;
-    while a < n {
-        let i = a as usize;
-        let first = table[i];
-        let many = table[i + 1] - first;
-        next = put_helper(room, next, m, n, a, h, first, many, q, l, k);
-        a += 1;
-    }
-    next
-}
-
-// The hyperedges of all helper nodes.
-fn put_helpers(room: &mut [u8], at: usize, m: &[u8], n: u32, p: u32, t: u32, table: &[u32], f: &[u8], k: u32) -> usize
-    requires { ⌜ HoldsModel (now m) n p t ⌝ }
-    requires { ⌜ (n < length (now table)) × Starts (now m) n t (now table) ⌝ }
-    requires { ⌜ HoldsRows (now f) k p ⌝ }
-    requires { ⌜ HelpersFit (heldModel (now m) n p t) k (built.untils (heldRows (now f) k)) ⌝ }
-    requires { ⌜ at + length (helpersBytes (heldModel (now m) n p t) k (built.untils (heldRows (now f) k))) ≤ length (now room) ⌝ }
-    ensures {
-        λ e. ⌜ Laid (now (room .entry)) at (helpersBytes (heldModel (now (m .entry)) n p t) k (built.untils (heldRows (now (f .entry)) k)))
-        (now (room .exit)) e ⌝
-    }
-{
-    let mut next = at;
-    let mut row_at: usize = 7;
-    let mut h = k;
-    let mut i = k;
-    while 0 < i {
-        let row = formula::row_at(f, row_at);
-        row_at += 8;
-        i -= 1;
-        if let Row::Until(q, l, r, _) = row {
-            next = put_helper_states(room, next, m, n, p, t, table, h, q, l, r);
-            h += 1;
-        }
-    }
-    next
-}
-
-// The cover edges of an until row's nodes, over all states.
-fn put_cover_states(room: &mut [u8], at: usize, n: u32, r: u32, h: u32, bound: Bound) -> usize
-    requires { ⌜ (n * h + n ≤ 4096) × (r < h) ⌝ }
-    requires { ⌜ at + length (coverBytes n r h bound) ≤ length (now room) ⌝ }
-    ensures { λ e. ⌜ Laid (now (room .entry)) at (coverBytes n r h bound) (now (room .exit)) e ⌝ }
-{
-    let code = bound.code();
-    let mut next = at;
-    let mut a: u32 = 0;
-    while a < n {
-        wire::store(room, next, Width::Two, a + n * r);
-        wire::store(room, next + 2, Width::Four, code);
-        wire::store(room, next + 6, Width::Two, a + n * h);
-        next += 8;
-        a += 1;
-    }
-    next
-}
-
-// All cover edges: one for each state and until row, to its helper.
-fn put_covers(room: &mut [u8], at: usize, n: u32, p: u32, f: &[u8], k: u32) -> usize
-    requires { ⌜ HoldsRows (now f) k p ⌝ }
-    requires { ⌜ n * (k + length (built.untils (heldRows (now f) k))) ≤ 4096 ⌝ }
-    requires { ⌜ at + length (coversOf n (heldRows (now f) k)) ≤ length (now room) ⌝ }
-    ensures { λ e. ⌜ Laid (now (room .entry)) at (coversOf n (heldRows (now (f .entry)) k)) (now (room .exit)) e ⌝ }
-{
-    let mut next = at;
-    let mut row_at: usize = 7;
-    let mut h = k;
-    let mut r: u32 = 0;
-    while r < k {
-        let row = formula::row_at(f, row_at);
-        let place = r;
-        row_at += 8;
-        r += 1;
-        if let Row::Until(_, _, _, b) = row {
-            next = put_cover_states(room, next, n, place, h, b);
-            h += 1;
-        }
-    }
-    next
-}
-
-// The header of a graph message.
-fn put_header(room: &mut [u8], long: u32, n: u32, h: u32, c: u32) -> usize
-    requires { ⌜ 14 ≤ length (now room) ⌝ }
-    ensures { λ e. ⌜ Laid (now (room .entry)) 0 (headerBytes long n h c) (now (room .exit)) e ⌝ }
-{
-    wire::store(room, 0, Width::Four, long);
-    wire::store(room, 4, Width::One, 1);
-    wire::store(room, 5, Width::One, 1);
-    wire::store(room, 6, Width::Two, n);
-    wire::store(room, 8, Width::Four, h);
-    wire::store(room, 12, Width::Two, c);
-    14
-}
-
-// The bytes of a graph that fits its room.
-fn write(
-    m: &[u8],
-    n: u32,
-    p: u32,
-    t: u32,
-    table: &[u32],
-    f: &[u8],
-    k: u32,
-    untils: u32,
-    hypers: u32,
-    long: u32,
-    room: &mut [u8],
-)
-    requires { ⌜ HoldsModel (now m) n p t ⌝ }
-    requires { ⌜ (n < length (now table)) × Starts (now m) n t (now table) ⌝ }
-    requires { ⌜ HoldsRows (now f) k p ⌝ }
-    requires { ⌜ untils ≡ length (built.untils (heldRows (now f) k)) ⌝ }
-    requires { ⌜ Writable (built.graphOf (heldModel (now m) n p t) (heldRows (now f) k)) hypers long (now room) ⌝ }
-    ensures {
-        λ _. ⌜ now (room .exit) ≡ laid (now (room .entry)) 0
-        (writeGraph (built.graphOf (heldModel (now (m .entry)) n p t) (heldRows (now (f .entry)) k))) ⌝
-    }
-{
-    let rows = put_header(room, long, n * (k + untils), hypers, n * untils);
-    let helpers = put_rows(room, rows, m, n, p, t, table, f, k);
-    let covers = put_helpers(room, helpers, m, n, p, t, table, f, k);
-    put_covers(room, covers, n, p, f, k);
-}
-
-// The graph of an accepted model and formula: SIZE and ROOM are decided before anything is written.
-// A room for so many values is lent beside it, and must be large enough too.
-pub fn build(m: &[u8], n: u32, p: u32, t: u32, f: &[u8], k: u32, values: usize, room: &mut [u8]) -> Built
-    requires { ⌜ HoldsModel (now m) n p t ⌝ }
-    requires { ⌜ HoldsRows (now f) k p ⌝ }
-    ensures {
-        λ r. ⌜ r ≡ builtOf (built.graphOf (heldModel (now (m .entry)) n p t) (heldRows (now (f .entry)) k)) (now (room .entry)) values ⌝
-    }
-    ensures {
-        λ _. ⌜ now (room .exit) ≡ roomOf (built.graphOf (heldModel (now (m .entry)) n p t) (heldRows (now (f .entry)) k)) (now (room .entry)) values ⌝
-    }
-{
-    let untils = count_untils(f, k, p);
-    let table = starts(m, n, p, t);
-    let size = total_size(m, n, p, t, &table, f, k);
-    let hypers = size.hypers;
-    let targets = size.targets;
-    let nodes = n * (k + untils);
-    if 4096 < nodes {
-        return Built::Refused(Refusal::Size);
-    }
-    if 65535 < hypers {
-        return Built::Refused(Refusal::Size);
-    }
-    if 262144 < targets {
-        return Built::Refused(Refusal::Size);
-    }
-    if 65535 < size.most {
-        return Built::Refused(Refusal::Size);
-    }
-    let long = 14 + hypers * 4 + targets * 6 + ((n * untils) as u64) * 8;
-    if (room.len() as u64) < long {
-        return Built::Refused(Refusal::Room);
-    }
-    if values < (nodes as usize) * 2 {
-        return Built::Refused(Refusal::Room);
-    }
-    write(m, n, p, t, &table, f, k, untils, hypers as u32, long as u32, room);
-    Built::Graph(long as usize)
 }

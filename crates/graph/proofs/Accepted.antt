@@ -6,7 +6,7 @@ use lib.ListN.{length}
 use native.Mathlib.Omega.{arith}
 use Rattle.wire.specs.Bytes.{number}
 use Rattle.wire.specs.Read.{good}
-use Rattle.wire.specs.Layout.{items, end, Sound}
+use Rattle.wire.specs.Layout.{items, Sound}
 use Rattle.wire.proofs.Fields.{value-inside, value-is}
 use Rattle.wire.proofs.Reading.{bind-good, demand-good, good-same}
 use Rattle.wire.proofs.Readers.{all-length}
@@ -16,7 +16,7 @@ use Rattle.wire.specs.declared.State.{State}
 use Rattle.value.specs.Coded.{boundOf}
 use Rattle.graph.specs.Message.{readTarget, readHyper, readCover, readGraph, targets, hypers, covers, start, firstTarget}
 use Rattle.graph.specs.Layouts.{targetLayout, hyperLayout, coverLayout, decoded, Scannable}
-use Rattle.graph.proofs.Good.{target-good, hyper-good, cover-good, header-good}
+use Rattle.graph.proofs.Good.{target-good, hyper-good, cover-good}
 
 module _ (s : List ℕ) (n : ℕ) where
   targets-read : (st : State) (t : Target) → readTarget s n st ≡ good t → Reads (targetLayout s n) (targets s n) st t

@@ -1,14 +1,10 @@
 -- What the checking functions answer, from what the reading gives.
 use Prim.Native.Nat.{ℕ}
-use mathlib.Core.List.{List}
-use mathlib.Core.Path.{_≡_}
 use lib.ListN.{length}
 use Rattle.refusal.specs.Number.{ok, numberOf}
 use Rattle.wire.specs.Read.{Read, good, bad}
 use Rattle.rules.specs.Graph.{Graph}
 use Rattle.graph.specs.Message.{Counts}
-use Rattle.graph.specs.Write.{writeGraph}
-use Rattle.graph.specs.WellFormed.{WellFormed}
 use Rattle.graph.specs.declared.Checked.{Checked}
 use Rattle.graph.specs.declared.Checked.the-variants as Checked
 

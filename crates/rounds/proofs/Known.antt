@@ -1,6 +1,5 @@
 -- The known graphs are as the paper says: one table, one claim. And G is written in the paper's 62 bytes. Assumes nothing.
-use Prim.Native.Nat.{ℕ}
-use mathlib.Core.List.{List, [], _∷_, map}
+use mathlib.Core.List.{[], _∷_, map}
 use mathlib.Core.Path.{_≡_, refl}
 use Rattle.lists.specs.Lists.{any, all, upTo, firstFrom}
 use Rattle.wire.specs.Bytes.{bytes}

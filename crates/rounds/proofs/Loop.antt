@@ -9,7 +9,6 @@ use borrow.Author.Tests.{le-leb, lt-leb}
 use native.Mathlib.Decide.{ℕ-discrete}
 use native.Mathlib.Numerals.{add-one}
 use native.Mathlib.Omega.{arith}
-use Rattle.value.specs.Value.{Value}
 use Rattle.value.specs.Stored.{meaning, stored, infinite}
 use Rattle.value.proofs.Stored.{meaning-stored}
 use Rattle.rules.specs.Graph.{Graph, Closed}

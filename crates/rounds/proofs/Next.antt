@@ -30,6 +30,6 @@ round-done s n h c b₀ b₁ b₂ b₃ d₁ d₂ d₃ =
       same-length = d₃ .same-length ∙ d₂ .same-length ∙ d₁ .same-length;
       first = d₃ .first ∙ first₂;
       past = d₃ .past ∙ d₂ .past ∙ d₁ .past;
-      each = λ v l. d₃ .each v l ∙ rw (d₂ .each v l, d₁ .each v l, first₂, d₁ .first) 
+      each = λ v l. d₃ .each v l ∙ rw (d₂ .each v l, d₁ .each v l, first₂, d₁ .first)
           (stored-cond (covered (held (take n b₀)) v (items (coverLayout s n) c (end (hyperLayout s n) h 14))) (best (held (take n b₀)) v (items (hyperLayout s n) h 14)));
     }

@@ -1,36 +1,33 @@
 -- What the customer is promised follows from the definitions of the outcome and the room. Assumes nothing.
-use Prim.Native.Nat.{ℕ, zero, suc, _+_, _-_, _*_, _≤_, _<_, min}
+use Prim.Native.Nat.{ℕ, zero, suc, _+_, _-_, _*_, _<_, min}
 use mathlib.Core.List.{List, [], _∷_, _++_, append-assoc}
 use mathlib.Core.Bool.{Bool, true, false, cond}
-use mathlib.Core.Path.{_≡_, refl, sym, ap, subst, _∙_}
-use lib.ListN.{length, getD, take, drop, length-append, List·getD-append}
-use lib.Seq.{take-append-le, getD-append-add, getD-at}
-use lib.Dec.{leb, ltb, lit<}
-use borrow.Author.Tests.{leb-true, leb-false, le-leb, ltb-false, le-ltb}
+use mathlib.Core.Path.{_≡_, refl, subst, _∙_}
+use lib.ListN.{length, getD, drop, length-append}
+use lib.Seq.{getD-append-add, getD-at}
+use lib.Dec.{leb, ltb}
+use borrow.Author.Tests.{leb-true, leb-false}
 use native.Mathlib.Decide.{ℕ-discrete, decLt}
-use native.Mathlib.Nat.{mul-le-mul-right}
 use native.Mathlib.Omega.{arith}
-use Rattle.value.specs.Value.{Value, fin, finite, _≼_}
-use Rattle.value.specs.Stored.{meaning, stored, infinite}
+use Rattle.value.specs.Value.{Value, finite, _≼_}
+use Rattle.value.specs.Stored.{stored}
 use Rattle.value.proofs.Values.{≼-fin}
 use Rattle.value.proofs.Stored.{meaning-stored}
 use Rattle.refusal.specs.declared.Refusal.the-variants.{Room}
 use Rattle.wire.specs.Read.{Read, good, bad}
-use Rattle.rules.specs.Graph.{Graph, Closed, heaviest}
-use Rattle.rules.specs.Rounds.{Assignment, Agree, rounds, Largest}
-use Rattle.rules.specs.Count.{count, enough, First}
+use Rattle.rules.specs.Graph.{Graph, heaviest}
+use Rattle.rules.specs.Rounds.{Assignment, rounds}
+use Rattle.rules.specs.Count.{count}
 use Rattle.rules.proofs.Order.{largest-agree}
 use Rattle.rules.proofs.Size.{Light, value-bound, heaviest-light}
 use Rattle.rules.proofs.Count.{count-first, count-le, count-largest, first-unique}
-use Rattle.graph.specs.Message.{readGraph}
 use Rattle.graph.specs.Write.{writeGraph}
 use Rattle.graph.specs.WellFormed.{WellFormed}
-use Rattle.rounds.specs.declared.Outcome.{Outcome}
 use Rattle.rounds.specs.declared.Outcome.the-variants.{Settled, Spent, Refused}
 use Rattle.rounds.specs.Outcome.{ended, storedValues, filled, outcomeOn, roomOn, outcomeOf, roomOf}
 use Rattle.rounds.specs.Ready.{Storable}
 use Rattle.rounds.specs.Room.{held}
-use Rattle.rounds.specs.Promise.{Accepted, SettledAt, SpentAt, Promise}
+use Rattle.rounds.specs.Promise.{Accepted, Promise}
 
 -- the stored values one by one
 pub stored-length : (n : ℕ) (x : Assignment) → length (storedValues n x) ≡ n

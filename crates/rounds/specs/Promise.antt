@@ -1,14 +1,12 @@
 -- What the customer is promised of the rounds on a message, in the words of the demands.
-use Prim.Native.Nat.{ℕ, _+_, _-_, _*_, _≤_, _<_, min}
+use Prim.Native.Nat.{ℕ, _+_, _-_, _*_, _≤_, _<_}
 use mathlib.Core.List.{List}
 use mathlib.Core.Path.{_≡_}
 use mathlib.Core.Bool.{true}
 use Rattle.value.specs.Value.{finite, _≼_}
-use Rattle.wire.specs.Read.{good}
 use Rattle.rules.specs.Graph.{Graph, heaviest}
 use Rattle.rules.specs.Rounds.{Largest}
 use Rattle.rules.specs.Count.{enough, First}
-use Rattle.graph.specs.Message.{readGraph}
 use Rattle.graph.specs.Write.{writeGraph}
 use Rattle.graph.specs.WellFormed.{WellFormed}
 use Rattle.rounds.specs.Room.{held}

@@ -75,11 +75,9 @@ fn take_hypers(s: &[u8], n: usize, k: u32, at: usize, room: &mut [u64]) -> usize
     requires { ⌜ Sound (hyperLayout (now s) n) k at ⌝ }
     requires { ⌜ n + n ≤ length (now room) ⌝ }
     ensures { λ r. ⌜ r ≡ end (hyperLayout (now (s .entry)) n) k at ⌝ }
-    ensures {
-        λ _. ⌜ Done n (now (room .entry)) (now (room .exit)) (λ v.
-            min (getD (now (room .entry)) (n + v) 0)
-            (stored (rules.best (held (take n (now (room .entry)))) v (items (hyperLayout (now (s .entry)) n) k at)))) ⌝
-    }
+    ensures { λ _. ⌜ Done n (now (room .entry)) (now (room .exit)) (λ v.
+        min (getD (now (room .entry)) (n + v) 0)
+        (stored (rules.best (held (take n (now (room .entry)))) v (items (hyperLayout (now (s .entry)) n) k at)))) ⌝ }
 {
     let mut i = k;
     let mut p = at;
@@ -101,11 +99,9 @@ fn take_hypers(s: &[u8], n: usize, k: u32, at: usize, room: &mut [u64]) -> usize
 fn take_covers(s: &[u8], n: usize, k: u32, at: usize, room: &mut [u64])
     requires { ⌜ Sound (coverLayout (now s) n) k at ⌝ }
     requires { ⌜ n + n ≤ length (now room) ⌝ }
-    ensures {
-        λ _. ⌜ Done n (now (room .entry)) (now (room .exit)) (λ v.
-            cond (rules.covered (held (take n (now (room .entry)))) v (items (coverLayout (now (s .entry)) n) k at)) 0
-            (getD (now (room .entry)) (n + v) 0)) ⌝
-    }
+    ensures { λ _. ⌜ Done n (now (room .entry)) (now (room .exit)) (λ v.
+        cond (rules.covered (held (take n (now (room .entry)))) v (items (coverLayout (now (s .entry)) n) k at)) 0
+        (getD (now (room .entry)) (n + v) 0)) ⌝ }
 {
     let mut i = k;
     let mut p = at;
@@ -140,10 +136,8 @@ fn clear(n: usize, room: &mut [u64])
 fn next_round(s: &[u8], n: usize, h: u32, c: u32, room: &mut [u64])
     requires { ⌜ Scannable (now s) n h c ⌝ }
     requires { ⌜ n + n ≤ length (now room) ⌝ }
-    ensures {
-        λ _. ⌜ Done n (now (room .entry)) (now (room .exit)) (λ v.
-            stored (rules.round (decoded (now (s .entry)) n h c) (held (take n (now (room .entry)))) v)) ⌝
-    }
+    ensures { λ _. ⌜ Done n (now (room .entry)) (now (room .exit)) (λ v.
+        stored (rules.round (decoded (now (s .entry)) n h c) (held (take n (now (room .entry)))) v)) ⌝ }
 {
     clear(n, room);
     let middle = take_hypers(s, n, h, 14, room);

@@ -1,9 +1,9 @@
 -- The verdict is yes exactly when the state satisfies the formula by its runs. Assumes nothing.
-use Prim.Native.Nat.{ℕ, _+_, _*_, _-_, _≤_, _<_, min}
+use Prim.Native.Nat.{ℕ, _+_, _-_, _≤_, _<_, min}
 use mathlib.Core.List.{List}
 use mathlib.Core.Logic.{_↔_}
-use mathlib.Core.Bool.{Bool, true, false, cond}
-use mathlib.Core.Path.{_≡_, refl, sym, ap, subst, _∙_}
+use mathlib.Core.Bool.{Bool, true, false}
+use mathlib.Core.Path.{_≡_, refl, sym, ap, _∙_}
 use lib.ListN.{length, getD}
 use lib.Dec.{leb, eqb}
 use borrow.Author.Tests.{leb-true, le-leb, eq-eqb, ne-eqb, eqb-true}
@@ -11,20 +11,13 @@ use native.Mathlib.Omega.{arith}
 use Rattle.lists.proofs.Tests.{by-test, clash}
 use Rattle.value.specs.Value.{Value, fin, inf, atMost}
 use Rattle.value.specs.Stored.{stored, infinite}
-use Rattle.rules.specs.Graph.{Graph}
 use Rattle.rules.specs.Rounds.{rounds, Settled}
-use Rattle.rules.specs.Count.{count}
-use Rattle.rules.proofs.Count.{count-first}
-use Rattle.graph.specs.WellFormed as graph
 use Rattle.rounds.specs.Outcome.{filled}
 use Rattle.rounds.proofs.Promised.{filled-at}
 use Rattle.model.specs.WellFormed as model
 use Rattle.formula.specs.WellFormed as formula
-use Rattle.formula.specs.Formula.{rootOf}
 use Rattle.formula.proofs.Trees.{ordered}
-use Rattle.runs.specs.Sat.{Sat}
 use Rattle.runs.proofs.Proper.{proper}
-use Rattle.reduction.specs.Built.{graphOf}
 use Rattle.reduction.proofs.Verdict.{yes-exactly}
 use Rattle.verdict.specs.declared.Verdict.{Verdict}
 use Rattle.verdict.specs.declared.Verdict.the-variants as Verdict

@@ -1,14 +1,14 @@
 -- A question that stands: what building its graph and settling it gives is what the definitions say. Assumes nothing.
-use Prim.Native.Nat.{ℕ, _+_, _*_, _-_, _≤_, min}
+use Prim.Native.Nat.{ℕ, _+_, _≤_, min}
 use mathlib.Core.List.{List, _++_}
-use mathlib.Core.Bool.{Bool, true, false, cond, _&&_}
-use mathlib.Core.Path.{_≡_, refl, sym, ap, subst, _∙_}
+use mathlib.Core.Bool.{Bool, true, false, cond}
+use mathlib.Core.Path.{_≡_, refl, ap, _∙_}
 use lib.ListN.{length, take, drop}
 use lib.Seq.{take-at}
-use lib.Dec.{leb, ltb}
-use borrow.Author.Tests.{leb-true, leb-false, le-leb, lt-leb, le-ltb}
+use lib.Dec.{leb}
+use borrow.Author.Tests.{leb-true, le-ltb}
 use native.Mathlib.Omega.{arith}
-use Rattle.lists.proofs.Tests.{by, and-left, and-right}
+use Rattle.lists.proofs.Tests.{and-right}
 use Rattle.refusal.specs.declared.Refusal.{Refusal}
 use Rattle.refusal.specs.declared.Refusal.the-variants.{Room, Size}
 use Rattle.wire.specs.Read.{good}

@@ -1,12 +1,12 @@
 -- Bytes laid into a room one after another are laid in at once. Assumes nothing.
-use Prim.Native.Nat.{ℕ, suc, _+_, _<_, _≤_}
+use Prim.Native.Nat.{ℕ, _+_, _<_, _≤_}
 use mathlib.Core.List.{List, [], _∷_, _++_, append-assoc, append-nil}
 use mathlib.Core.Path.{_≡_, refl, sym, ap, ap₂, _∙_}
 use native.Mathlib.Nat.{add-zero}
 use native.Mathlib.Numerals.{add-one}
 use native.Mathlib.Omega.{arith}
 use lib.ListN.{length, take, drop, set, length-append, length-drop, take-append-drop}
-use lib.Seq.{length-take-le, take-at, drop-at, drop-drop, drop-append-add, append-snoc, set-split}
+use lib.Seq.{length-take-le, take-at, drop-drop, drop-append-add, append-snoc, set-split}
 use Rattle.wire.specs.Bytes.{bytes, put}
 use Rattle.wire.specs.Laid.{laid, Laid}
 use Rattle.wire.proofs.Bytes.{length-bytes}

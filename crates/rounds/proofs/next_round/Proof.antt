@@ -1,5 +1,4 @@
 -- `rounds::next_round` meets its contract: cleared, with the hyperedges, with the cover edges.
-use Prim.Native.Nat.{ℕ, _+_, _≤_}
 use mathlib.Core.Path.{sym, subst, _∙_}
 use denote.Ref.{now}
 use borrow.Author.Needs.{needs}

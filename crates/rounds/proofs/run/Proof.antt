@@ -1,12 +1,10 @@
 -- `rounds::run` meets its contract: each turn begins with round i in the room, and works the next out.
-use Prim.Native.Nat.{_+_, _-_, _≤_}
+use Prim.Native.Nat.{_-_}
 use mathlib.Core.Path.{_∙_}
 use denote.Ref.{now}
-use lib.ListN.{length}
 use native.Mathlib.Omega.{arith}
 use borrow.Author.Needs.{needs}
 use Rattle.graph.specs.Layouts.{decoded}
-use Rattle.rounds.specs.Ready.{Ready}
 use Rattle.rounds.proofs.Loop.{AtRound, Worked, begins, from-here, filled-past, worked, holds-filled, ends-settled, ends-spent, goes-on}
 use Rattle.rounds.proofs.run.Statement.{statement}
 use Rattle.rounds.proofs.run.Tie as tie
@@ -43,17 +41,17 @@ loop-holds : tie.Need-loop-holds Inv-loop μ-loop
 loop-holds c = from-here (begun c)
 
 next-round-requires : tie.Need-next-round-requires Inv-loop μ-loop
-next-round-requires c κs = 
+next-round-requires c κs =
     let a = c .before .before .before .before .before .before .before .before .before .before .before .before in
     (a .pre .0 .sound, rw (c .before .loop .inv .same-length ∙ begun (c .before .before) .same-length) (a .pre .1))
 
 same-requires : tie.Need-same-requires Inv-loop μ-loop
-same-requires c κs = 
+same-requires c κs =
     let a = c .before .before .before .before .before .before .before .before .before .before .before .before .before .before .before .before in
     rw (done (c .before .before .before) .at .same-length ∙ begun (c .before .before .before .before .before .before) .same-length) (a .pre .1)
 
 copy-down-requires-2 : tie.Need-copy-down-requires-2 Inv-loop μ-loop
-copy-down-requires-2 c κs = 
+copy-down-requires-2 c κs =
     let a = c .before .before .before .before .before .before .before .before .before .before .before .before .before .before .before .before .before .before .before .before in
     rw (done (c .before .before .before .before .before .before .before) .at .same-length ∙ begun (c .before .before .before .before .before .before .before .before .before .before) .same-length) (a .pre .1)
 
@@ -65,7 +63,7 @@ loop-less c = omega (arith, c .before .before .before .before .before .before .b
 
 loop-again : tie.Need-loop-again Inv-loop μ-loop
 unfolding decoded
-loop-again c = 
+loop-again c =
     let a = c .before .before .before .before .before .before .before .before .before .before .before .before .before .before .before .before .before .before .before .before .before .before .before in
     goes-on _ (a .pre .0 .closed) (a .pre .0 .storable) (done (c .before .before .before .before .before .before .before .before .before .before)) (c .before .before .before .before .before .before .same .ensures .1 (c .before .before .before .before .before .if1 .left)) (c .before .before .before .before .if2 .left) (c .before .before .copy-down2 .ensures)
 
@@ -74,7 +72,7 @@ same-length c = done (c .before .before .before .before .before) .at .same-lengt
 
 returns : tie.Need-returns Inv-loop μ-loop
 unfolding decoded
-returns c = 
+returns c =
     let a = c .before .before .before .before .before .before .before .before .before .before .before .before .before .before .before .before .before .before in
     let w = done (c .before .before .before .before .before) in
     let b = begun (c .before .before .before .before .before .before .before .before) in (
@@ -87,7 +85,7 @@ same-length-2 c = done (c .before .before .before .before .before .before) .at .
 
 returns-2 : tie.Need-returns-2 Inv-loop μ-loop
 unfolding decoded
-returns-2 c = 
+returns-2 c =
     let a = c .before .before .before .before .before .before .before .before .before .before .before .before .before .before .before .before .before .before .before in
     let w = done (c .before .before .before .before .before .before) in
     let b = begun (c .before .before .before .before .before .before .before .before .before) in (

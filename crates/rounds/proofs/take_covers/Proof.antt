@@ -122,7 +122,7 @@ loop-again c =
     let h = turn .loop-test .taken in (
       sound-more _ h (l .inv .0) .1,
       rw (c .before .before .before .before .before .before .number-at .ensures)
-      (covers-met _ _ _ (l .i) (l .p) (l .inv .1) (turn .before .before .before .before .pre .1) h (here turn) (by (asked (c .before)) (c .if1 .taken))),
+          (covers-met _ _ _ (l .i) (l .p) (l .inv .1) (turn .before .before .before .before .pre .1) h (here turn) (by (asked (c .before)) (c .if1 .taken))),
     )
 
 loop-less-2 : tie.Need-loop-less-2 Inv-loop μ-loop
