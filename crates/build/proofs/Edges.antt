@@ -15,7 +15,7 @@ use Rattle.wire.specs.Laid.{Laid}
 use Rattle.wire.specs.Layout.{items}
 use Rattle.wire.specs.Write.{writeAll}
 use Rattle.wire.proofs.Bytes.{length-bytes}
-use Rattle.wire.proofs.Laid.{Left, all-left, none-left, left-fits, left-then, nothing, then, said}
+use Rattle.wire.proofs.Laid.{Left, all-left, none-left, left-fits, left-then, nothing, _then_, said}
 use Rattle.wire.proofs.Layouts.{items-more}
 use Rattle.rules.specs.Graph.{Target}
 use Rattle.graph.specs.Write.{writeTarget, writeHyper}
@@ -44,11 +44,11 @@ writeAll-keep w p (a ∷ l) = go (p a) (writeAll-keep w p l)
 module _ {A : Type 0} (w : A → List ℕ) {b : List ℕ} {at : ℕ} {b′ : List ℕ} {next : ℕ} (a : A) (h : Laid b at (w a) b′ next) where
   pub one-laid : Laid b at (writeAll w (a ∷ [])) b′ next
   unfolding writeAll
-  one-laid = said h (sym (append-nil (w a))) refl
+  one-laid = said h (append-nil (w a)) refl refl
 
-  pub more-laid : (l : List A) {b″ : List ℕ} {end : ℕ} → Laid b′ next (writeAll w l) b″ end → at ≤ length b → Laid b at (writeAll w (a ∷ l)) b″ end
+  pub more-laid : (l : List A) {b″ : List ℕ} {end : ℕ} → Laid b′ next (writeAll w l) b″ end → Laid b at (writeAll w (a ∷ l)) b″ end
   unfolding writeAll
-  more-laid l m fits = then h m fits
+  more-laid l m = h then m
 
 -- ---- the parts of a hyperedge
 
@@ -69,10 +69,10 @@ pair-length v t t′ = simp (length-append, length-bytes)
 
 -- a hyperedge is its head, and behind it its targets
 pub hyper-laid : {b : List ℕ} {at : ℕ} {b′ : List ℕ} {next : ℕ} {b″ : List ℕ} {end : ℕ} (v : ℕ) (ts : List Target)
-    → Laid b at (bytes 2 v ++ bytes 2 (length ts)) b′ next → Laid b′ next (writeAll writeTarget ts) b″ end → at ≤ length b
+    → Laid b at (bytes 2 v ++ bytes 2 (length ts)) b′ next → Laid b′ next (writeAll writeTarget ts) b″ end
     → Laid b at (writeHyper (hyper v ts)) b″ end
 unfolding writeHyper
-hyper-laid v ts h m fits = then h m fits
+hyper-laid v ts h m = h then m
 
 -- ---- a loop over transitions that lays in what one makes of each
 
@@ -150,8 +150,8 @@ module _ (m : List ℕ) (n : ℕ) (one : Transition → List ℕ) (limit : Bound
 
   pub near-filled : test ≡ true → {b″ : List ℕ} {end : ℕ} → Laid b′ next it b″ end → Filling m n (near limit one) b at whole b″ end (p + 8) (i - 1)
   unfolding near
-  near-filled e l = next-filled m n (near limit one) f h weight-is to-is (said l (sym (bytes-are e)) refl)
+  near-filled e l = next-filled m n (near limit one) f h weight-is to-is (said l (bytes-are e) refl refl)
 
   pub far-filled : test ≡ false → Filling m n (near limit one) b at whole b′ next (p + 8) (i - 1)
   unfolding near
-  far-filled e = next-filled m n (near limit one) f h weight-is to-is (said (nothing b′ next) (sym (bytes-are e)) refl)
+  far-filled e = next-filled m n (near limit one) f h weight-is to-is (said (nothing b′ next (omega (arith, f .left .next-is, f .left .length-is, f .left .whole-fits))) (bytes-are e) refl refl)

@@ -11,7 +11,7 @@ use Rattle.wire.specs.Read.{Read, good, bad}
 use Rattle.formula.specs.declared.Row.{Row}
 use Rattle.formula.specs.Formula.{rootOf}
 use Rattle.text.specs.Text.{text}
-use Rattle.text.specs.Laid.{laid, Laid}
+use Rattle.wire.specs.Laid.{laid, Laid}
 use Rattle.text.specs.Written.{writtenOf, roomOf}
 use Rattle.text.specs.declared.Written.{Written}
 use Rattle.text.specs.declared.Written.the-variants.{Text, Refused}

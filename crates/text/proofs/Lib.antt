@@ -3,7 +3,6 @@
 --     Length     how long a text is: 2,048 bytes suffice for an accepted formula
 --     Tells      the text determines the formula
 --     Known      the texts of the paper's examples
---     Laid       bytes laid into a room one after another
 --     Rows       the text of a row is made of the texts of its operands
 --     Accepted   what an accepted message gives the writing of its text
 --     Answers    the answer and the room in each of the three cases
@@ -12,7 +11,6 @@ pub mod Decimal
 pub mod Length
 pub mod Tells
 pub mod Known
-pub mod Laid
 pub mod Rows
 pub mod Accepted
 pub mod Answers

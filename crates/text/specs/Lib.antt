@@ -1,4 +1,3 @@
 pub mod Text
 pub mod Written
-pub mod Laid
 pub mod Rows

@@ -4,7 +4,7 @@ ghost use Prim.Native.Nat.{_+_, _≤_, _<_};
 ghost use mathlib.Core.List.{_++_};
 ghost use lib.ListN.{length};
 ghost use Rattle.text.specs.Text as t;
-ghost use Rattle.text.specs.Laid.{Laid};
+ghost use Rattle.wire.specs.Laid.{Laid};
 ghost use Rattle.text.specs.Rows.{rowText, Ready};
 ghost use Rattle.text.specs.Written.{writtenNumber, writtenLength, writtenOf, roomOf};
 ghost use Rattle.formula.specs.Message.{readFormula};

@@ -41,34 +41,44 @@ module _ (b : List ℕ) (at : ℕ) where
 
 -- ---- the same of what a store leaves
 
-pub nothing : (b : List ℕ) (at : ℕ) → Laid b at [] b at
-nothing b at = record { room-is = sym (laid-none b at); next-is = omega arith }
+pub nothing : (b : List ℕ) (at : ℕ) → at ≤ length b → Laid b at [] b at
+nothing b at h = record { inside = omega arith; room-is = sym (laid-none b at); next-is = omega arith }
 
 one : (b : List ℕ) (at a : ℕ) → at < length b → Laid b at (a ∷ []) (set b at a) (at + 1)
-one b at a h = record { room-is = sym (laid-one b at a h); next-is = refl }
+one b at a h = record { inside = omega arith; room-is = sym (laid-one b at a h); next-is = refl }
 
-module _ {b : List ℕ} {at : ℕ} {s b′ : List ℕ} {next : ℕ} (l : Laid b at s b′ next) where
-  pub same-length : at + length s ≤ length b → length b′ ≡ length b
-  same-length h = ap length (l .room-is) ∙ laid-length b at s h
-
-  -- what is left still fits
-  pub fits : (t : List ℕ) → at + length (s ++ t) ≤ length b → next + length t ≤ length b′
-  fits t h = let e : length (s ++ t) ≡ length s + length t = length-append s t in omega (arith, same-length (omega arith), l .next-is)
+module _ {b : List ℕ} {at : ℕ} {s b′ : List ℕ} {next : ℕ} where
+  infixl 20 _then_
+  pub same-length : Laid b at s b′ next → length b′ ≡ length b
+  same-length l = ap length (l .room-is) ∙ laid-length b at s (l .inside)
 
   -- one after another is at once
-  pub then : {t b″ : List ℕ} {end : ℕ} → Laid b′ next t b″ end → at ≤ length b → Laid b at (s ++ t) b″ end
-  then {t} {b″} {end} m h = record {
-    room-is = m .room-is ∙ ap₂ (λ (c : List ℕ) (n : ℕ). laid c n t) (l .room-is) (l .next-is) ∙ laid-then b at s t h;
+  pub _then_ : {t b″ : List ℕ} {end : ℕ} → Laid b at s b′ next → Laid b′ next t b″ end → Laid b at (s ++ t) b″ end
+  _then_ {t} {b″} {end} l m = record {
+    inside = omega (arith, m .inside, l .next-is, same-length l, length-append s t);
+    room-is =
+        m .room-is ∙ ap₂ (λ (c : List ℕ) (n : ℕ). laid c n t) (l .room-is) (l .next-is) ∙ laid-then b at s t (omega (arith, l .inside));
     next-is = omega (arith, m .next-is, l .next-is, length-append s t);
   }
 
-  -- one byte more
-  pub more : (a : ℕ) → at + length s < length b → Laid b at (s ++ (a ∷ [])) (set b′ next a) (next + 1)
-  more a h = then (one b′ next a (omega (arith, same-length (omega arith), l .next-is))) (omega arith)
+  -- what is to come next still fits, and so where more follows it
+  pub fits : Laid b at s b′ next → (t : List ℕ) → at + length (s ++ t) ≤ length b → next + length t ≤ length b′
+  fits l t h = omega (arith, same-length l, l .next-is, length-append s t)
 
-  -- the same bytes and the same end, said otherwise
-  pub said : {t : List ℕ} {end : ℕ} → s ≡ t → next ≡ end → Laid b at t b′ end
-  said e f = record { room-is = l .room-is ∙ ap (laid b at) e; next-is = sym f ∙ l .next-is ∙ ap (λ (u : List ℕ). at + length u) e }
+  pub fits-before : Laid b at s b′ next → (t u : List ℕ) → at + length (s ++ t ++ u) ≤ length b → next + length t ≤ length b′
+  fits-before l t u h = fits l t (omega (arith, length-append (s ++ t) u))
+
+  -- one byte more
+  pub more : Laid b at s b′ next → (a : ℕ) → at + length s < length b → Laid b at (s ++ (a ∷ [])) (set b′ next a) (next + 1)
+  more l a h = l then one b′ next a (omega (arith, same-length l, l .next-is))
+
+  -- the same, said otherwise
+  pub said : {t c : List ℕ} {end : ℕ} → Laid b at s b′ next → t ≡ s → c ≡ b′ → end ≡ next → Laid b at t c end
+  said l e f g = record {
+    inside = omega (arith, l .inside, ap length e);
+    room-is = f ∙ l .room-is ∙ ap (laid b at) (sym e);
+    next-is = g ∙ l .next-is ∙ ap (λ (u : List ℕ). at + length u) (sym e);
+  }
 
 -- ---- a number's bytes
 
@@ -77,13 +87,12 @@ pub laid-put : (b : List ℕ) (at k n : ℕ) → put b at k n ≡ laid b at (byt
 unfolding put laid
 laid-put b at k n = rw (length-bytes k n)
 
-pub stored : {b b′ : List ℕ} (at k n : ℕ) → b′ ≡ put b at k n → Laid b at (bytes k n) b′ (at + k)
-stored {b} at k n e = record { room-is = e ∙ laid-put b at k n; next-is = rw length-bytes }
+pub stored : {b b′ : List ℕ} (at k n : ℕ) → at + k ≤ length b → b′ ≡ put b at k n → Laid b at (bytes k n) b′ (at + k)
+stored {b} at k n h e = record { inside = rw length-bytes h; room-is = e ∙ laid-put b at k n; next-is = rw length-bytes }
 
 -- bytes of a known length end that much further on, in a room as long as before
-pub sized : {b : List ℕ} {at : ℕ} {s b′ : List ℕ} {next : ℕ} → Laid b at s b′ next → (k : ℕ) → length s ≡ k → at + k ≤ length b
-    → (next ≡ at + k) × (length b′ ≡ length b)
-sized l k e h = (omega (arith, l .next-is), same-length l (omega arith))
+pub sized : {b : List ℕ} {at : ℕ} {s b′ : List ℕ} {next : ℕ} → Laid b at s b′ next → (k : ℕ) → length s ≡ k → (next ≡ at + k) × (length b′ ≡ length b)
+sized l k e = (omega (arith, l .next-is), same-length l)
 
 -- ---- what a loop has still to lay in
 
@@ -98,7 +107,11 @@ pub all-left : (b : List ℕ) (at : ℕ) (whole : List ℕ) → at + length whol
 all-left b at whole h = record { room-is = refl; next-is = refl; length-is = refl; whole-fits = h }
 
 pub none-left : {b : List ℕ} {at : ℕ} {whole b′ : List ℕ} {next : ℕ} → Left b at whole b′ next [] → Laid b at whole b′ next
-none-left {b′ = b′} {next} l = record { room-is = sym (laid-none b′ next) ∙ l .room-is; next-is = omega (arith, l .next-is) }
+none-left {b′ = b′} {next} l = record {
+  inside = l .whole-fits;
+  room-is = sym (laid-none b′ next) ∙ l .room-is;
+  next-is = omega (arith, l .next-is);
+}
 
 module _ {b : List ℕ} {at : ℕ} {whole b′ : List ℕ} {next : ℕ} {rest : List ℕ} (l : Left b at whole b′ next rest) (s t : List ℕ) (e : rest ≡ s ++ t) where
   -- what comes next fits
@@ -112,6 +125,6 @@ module _ {b : List ℕ} {at : ℕ} {whole b′ : List ℕ} {next : ℕ} {rest : 
         ap₂ (λ (c : List ℕ) (n : ℕ). laid c n t) (m .room-is) (m .next-is) ∙ laid-then b′ next s t (omega (arith, left-fits))
         ∙ ap (laid b′ next) (sym e) ∙ l .room-is;
     next-is = omega (arith, m .next-is, ap length e, length-append s t, l .next-is);
-    length-is = same-length m left-fits ∙ l .length-is;
+    length-is = same-length m ∙ l .length-is;
     whole-fits = l .whole-fits;
   }

@@ -3,7 +3,8 @@ use Prim.Native.Nat.{_+_}
 use mathlib.Core.Path.{refl}
 use native.Mathlib.Omega.{arith}
 use borrow.Author.Needs.{needs}
-use Rattle.wire.proofs.Laid.{stored, then, said}
+use Rattle.wire.proofs.Laid.{stored, _then_, said}
+use Rattle.wire.proofs.Laid as laid
 use Rattle.build.proofs.put_head.Statement.{statement}
 use Rattle.build.proofs.put_head.Tie as tie
 
@@ -27,8 +28,9 @@ returns c =
     let second = c .before .before in
     let first = second .before .before .before .before in
     let a = first .before .before .before .args in
-    let both = then (stored (a .at) 2 (a .source) (first .store .ensures)) (stored (a .at + 2) 2 (a .count) (second .store2 .ensures)) (omega arith) in
-    said both refl (omega arith)
+    let one = stored (a .at) 2 (a .source) (omega arith) (first .store .ensures) in
+    let other = stored (a .at + 2) 2 (a .count) (omega (arith, laid.same-length one)) (second .store2 .ensures) in
+    said (one then other) refl refl (omega arith)
 
 pub put-head-spec : {M : Type 1} → statement M
 put-head-spec =

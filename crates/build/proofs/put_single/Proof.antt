@@ -13,7 +13,7 @@ put-head-requires : tie.Need-put-head-requires
 put-head-requires c κs = search needs
 
 put-target-requires : tie.Need-put-target-requires
-put-target-requires c κs = let h = sized (c .before .before .before .put-head .ensures) 4 (head-length _ _) (omega arith) in omega arith
+put-target-requires c κs = let h = sized (c .before .before .before .put-head .ensures) 4 (head-length _ _) in omega arith
 
 same-length : tie.Need-same-length
 same-length c = search needs
@@ -23,7 +23,7 @@ returns c =
     let target = c .before .before in
     let head = target .before .before .before .before in
     let a = head .before .before .before .args in
-    hyper-laid (a .v) (to 0 (a .node) ∷ []) (head .put-head .ensures) (one-laid writeTarget (to 0 (a .node)) (target .put-target .ensures)) (omega arith)
+    hyper-laid (a .v) (to 0 (a .node) ∷ []) (head .put-head .ensures) (one-laid writeTarget (to 0 (a .node)) (target .put-target .ensures))
 
 pub put-single-spec : {M : Type 1} → statement M
 put-single-spec = tie.close (tie.spec put-head-requires put-target-requires same-length returns)

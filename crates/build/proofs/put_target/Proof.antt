@@ -3,7 +3,8 @@ use Prim.Native.Nat.{_+_}
 use mathlib.Core.Path.{refl}
 use native.Mathlib.Omega.{arith}
 use borrow.Author.Needs.{needs}
-use Rattle.wire.proofs.Laid.{stored, then, said}
+use Rattle.wire.proofs.Laid.{stored, _then_, said}
+use Rattle.wire.proofs.Laid as laid
 use Rattle.graph.specs.Write.{writeTarget}
 use Rattle.build.proofs.put_target.Statement.{statement}
 use Rattle.build.proofs.put_target.Tie as tie
@@ -29,8 +30,9 @@ returns c =
     let second = c .before .before in
     let first = second .before .before .before .before in
     let a = first .before .before .before .args in
-    let both = then (stored (a .at) 4 (a .weight) (first .store .ensures)) (stored (a .at + 4) 2 (a .node) (second .store2 .ensures)) (omega arith) in
-    said both refl (omega arith)
+    let one = stored (a .at) 4 (a .weight) (omega arith) (first .store .ensures) in
+    let other = stored (a .at + 4) 2 (a .node) (omega (arith, laid.same-length one)) (second .store2 .ensures) in
+    said (one then other) refl refl (omega arith)
 
 pub put-target-spec : {M : Type 1} → statement M
 put-target-spec =

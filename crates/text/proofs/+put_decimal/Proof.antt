@@ -7,10 +7,10 @@ use native.Mathlib.Omega.{arith}
 use lib.ListN.{length}
 use borrow.Fn.Kinds.{In}
 use borrow.Fn.PlainCycle.{Measures, is, falls, and}
-use Rattle.text.specs.Laid.{Laid}
+use Rattle.wire.specs.Laid.{Laid}
 use Rattle.text.proofs.Decimal.{front, front-none, front-some, front-length, decimal-last}
-use Rattle.text.proofs.Laid.{nothing, more, said}
-use Rattle.text.proofs.Laid as laid
+use Rattle.wire.proofs.Laid.{nothing, more, said}
+use Rattle.wire.proofs.Laid as laid
 use Rattle.text.proofs.put_decimal.Reads as f
 use Rattle.text.proofs.put_decimal.Kinds as kinds
 use Rattle.text.proofs.+put_decimal.Lts-put_decimal as lts

@@ -16,8 +16,8 @@ use Rattle.formula.specs.Rows.{operands}
 use Rattle.formula.proofs.row_at.Reads as row
 use Rattle.text.specs.Text.{word}
 use Rattle.text.specs.Rows.{rowText, Ready}
-use Rattle.text.proofs.Laid as laid
-use Rattle.text.proofs.Laid.{_then_, said}
+use Rattle.wire.proofs.Laid as laid
+use Rattle.wire.proofs.Laid.{_then_, said}
 use Rattle.text.proofs.Rows as rows
 use Rattle.text.proofs.Rows.{made, madeLength, Around, around}
 use Rattle.text.proofs.put_bounded.Reads as put-bounded

@@ -5,7 +5,7 @@ use lib.ListN.{length}
 use borrow.Author.Needs.{needs}
 use Rattle.value.specs.declared.Bound.{Bound}
 use Rattle.text.specs.Text.{boundText}
-use Rattle.text.proofs.Laid.{nothing, said}
+use Rattle.wire.proofs.Laid.{nothing, said}
 use Rattle.text.proofs.put_bound.Statement.{statement}
 use Rattle.text.proofs.put_bound.Tie as tie
 

@@ -1,6 +1,6 @@
 -- `text::put_bounded` meets its contract: three stores one after another.
 use borrow.Author.Needs.{needs}
-use Rattle.text.proofs.Laid.{_then_}
+use Rattle.wire.proofs.Laid.{_then_}
 use Rattle.text.proofs.put_bounded.Statement.{statement}
 use Rattle.text.proofs.put_bounded.Tie as tie
 

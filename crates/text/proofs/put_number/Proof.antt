@@ -1,6 +1,6 @@
 -- `text::put_number` meets its contract.
 use borrow.Author.Needs.{needs}
-use Rattle.text.proofs.Laid.{_then_}
+use Rattle.wire.proofs.Laid.{_then_}
 use Rattle.text.proofs.put_number.Statement.{statement}
 use Rattle.text.proofs.put_number.Tie as tie
 

@@ -2,7 +2,7 @@
 use mathlib.Core.Path.{refl, ap}
 use borrow.Author.Needs.{needs}
 use Rattle.text.specs.Text.{quantifierText}
-use Rattle.text.proofs.Laid.{said}
+use Rattle.wire.proofs.Laid.{said}
 use Rattle.text.proofs.put_quantifier.Statement.{statement}
 use Rattle.text.proofs.put_quantifier.Tie as tie
 

@@ -5,9 +5,9 @@ use native.Mathlib.Numerals.{add-one}
 use native.Mathlib.Omega.{arith}
 use lib.ListN.{length, take, length-take}
 use lib.Seq.{take-suc, take-all}
-use Rattle.text.specs.Laid.{Laid}
-use Rattle.text.proofs.Laid as laid
-use Rattle.text.proofs.Laid.{nothing, more, said}
+use Rattle.wire.specs.Laid.{Laid}
+use Rattle.wire.proofs.Laid as laid
+use Rattle.wire.proofs.Laid.{nothing, more, said}
 use Rattle.text.proofs.put_word.Statement.{statement}
 use Rattle.text.proofs.put_word.Tie as tie
 

@@ -9,7 +9,7 @@ use Rattle.formula.specs.Message.{readFormula}
 use Rattle.formula.proofs.Answered.{checked-refused}
 use Rattle.text.proofs.Accepted.{Root, checked-root}
 use Rattle.text.proofs.Answers.{refused, no-room, written}
-use Rattle.text.proofs.Laid.{said}
+use Rattle.wire.proofs.Laid.{said}
 use Rattle.text.proofs.text.Statement.{statement}
 use Rattle.text.proofs.text.Tie as tie
 

@@ -1,0 +1,30 @@
+-- The messages of model M and of the formulas of T13 to T15 read back as themselves, by computation. Assumes nothing.
+use mathlib.Core.List.{List, [], _∷_, map}
+use mathlib.Core.Path.{_≡_, refl}
+use Rattle.lists.specs.Lists.{any, all, upTo}
+use Rattle.value.specs.Coded.{boundOf}
+use Rattle.wire.specs.Bytes.{number, bytes}
+use Rattle.wire.specs.Field.{fieldAt}
+use Rattle.wire.specs.Read.{good, _>>=_, _>>_, demand, ofField}
+use Rattle.wire.specs.Reader.{readAll}
+use Rattle.wire.specs.Start.{readStart}
+use Rattle.wire.specs.Write.{writeAll, message}
+use Rattle.model.specs.Model.{leaves, noneDead}
+use Rattle.model.specs.Message as model
+use Rattle.model.specs.Write.{writeModel, writeBody, writeTransition}
+use Rattle.formula.specs.declared.Row.{Row}
+use Rattle.formula.specs.Rows.{rowOf, times, uses, usedOnce}
+use Rattle.formula.specs.Message as formula
+use Rattle.formula.specs.Write.{writeFormula, writeRow}
+use Rattle.reduction.specs.Known.{M, T13, T14, T15}
+
+pub model-read : model.readModel (writeModel M) ≡ good M
+unfolding number bytes fieldAt _>>=_ _>>_ demand ofField readAll readStart writeAll message writeModel writeBody writeTransition model.readModel model.readHeader model.readLabel model.readTransition noneDead leaves any all upTo
+model-read = refl
+
+abbrev formulas : List (List Row)
+formulas = T13 ∷ T14 ∷ T15 ∷ []
+
+pub formulas-read : map (λ (rows : List Row). formula.readFormula 2 (writeFormula rows)) formulas ≡ map (λ (rows : List Row). good rows) formulas
+unfolding number bytes fieldAt _>>=_ _>>_ demand ofField readAll readStart writeAll message writeFormula writeRow formula.readFormula formula.readHeader formula.readRow formula.judgeRow rowOf times uses usedOnce all upTo boundOf
+formulas-read = refl
