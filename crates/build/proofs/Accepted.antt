@@ -10,7 +10,8 @@ use Rattle.wire.specs.Bytes.{number}
 use Rattle.formula.specs.Layouts.{rowLayout}
 use Rattle.reduction.specs.Built.{out, near}
 use Rattle.build.specs.Held.{labelLayout, transitionLayout, transitionsFrom, heldModel, heldRows, HoldsModel, Own}
-use Rattle.build.proofs.Stride.{items-length, items-at}
+use Rattle.wire.proofs.Layouts.{items-length}
+use Rattle.build.proofs.Stride.{items-at}
 use Rattle.build.proofs.Ranges.{RiseFrom}
 use Rattle.build.proofs.Sizes.{out-length, near-length}
 

@@ -12,8 +12,7 @@ use Rattle.value.specs.Value.{inside, meets}
 use Rattle.value.specs.Stored.{infinite, meaning}
 use Rattle.value.proofs.Stored.{meaning-finite}
 use Rattle.wire.specs.Layout.{Layout, items}
-use Rattle.wire.proofs.Layouts.{items-more}
-use Rattle.build.proofs.Stride.{items-length}
+use Rattle.wire.proofs.Layouts.{items-more, items-length}
 
 module _ {A : Type 0} (L : Layout A) (p : A → Bool) where
   -- the records that pass, among so many from a position

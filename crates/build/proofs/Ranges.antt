@@ -14,10 +14,10 @@ use Rattle.lists.specs.Order.{RisingFrom}
 use Rattle.lists.proofs.Tests.{by-test}
 use Rattle.wire.specs.Bytes.{number}
 use Rattle.wire.specs.Layout.{items}
-use Rattle.wire.proofs.Layouts.{items-more}
+use Rattle.wire.proofs.Layouts.{items-more, items-length}
 use Rattle.model.specs.Model.{Transition}
 use Rattle.build.specs.Held.{transitionLayout, transitionsFrom, leading, Starts, Own}
-use Rattle.build.proofs.Stride.{items-length, items-take, items-drop}
+use Rattle.build.proofs.Stride.{items-take, items-drop}
 
 -- the transitions of a state
 abbrev pub of : ℕ → List Transition → List Transition

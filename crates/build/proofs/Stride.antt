@@ -1,19 +1,14 @@
 -- Records of one width by position: how many, the end, one by its index, the first so many and the rest. Assumes nothing.
 use Prim.Native.Nat.{ℕ, zero, suc, _+_, _*_, _-_, _<_, _≤_}
 use mathlib.Core.List.{_++_, List·Memᴰ·head, List·Memᴰ·tail}
-use mathlib.Core.Path.{_≡_, refl, ap, _∙_}
+use mathlib.Core.Path.{_≡_, ap, _∙_}
 use native.Mathlib.Nat.{not-suc-le-zero, suc-add, zero-add}
 use native.Mathlib.Omega.{arith}
-use lib.ListN.{length, getD, take, drop}
+use lib.ListN.{getD, take, drop}
 use lib.Seq.{take-at, drop-at}
 use Rattle.lists.specs.Lists.{_∈_}
+use Rattle.wire.proofs.Layouts.{items-length}
 use Rattle.wire.specs.Layout.{Layout, items, end}
-
--- as many as were asked for
-pub items-length : {A : Type 0} (L : Layout A) (k at : ℕ) → length (items L k at) ≡ k
-unfolding items
-items-length L zero at = refl
-items-length L (suc k) at = ap suc (items-length L k (L .next at))
 
 -- each record is w long
 module _ {A : Type 0} (L : Layout A) (w : ℕ) (wide : (at : ℕ) → L .next at ≡ at + w) where
