@@ -4,6 +4,9 @@
 here=$(cd "$(dirname "$0")" && pwd -P)
 root=$(dirname "$here")
 
+# The calls that `trials` knows; V joins with the verdict.
+letters=GMFTR
+
 die() {
     printf '%s: %s\n' "$(basename "$0")" "$*" >&2
     exit 2

@@ -51,7 +51,7 @@ run_trials() {
 }
 
 build
-"$independent" make "$1" "$2" "$scratch/stdin" "$scratch/stdout" "${3-GMFTRV}"
+"$independent" make "$1" "$2" "$scratch/stdin" "$scratch/stdout" "${3-$letters}"
 began=$(date +%s)
 ended=0
 run_trials || ended=$?

@@ -9,7 +9,6 @@ set -eu
 
 seed=1
 calls=8000
-letters=GMFTR # the calls that `trials` knows; V joins with the verdict
 
 [ $# -eq 0 ] || [ "$*" = --write ] || die "usage: regenerate.sh [--write]"
 store=$root/crates/trials
