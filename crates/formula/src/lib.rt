@@ -51,6 +51,18 @@ pub enum Checked {
     Refused(Refusal),
 }
 
+impl Checked {
+    // The number that the paper gives the answer.
+    pub fn number(self) -> u8
+        ensures { λ r. ⌜ r ≡ answers.checkedNumber self ⌝ }
+    {
+        match self {
+            Checked::Formula(_) => 0,
+            Checked::Refused(e) => e.number(),
+        }
+    }
+}
+
 // The row of these fields; the last operator also stands for those that don't exist.
 fn row_of(operator: u32, left: u32, right: u32, bound: u32) -> Row
     ensures { λ r. ⌜ r ≡ rows.rowOf operator left right bound ⌝ }

@@ -19,6 +19,18 @@ pub enum Checked {
     Refused(Refusal),
 }
 
+impl Checked {
+    // The number that the paper gives the answer.
+    pub fn number(self) -> u8
+        ensures { λ r. ⌜ r ≡ answers.checkedNumber self ⌝ }
+    {
+        match self {
+            Checked::Graph(_, _, _) => 0,
+            Checked::Refused(e) => e.number(),
+        }
+    }
+}
+
 // One target.
 fn target(s: &[u8], n: u32, st: State) -> Step
     requires { ⌜ st .at ≤ length (now s) ⌝ }

@@ -19,6 +19,18 @@ pub enum Checked {
     Refused(Refusal),
 }
 
+impl Checked {
+    // The number that the paper gives the answer.
+    pub fn number(self) -> u8
+        ensures { λ r. ⌜ r ≡ answers.checkedNumber self ⌝ }
+    {
+        match self {
+            Checked::Model(_, _, _) => 0,
+            Checked::Refused(e) => e.number(),
+        }
+    }
+}
+
 // The labels of p propositions are below this.
 fn label_limit(p: u32) -> u64
     requires { ⌜ p ≤ 32 ⌝ }

@@ -198,9 +198,9 @@ fn run(s: &[u8], n: usize, h: u32, c: u32, budget: u32, room: &mut [u64]) -> Out
 
 // The rounds on a message: first the graph, then the room, then the budget.
 pub fn solve(message: &[u8], budget: u32, room: &mut [u64]) -> Outcome
-    ensures { λ r. ⌜ r ≡ outcomeOf (readGraph (now (message .entry))) budget (now (room .entry)) ⌝ }
-    ensures { λ _. ⌜ now (room .exit) ≡ roomOf (readGraph (now (message .entry))) budget (now (room .entry)) ⌝ }
-    ensures { λ r. ⌜ Promise (now (message .entry)) budget (now (room .entry)) (now (room .exit)) r ⌝ }
+    ensures answer { λ r. ⌜ r ≡ outcomeOf (readGraph (now (message .entry))) budget (now (room .entry)) ⌝ }
+    ensures room { λ _. ⌜ now (room .exit) ≡ roomOf (readGraph (now (message .entry))) budget (now (room .entry)) ⌝ }
+    ensures promise { λ r. ⌜ Promise (now (message .entry)) budget (now (room .entry)) (now (room .exit)) r ⌝ }
 {
     match graph::check(message) {
         Checked::Refused(e) => Outcome::Refused(e),

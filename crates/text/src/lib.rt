@@ -194,8 +194,8 @@ fn put_row(s: &[u8], i: u32, room: &mut [u8], at: usize) -> usize
 
 // Writes the text of a formula message, checked with the number of propositions it may name, where it fits.
 pub fn text(s: &[u8], p: u32, room: &mut [u8]) -> Written
-    ensures { λ r. ⌜ r ≡ writtenOf (readFormula p (now (s .entry))) (now (room .entry)) ⌝ }
-    ensures { λ _. ⌜ now (room .exit) ≡ roomOf (readFormula p (now (s .entry))) (now (room .entry)) ⌝ }
+    ensures answer { λ r. ⌜ r ≡ writtenOf (readFormula p (now (s .entry))) (now (room .entry)) ⌝ }
+    ensures room { λ _. ⌜ now (room .exit) ≡ roomOf (readFormula p (now (s .entry))) (now (room .entry)) ⌝ }
 {
     match formula::check(s, p) {
         Checked::Refused(e) => Written::Refused(e),

@@ -24,10 +24,7 @@ pub fn graph(body: &[u8]) -> Line
     if !is_message(wire::number_at(body, 0, Width::Four), message) {
         return Line::new();
     }
-    let number = match graph::check(message) {
-        graph::Checked::Graph(_, _, _) => 0,
-        graph::Checked::Refused(e) => e.number(),
-    };
+    let number = graph::check(message).number();
     Line::new().byte(b'G').number(number as u64)
 }
 
@@ -42,10 +39,7 @@ pub fn model(body: &[u8]) -> Line
     if !is_message(wire::number_at(body, 0, Width::Four), message) {
         return Line::new();
     }
-    let number = match model::check(message) {
-        model::Checked::Model(_, _, _) => 0,
-        model::Checked::Refused(e) => e.number(),
-    };
+    let number = model::check(message).number();
     Line::new().byte(b'M').number(number as u64)
 }
 
@@ -61,10 +55,7 @@ pub fn formula(body: &[u8]) -> Line
     if !is_message(wire::number_at(body, 4, Width::Four), message) {
         return Line::new();
     }
-    let number = match formula::check(message, p) {
-        formula::Checked::Formula(_) => 0,
-        formula::Checked::Refused(e) => e.number(),
-    };
+    let number = formula::check(message, p).number();
     Line::new().byte(b'F').number(number as u64)
 }
 
