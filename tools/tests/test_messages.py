@@ -1,6 +1,7 @@
 """Message bytes: known ones, there and back, and the decoder's faults."""
 
 import random
+from collections.abc import Iterator
 
 from otzarvim_tools import checks
 from otzarvim_tools.compiler import compile_formula, compile_model
@@ -41,6 +42,13 @@ def random_formula(chance: random.Random, propositions: int, depth: int = 3) -> 
     return Formula(operator, operands, chance.randrange(propositions) if operator in PROPOSITIONS else 0, bound)
 
 
+def random_questions(seed: int, many: int) -> Iterator[tuple[Model, Formula]]:
+    chance = random.Random(seed)
+    for _ in range(many):
+        over = random_model(chance)
+        yield over, random_formula(chance, len(over.propositions))
+
+
 class Compiling(Case):
     def test_known_bytes(self):
         self.assertEqual(compile_model(model(M)), M_BYTES)
@@ -72,10 +80,7 @@ class Compiling(Case):
 
 class ThereAndBack(Case):
     def test_text_to_bytes_to_text_to_bytes(self):
-        chance = random.Random(8)
-        for _ in range(200):
-            original = random_model(chance)
-            asked = random_formula(chance, len(original.propositions))
+        for original, asked in random_questions(8, 200):
             data = compile_model(original) + compile_formula(asked)
             shown, understood = decode(data, "x")
             self.assertEqual((shown, understood), (original, asked))
@@ -182,10 +187,7 @@ class Limits(Case):
 
 class Sizes(Case):
     def test_against_the_graph_itself(self):
-        chance = random.Random(12)
-        for _ in range(200):
-            over = random_model(chance)
-            asked = random_formula(chance, len(over.propositions))
+        for over, asked in random_questions(12, 200):
             hypers, covers = fake_otzarvim.graph(*fake_otzarvim.read(compile_model(over) + compile_formula(asked)))
             widths = [len(edge) for edges in hypers for edge in edges]
             size = graph_size(over, asked)

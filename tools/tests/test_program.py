@@ -4,7 +4,6 @@
 """
 
 import os
-import random
 import unittest
 from pathlib import Path
 
@@ -13,16 +12,14 @@ from otzarvim_tools.running import VARIABLE, run
 
 from . import fake_otzarvim
 from .common import Case
-from .test_messages import random_formula, random_model
+from .test_messages import random_questions
 
 
 @unittest.skipUnless(os.environ.get(VARIABLE), f"the variable {VARIABLE} doesn't name the program")
 class Program(Case):
     def test_answers_as_the_stand_in(self):
-        chance = random.Random(2)
-        for _ in range(60):
-            model = random_model(chance)
-            data = compile_model(model) + compile_formula(random_formula(chance, len(model.propositions)))
+        for model, asked in random_questions(2, 60):
+            data = compile_model(model) + compile_formula(asked)
             self.assertEqual(run(Path(os.environ[VARIABLE]), data), fake_otzarvim.answer(data), data.hex())
 
     def test_input_that_is_too_long(self):
