@@ -4,7 +4,7 @@ use mathlib.Core.List.{List, [], _∷_, _++_, map, append-nil, List·Memᴰ·hea
 use mathlib.Core.Bool.{Bool, true, false, cond}
 use mathlib.Core.Path.{_≡_, refl, sym, ap, subst, _∙_}
 use native.Mathlib.Omega.{arith}
-use lib.ListN.{length, length-append}
+use lib.ListN.{length, length-append, length-map}
 use Rattle.lists.specs.Lists.{_∈_}
 use Rattle.lists.specs.Making.{keep}
 use Rattle.value.specs.declared.Bound.{Bound}
@@ -22,6 +22,7 @@ use Rattle.graph.specs.Write.{writeTarget, writeHyper}
 use Rattle.model.specs.Model.{Transition}
 use Rattle.reduction.specs.Built.{to, hyper}
 use Rattle.build.specs.Held.{transitionLayout, transitionsFrom, Reads}
+use Rattle.build.specs.Bytes.{hypersBytes, everyNext}
 use Rattle.build.proofs.Counting.{weight-within}
 
 -- ---- lists of records
@@ -155,3 +156,37 @@ module _ (m : List ℕ) (n : ℕ) (one : Transition → List ℕ) (limit : Bound
   pub far-filled : test ≡ false → Filling m n (near limit one) b at whole b′ next (p + 8) (i - 1)
   unfolding near
   far-filled e = next-filled m n (near limit one) f h weight-is to-is (said (nothing b′ next (omega (arith, f .left .next-is, f .left .length-is, f .left .whole-fits))) (bytes-are e) refl refl)
+
+-- ---- the hyperedges of a node, part by part
+
+pub hypers-more : (v : ℕ) (ts : List Target) (tss : List (List Target)) → hypersBytes v (ts ∷ tss) ≡ writeHyper (hyper v ts) ++ hypersBytes v tss
+unfolding writeAll
+hypers-more v ts tss = refl
+
+pub hypers-one : (v : ℕ) (ts : List Target) → hypersBytes v (ts ∷ []) ≡ (bytes 2 v ++ bytes 2 (length ts)) ++ writeAll writeTarget ts
+unfolding writeAll writeHyper
+hypers-one v ts = append-nil _
+
+-- where all fit, the first does
+pub first-fits : (v : ℕ) (ts : List Target) (tss : List (List Target)) (at : ℕ) {size : ℕ} (k : ℕ) → length (writeHyper (hyper v ts)) ≡ k
+    → at + length (hypersBytes v (ts ∷ tss)) ≤ size → at + k ≤ size
+first-fits v ts tss at k e h = omega (arith, ap length (hypers-more v ts tss), length-append (writeHyper (hyper v ts)) (hypersBytes v tss))
+
+-- a hyperedge without targets is its head
+bare-is : (v : ℕ) → hypersBytes v ([] ∷ []) ≡ bytes 2 v ++ bytes 2 0
+unfolding writeAll
+bare-is v = hypers-one v [] ∙ append-nil _
+
+pub bare-fits : (v at : ℕ) {size : ℕ} → at + length (hypersBytes v ([] ∷ [])) ≤ size → at + 4 ≤ size
+bare-fits v at h = omega (arith, ap length (bare-is v), head-length v 0)
+
+pub bare-laid : (v : ℕ) {b : List ℕ} {at : ℕ} {b′ : List ℕ} {next : ℕ} → Laid b at (bytes 2 v ++ bytes 2 0) b′ next → Laid b at (hypersBytes v ([] ∷ [])) b′ next
+bare-laid v l = said l (bare-is v) refl refl
+
+pub none-laid : (v : ℕ) (b : List ℕ) (at : ℕ) → at + length (hypersBytes v []) ≤ length b → Laid b at (hypersBytes v []) b at
+unfolding writeAll
+none-laid v b at h = nothing b at (omega arith)
+
+-- an AX has a target for each transition within the bound
+pub every-count : (us : List Transition) (b : Bound) (shift : ℕ) → length (everyNext us b shift) ≡ length (keep (λ u. inside b (u .weight)) us)
+every-count us b shift = length-map (keep (λ u. inside b (u .weight)) us) (λ u. to 0 (u .to + shift))

@@ -8,6 +8,7 @@
 --     Sizes      how much room hyperedges take, of a row and of all
 --     Whole      the size of a graph that is built, and of its message
 --     Edges      edges laid into the room one after another, and the loops over transitions that do so
+--     Nodes      the edges of a node, from its state's transitions; loops over states from the front
 pub mod Holding
 pub mod Stride
 pub mod Counting
@@ -17,3 +18,4 @@ pub mod Untils
 pub mod Sizes
 pub mod Whole
 pub mod Edges
+pub mod Nodes

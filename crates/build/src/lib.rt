@@ -466,3 +466,41 @@ fn put_every_steps(
     }
     next
 }
+
+// A hyperedge without targets, or none.
+fn put_leaf(room: &mut [u8], at: usize, v: u32, one: bool) -> usize
+    requires { ⌜ at + length (hypersBytes v (leafEdges one)) ≤ length (now room) ⌝ }
+    ensures { λ r. ⌜ Laid (now (room .entry)) at (hypersBytes v (leafEdges one)) (now (room .exit)) r ⌝ }
+{
+    if one {
+        return put_head(room, at, v, 0);
+    }
+    at
+}
+
+// EX has a hyperedge for each transition within the bound, AX one with all.
+fn put_next(
+    room: &mut [u8],
+    at: usize,
+    m: &[u8],
+    n: u32,
+    v: u32,
+    first: u32,
+    many: u32,
+    q: Quantifier,
+    bound: Bound,
+    shift: u32,
+) -> usize
+    requires { ⌜ Reads (now m) n first many shift ⌝ }
+    requires { ⌜ at + length (hypersBytes v (nextEdges q (transitionsFrom (now m) n first many) bound shift)) ≤ length (now room) ⌝ }
+    ensures { λ r. ⌜ Laid (now (room .entry)) at (hypersBytes v (nextEdges q (transitionsFrom (now (m .entry)) n first many) bound shift))
+        (now (room .exit)) r ⌝ }
+{
+    match q {
+        Quantifier::Some => put_some_next(room, at, m, n, v, first, many, bound, shift),
+        Quantifier::Every => {
+            let targets = put_head(room, at, v, near_count(m, n, first, many, bound));
+            put_every_next(room, targets, m, n, first, many, bound, shift)
+        }
+    }
+}

@@ -1,18 +1,19 @@
--- Missing: to be joined with what stands in crates/build/proofs; laws for put_leaf, put_next and the loops above them.
 -- The edges of a node of an accepted model, from its state's transitions, and what a builder of them may rely on. Assumes nothing.
-use Prim.Native.Nat.{ℕ, suc, _+_, _*_, _<_, _≤_}
-use mathlib.Core.List.{List, [], _∷_, map, map-map}
-use mathlib.Core.Bool.{Bool, true, false, cond}
-use mathlib.Core.Path.{_≡_, refl, sym, ap, subst, _∙_}
+use Prim.Native.Nat.{ℕ, suc, _+_, _*_, _-_, _<_, _≤_}
+use mathlib.Core.List.{List, [], _∷_, _++_, map, map-map, append-assoc}
+use mathlib.Core.Path.{_≡_, refl, sym, ap, _∙_}
 use native.Mathlib.Nat.{mul-le-mul-left, mul-suc}
+use native.Mathlib.Numerals.{add-one}
 use native.Mathlib.Omega.{arith}
 use lib.Dec.{eqb}
 use lib.ListN.{length}
 use Rattle.lists.specs.Lists.{_∈_}
-use Rattle.lists.specs.Making.{keep}
+use Rattle.lists.specs.Making.{keep, span}
 use Rattle.lists.proofs.Making.{∈-keep}
+use Rattle.lists.proofs.Kept.{keep-map}
 use Rattle.value.specs.declared.Bound.{Bound}
 use Rattle.value.specs.Value.{inside}
+use Rattle.wire.specs.Write.{writeAll}
 use Rattle.rules.specs.Graph.{Target}
 use Rattle.model.specs.Model.{Transition}
 use Rattle.formula.specs.declared.Quantifier.{Quantifier}
@@ -24,21 +25,15 @@ use Rattle.reduction.specs.Built.{to, out, near, rowEdges, stepEdges}
 use Rattle.build.specs.Held.{transitionsFrom, heldModel, HoldsModel, Own, Reads}
 use Rattle.build.specs.Bytes.{nextEdges, helperList, RowFits}
 
-keep-map : {A B : Type 0} (p : B → Bool) (f : A → B) (l : List A) → keep p (map f l) ≡ map f (keep (λ a. p (f a)) l)
-unfolding keep
-keep-map p f [] = refl
-keep-map {A} {B} p f (a ∷ l) = go (p (f a)) (keep-map p f l)
-  where
-    go : (t : Bool) → keep p (map f l) ≡ map f (keep (λ a. p (f a)) l)
-        → cond t (f a ∷ keep p (map f l)) (keep p (map f l)) ≡ map f (cond t (a ∷ keep (λ a. p (f a)) l) (keep (λ a. p (f a)) l))
-    go true e = ap (λ (k : List B). f a ∷ k) e
-    go false e = e
+-- the nodes of an earlier place stand before those of a later one
+pub place-fits : (n r l : ℕ) → n * r + n ≤ 4096 → l < r → n * l + n ≤ 4096
+place-fits n r l h m =
+    let below : n * suc l ≤ n * r = mul-le-mul-left n m in
+    omega (arith, rw mul-suc at below)
 
 -- an operand's nodes stand before the row's
 pub operand-fits : {n r : ℕ} {row : Row} → RowFits n r row → (l : ℕ) → l ∈ operands row → n * l + n ≤ 4096
-operand-fits {n} {r} f l m =
-    let below : n * suc l ≤ n * r = mul-le-mul-left n (f .operands m) in
-    omega (arith, rw mul-suc at below, f .node)
+operand-fits {n} {r} f l m = place-fits n r l (f .node) (f .operands m)
 
 -- with p propositions, which don't matter here
 module _ (p : ℕ) {m : List ℕ} {n t a first many : ℕ} (o : Own m n t a first many) where
@@ -73,3 +68,29 @@ module _ (p : ℕ) {m : List ℕ} {n t a first many : ℕ} (o : Own m n t a firs
     named = λ {u} k. h .well-formed .to-named {t = u} (∈-keep (λ u. eqb (u .from) a) _ (rw (o .are) k) .0);
     shift-fits = fits;
   }
+
+-- ---- loops over states, from the front
+
+-- records written one behind the other
+pub writeAll-append : {A : Type 0} (w : A → List ℕ) (xs ys : List A) → writeAll w (xs ++ ys) ≡ writeAll w xs ++ writeAll w ys
+unfolding writeAll
+writeAll-append w [] ys = refl
+writeAll-append w (a ∷ xs) ys = ap (λ (s : List ℕ). w a ++ s) (writeAll-append w xs ys) ∙ sym (append-assoc (w a) (writeAll w xs) (writeAll w ys))
+
+module _ {B : Type 0} (w : B → List ℕ) (f : ℕ → List B) where
+  -- the states from a on, below n
+  abbrev pub statesLeft : (n a : ℕ) → List ℕ
+  statesLeft n a = writeAll w (span f a (n - a))
+
+  pub states-all : (n : ℕ) → statesLeft n 0 ≡ writeAll w (span f 0 n)
+  states-all n = let all : n - 0 ≡ n = omega arith in rw all
+
+  pub states-more : (n a : ℕ) → a < n → statesLeft n a ≡ writeAll w (f a) ++ statesLeft n (a + 1)
+  unfolding span
+  states-more n a h =
+      let left : n - a ≡ suc (n - (a + 1)) = omega arith in
+      rw (left, add-one) (writeAll-append w (f a) (span f (suc a) (n - suc a)))
+
+  pub states-none : (n a : ℕ) → n ≤ a → statesLeft n a ≡ []
+  unfolding span writeAll
+  states-none n a h = let none : n - a ≡ 0 = omega arith in rw none

@@ -1,4 +1,3 @@
--- Missing: nothing known; checked in parts only, against wip/build-Edges.antt.part.
 -- `build::put_leaf` meets its contract: a head alone, or nothing.
 use borrow.Author.Needs.{needs}
 use Rattle.build.proofs.Edges.{bare-fits, bare-laid, none-laid}
@@ -6,7 +5,7 @@ use Rattle.build.proofs.put_leaf.Statement.{statement}
 use Rattle.build.proofs.put_leaf.Tie as tie
 
 put-head-requires : tie.Need-put-head-requires
-put-head-requires c κs = let s = c .before .before .before in bare-fits (s .args .v) (rw (c .before .if1 .taken) at (s .pre))
+put-head-requires c κs = let s = c .before .before .before in bare-fits (s .args .v) (s .args .at) (rw (c .before .if1 .taken) at (s .pre))
 
 same-length : tie.Need-same-length
 same-length c = search needs
@@ -15,7 +14,7 @@ returns : tie.Need-returns
 returns c = let put = c .before .before in rw (put .before .before .if1 .taken) (bare-laid _ (put .put-head .ensures))
 
 returns-2 : tie.Need-returns-2
-returns-2 c = rw (c .if1 .left) (none-laid _ _ _)
+returns-2 c = let s = c .before .before in rw (c .if1 .left) (none-laid (s .args .v) _ _ (rw (c .if1 .left) at (s .pre)))
 
 pub put-leaf-spec : {M : Type 1} → statement M
 put-leaf-spec = tie.close (tie.spec put-head-requires same-length returns returns-2)
