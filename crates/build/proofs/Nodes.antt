@@ -13,17 +13,23 @@ use Rattle.lists.proofs.Making.{∈-keep}
 use Rattle.lists.proofs.Kept.{keep-map}
 use Rattle.value.specs.declared.Bound.{Bound}
 use Rattle.value.specs.Value.{inside}
+use Rattle.wire.specs.Layout.{items}
 use Rattle.wire.specs.Write.{writeAll}
+use Rattle.wire.proofs.Layouts.{items-more}
 use Rattle.rules.specs.Graph.{Target}
-use Rattle.model.specs.Model.{Transition}
+use Rattle.graph.specs.Write.{writeHyper}
+use Rattle.model.specs.Model.{Model, Transition}
 use Rattle.formula.specs.declared.Quantifier.{Quantifier}
 use Rattle.formula.specs.declared.Quantifier.the-variants.{Some, Every}
 use Rattle.formula.specs.declared.Row.{Row}
 use Rattle.formula.specs.declared.Row.the-variants.{Next}
+use Rattle.formula.specs.Layouts.{rowAt, rowLayout}
 use Rattle.formula.specs.Rows.{operands}
-use Rattle.reduction.specs.Built.{to, out, near, rowEdges, stepEdges}
-use Rattle.build.specs.Held.{transitionsFrom, heldModel, HoldsModel, Own, Reads}
-use Rattle.build.specs.Bytes.{nextEdges, helperList, RowFits}
+use Rattle.formula.specs.WellFormed.{RowAt}
+use Rattle.reduction.specs.Built.{to, hyper, out, near, rowEdges, stepEdges, layout}
+use Rattle.build.specs.Held.{transitionsFrom, heldModel, heldRows, HoldsModel, HoldsRows, Own, Reads}
+use Rattle.build.specs.Bytes.{nextEdges, helperList, rowBytes, rowsBytes, RowFits}
+use Rattle.build.proofs.Stride.{items-get}
 
 -- the nodes of an earlier place stand before those of a later one
 pub place-fits : (n r l : ℕ) → n * r + n ≤ 4096 → l < r → n * l + n ≤ 4096
@@ -94,3 +100,43 @@ module _ {B : Type 0} (w : B → List ℕ) (f : ℕ → List B) where
   pub states-none : (n a : ℕ) → n ≤ a → statesLeft n a ≡ []
   unfolding span writeAll
   states-none n a h = let none : n - a ≡ 0 = omega arith in rw none
+
+-- ---- rows one after another
+
+module _ (M : Model) where
+  -- the nodes of a row, from state a on
+  abbrev pub rowLeft : (n r : ℕ) → Row → ℕ → List ℕ
+  rowLeft n r row a = statesLeft writeHyper (λ c. map (hyper (c + n * r)) (rowEdges M row c)) n a
+
+  pub row-all : (r : ℕ) (row : Row) → rowBytes M r row ≡ rowLeft (M .states) r row 0
+  unfolding rowBytes
+  row-all r row = sym (states-all writeHyper (λ c. map (hyper (c + M .states * r)) (rowEdges M row c)) (M .states))
+
+  -- a row more
+  pub rows-more : (r : ℕ) (row : Row) (rows : List Row) → rowsBytes M r (row ∷ rows) ≡ rowBytes M r row ++ rowsBytes M (r + 1) rows
+  unfolding rowsBytes rowBytes layout
+  rows-more r row rows = rw add-one (writeAll-append writeHyper (span (λ c. map (hyper (c + M .states * r)) (rowEdges M row c)) 0 (M .states)) _)
+
+  pub rows-none : (r : ℕ) → rowsBytes M r [] ≡ []
+  unfolding rowsBytes layout writeAll
+  rows-none r = refl
+
+-- ---- the rows of an accepted formula
+
+module _ {f : List ℕ} {k p : ℕ} (h : HoldsRows f k p) where
+  -- the row at a place, and that its operands stand before it
+  pub row-placed : (r : ℕ) → r < k → RowAt (heldRows f k) r (rowAt f (7 + r * 8))
+  unfolding heldRows
+  row-placed r l = items-get (rowLayout f) 8 (λ at. refl) k 7 r l
+
+  pub row-fits : (n r : ℕ) → n * k ≤ 4096 → r < k → RowFits n r (rowAt f (7 + r * 8))
+  row-fits n r fits l =
+      let below : n * suc r ≤ n * k = mul-le-mul-left n l in
+      record { node = omega (arith, rw mul-suc at below); operands = h .well-formed .earlier r (row-placed r l) }
+
+  -- a loop over rows: the one at a position, and those behind it
+  pub rows-left : (r : ℕ) → r < k → items (rowLayout f) (k - r) (7 + r * 8) ≡ rowAt f (7 + r * 8) ∷ items (rowLayout f) (k - (r + 1)) (7 + (r + 1) * 8)
+  rows-left r l =
+      let left : k - r - 1 ≡ k - (r + 1) = omega arith in
+      let next : 7 + r * 8 + 8 ≡ 7 + (r + 1) * 8 = omega arith in
+      items-more (rowLayout f) (k - r) (7 + r * 8) (omega arith) ∙ rw (left, next)

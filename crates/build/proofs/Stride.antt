@@ -1,10 +1,11 @@
 -- Records of one width by position: how many, the end, one by its index, the first so many and the rest. Assumes nothing.
 use Prim.Native.Nat.{ℕ, zero, suc, _+_, _*_, _-_, _<_, _≤_}
 use mathlib.Core.List.{_++_, List·Memᴰ·head, List·Memᴰ·tail}
+use mathlib.Core.Option.{some}
 use mathlib.Core.Path.{_≡_, ap, _∙_}
 use native.Mathlib.Nat.{not-suc-le-zero, suc-add, zero-add}
 use native.Mathlib.Omega.{arith}
-use lib.ListN.{getD, take, drop}
+use lib.ListN.{getD, getElem?, take, drop}
 use lib.Seq.{take-at, drop-at}
 use Rattle.lists.specs.Lists.{_∈_}
 use Rattle.wire.proofs.Layouts.{items-length}
@@ -31,6 +32,14 @@ module _ {A : Type 0} (L : Layout A) (w : ℕ) (wide : (at : ℕ) → L .next at
   items-at d (suc k) at (suc i) h =
       let there : at + w + i * w ≡ at + suc i * w = omega arith in
       rw (wide, items-at d k (at + w) i (omega arith), there)
+
+  pub items-get : (k at i : ℕ) → i < k → getElem? (items L k at) i ≡ some (L .item (at + i * w))
+  unfolding items
+  items-get zero at i h = absurd (not-suc-le-zero h)
+  items-get (suc k) at zero h = let here : at + 0 * w ≡ at = omega arith in rw here
+  items-get (suc k) at (suc i) h =
+      let there : at + w + i * w ≡ at + suc i * w = omega arith in
+      rw (wide, items-get k (at + w) i (omega arith), there)
 
   pub item-∈ : (k at i : ℕ) → i < k → L .item (at + i * w) ∈ items L k at
   unfolding items

@@ -504,3 +504,101 @@ fn put_next(
         }
     }
 }
+
+// The hyperedges of the node of state a and the row at place r; the state's transitions are so many from one on.
+fn put_row(
+    room: &mut [u8],
+    at: usize,
+    m: &[u8],
+    n: u32,
+    p: u32,
+    t: u32,
+    a: u32,
+    r: u32,
+    first: u32,
+    many: u32,
+    row: Row,
+) -> usize
+    requires { ⌜ HoldsModel (now m) n p t ⌝ }
+    requires { ⌜ Own (now m) n t a first many ⌝ }
+    requires { ⌜ RowFits n r row ⌝ }
+    requires { ⌜ at + length (hypersBytes (a + n * r) (built.rowEdges (heldModel (now m) n p t) row a)) ≤ length (now room) ⌝ }
+    ensures { λ e. ⌜ Laid (now (room .entry)) at (hypersBytes (a + n * r) (built.rowEdges (heldModel (now (m .entry)) n p t) row a))
+        (now (room .exit)) e ⌝ }
+{
+    let v = a + n * r;
+    match row {
+        Row::True => put_head(room, at, v, 0),
+        Row::False => at,
+        Row::Proposition(i) => put_leaf(room, at, v, holds(m, n, p, t, a, i)),
+        Row::Negation(i) => put_leaf(room, at, v, !holds(m, n, p, t, a, i)),
+        Row::And(l, k) => put_pair(room, at, v, a + n * l, 0, a + n * k),
+        Row::Or(l, k) => {
+            let second = put_single(room, at, v, a + n * l);
+            put_single(room, second, v, a + n * k)
+        }
+        Row::Next(q, l, b) => put_next(room, at, m, n, v, first, many, q, b, n * l),
+        Row::Until(_, _, _, _) => at,
+    }
+}
+
+// The hyperedges of a row's nodes, over all states.
+fn put_row_states(
+    room: &mut [u8],
+    at: usize,
+    m: &[u8],
+    n: u32,
+    p: u32,
+    t: u32,
+    table: &[u32],
+    r: u32,
+    row: Row,
+) -> usize
+    requires { ⌜ HoldsModel (now m) n p t ⌝ }
+    requires { ⌜ (n < length (now table)) × Starts (now m) n t (now table) ⌝ }
+    requires { ⌜ RowFits n r row ⌝ }
+    requires { ⌜ at + length (rowBytes (heldModel (now m) n p t) r row) ≤ length (now room) ⌝ }
+    ensures { λ e. ⌜ Laid (now (room .entry)) at (rowBytes (heldModel (now (m .entry)) n p t) r row) (now (room .exit)) e ⌝ }
+{
+    let mut next = at;
+    let mut a: u32 = 0;
+    while a < n {
+        let i = a as usize;
+        let first = table[i];
+        let many = table[i + 1] - first;
+        next = put_row(room, next, m, n, p, t, a, r, first, many, row);
+        a += 1;
+    }
+    next
+}
+
+// The hyperedges of all rows' nodes.
+fn put_rows(
+    room: &mut [u8],
+    at: usize,
+    m: &[u8],
+    n: u32,
+    p: u32,
+    t: u32,
+    table: &[u32],
+    f: &[u8],
+    k: u32,
+) -> usize
+    requires { ⌜ HoldsModel (now m) n p t ⌝ }
+    requires { ⌜ (n < length (now table)) × Starts (now m) n t (now table) ⌝ }
+    requires { ⌜ HoldsRows (now f) k p ⌝ }
+    requires { ⌜ n * k ≤ 4096 ⌝ }
+    requires { ⌜ at + length (rowsBytes (heldModel (now m) n p t) 0 (heldRows (now f) k)) ≤ length (now room) ⌝ }
+    ensures { λ e. ⌜ Laid (now (room .entry)) at (rowsBytes (heldModel (now (m .entry)) n p t) 0 (heldRows (now (f .entry)) k)) (now (room .exit)) e ⌝ }
+{
+    let mut next = at;
+    let mut row_at: usize = 7;
+    let mut r: u32 = 0;
+    while r < k {
+        let row = formula::row_at(f, row_at);
+        next = put_row_states(room, next, m, n, p, t, table, r, row);
+        row_at += 8;
+        r += 1;
+    }
+    next
+}
