@@ -6,8 +6,6 @@
 --     Complete   where a formula holds, an assignment that obeys the rules is 0
 --     Verdict    settled rounds have 0 where the formula holds, and infinity where not
 --     Built      the built graph is well-formed where it fits; its lists from the front
---     Messages   the messages of model M and of T13 to T15 read back as themselves
---     Known      on model M, T13 to T15 hold and fail as the paper says
 pub mod Out
 pub mod Stands
 pub mod Blocks
@@ -15,5 +13,3 @@ pub mod Sound
 pub mod Complete
 pub mod Verdict
 pub mod Built
-pub mod Known
-pub mod Messages

@@ -6,7 +6,6 @@
 --     Promised   what the customer is promised follows from the definitions
 --     Laws       one answer, two budgets that settle, when BUDGET is given
 --     Begin      an accepted message is ready for the rounds
---     Known      the known graphs are as the paper says
 pub mod Room
 pub mod Scan
 pub mod Next
@@ -14,4 +13,3 @@ pub mod Loop
 pub mod Promised
 pub mod Laws
 pub mod Begin
-pub mod Known

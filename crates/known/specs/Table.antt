@@ -1,20 +1,16 @@
--- The known graphs T1 to T12: with a budget, the paper's number, the reported count and the values of that round.
+-- The known graphs T1 to T15, those of T13 to T15 built of model M: with a budget, the paper's number, the reported count and the values of that round.
 use Prim.Native.Nat.{ℕ, suc, zero}
 use mathlib.Core.List.{List, [], _∷_, _++_}
 use Rattle.value.specs.Value.{Value, fin, inf}
 use Rattle.value.specs.declared.Bound.{Bound}
 use Rattle.value.specs.declared.Bound.the-variants.{Within, Unbounded}
-use Rattle.rules.specs.Graph.{Graph, Hyper, Cover, Target}
+use Rattle.rules.specs.Graph.{Graph, Hyper, Cover}
 use Rattle.rules.specs.Rounds.{Assignment, rounds}
 use Rattle.rounds.specs.Outcome.{outcomeNumber, outcomeCount, ended}
+use Rattle.reduction.specs.Built.{to, hyper, graphOf}
+use Rattle.known.specs.Questions.{M, T13, T14, T15}
 
--- a target by weight and node, a hyperedge of a source, a cover edge, and a graph
-abbrev pub to : ℕ → ℕ → Target
-to w u = record { weight = w; node = u }
-
-abbrev pub hyper : ℕ → List Target → Hyper
-hyper v ts = record { source = v; targets = ts }
-
+-- a cover edge, and a graph
 abbrev pub cover : ℕ → Bound → ℕ → Cover
 cover v b u = record { source = v; bound = b; target = u }
 
@@ -47,7 +43,7 @@ worked r =
       values = valuesFrom 0 (r .graph .nodes) (rounds (r .graph) (outcomeCount e));
     }
 
-abbrev row : Graph → (budget number count : ℕ) → List Value → Row
+abbrev pub row : Graph → (budget number count : ℕ) → List Value → Row
 row g b k m vs = record { graph = g; budget = b; gives = record { number = k; count = m; values = vs } }
 
 -- the graph G of the paper, and T10 with the bound and the further hyperedges of node 1
@@ -74,4 +70,7 @@ known =
     ∷ row (T10 5 []) 9 0 3 (fin 0 ∷ fin 5 ∷ fin 0 ∷ [])
     ∷ row (T10 4 []) 9 0 2 (inf ∷ fin 5 ∷ fin 0 ∷ [])
     ∷ row (T10 5 (hyper 1 (to 0 0 ∷ []) ∷ [])) 9 0 4 (fin 0 ∷ fin 0 ∷ fin 0 ∷ [])
+    ∷ row (graphOf M T13) 9 0 4 (fin 0 ∷ inf ∷ inf ∷ fin 0 ∷ fin 0 ∷ fin 0 ∷ fin 2 ∷ fin 0 ∷ [])
+    ∷ row (graphOf M T14) 9 0 3 (fin 0 ∷ inf ∷ inf ∷ fin 0 ∷ inf ∷ fin 0 ∷ fin 2 ∷ fin 0 ∷ [])
+    ∷ row (graphOf M T15) 9 0 3 (fin 0 ∷ inf ∷ inf ∷ fin 0 ∷ inf ∷ fin 0 ∷ inf ∷ fin 0 ∷ [])
     ∷ []

@@ -16,7 +16,7 @@ use Rattle.formula.specs.declared.Row.{Row}
 use Rattle.formula.specs.Rows.{rowOf, times, uses, usedOnce}
 use Rattle.formula.specs.Message as formula
 use Rattle.formula.specs.Write.{writeFormula, writeRow}
-use Rattle.reduction.specs.Known.{M, T13, T14, T15}
+use Rattle.known.specs.Questions.{M, T13, T14, T15}
 
 pub model-read : model.readModel (writeModel M) ≡ good M
 unfolding number bytes fieldAt _>>=_ _>>_ demand ofField readAll readStart writeAll message writeModel writeBody writeTransition model.readModel model.readHeader model.readLabel model.readTransition noneDead leaves any all upTo

@@ -1,21 +1,19 @@
--- The verdict at work, and its premises met: on model M, T13 to T15 hold and fail as the paper says. Assumes nothing.
+-- The verdict at work, and its premises met: from the table, T13 to T15 hold and fail on model M as the paper says. Assumes nothing.
 use Prim.Native.Nat.{ℕ, suc, zero, _+_, _*_, _<_}
 use native.Mathlib.Omega.{arith}
 use lib.Dec.{lit<}
 use mathlib.Core.Path.{_≡_, refl}
 use mathlib.Core.Logic.{_↔_}
-use mathlib.Core.Bool.{true}
-use mathlib.Core.List.{[], _∷_, List·Memᴰ·tail}
-use Rattle.lists.specs.Lists.{_∈_, all, any, upTo}
-use Rattle.lists.specs.Making.{keep, span}
-use Rattle.lists.proofs.Places.{first, second}
+use mathlib.Core.List.{List, [], _∷_, List·Memᴰ·tail}
+use mathlib.Core.Option.{some}
+use lib.ListN.{getElem?}
+use Rattle.lists.specs.Lists.{_∈_}
+use Rattle.lists.proofs.Places.{first, second, place-∈}
 use Rattle.lists.proofs.Each.{Each, each-none, each-more}
 use Rattle.value.specs.declared.Bound.{Bound}
 use Rattle.value.specs.declared.Bound.the-variants.{Within, Unbounded}
-use Rattle.value.specs.Value.{fin}
-use Rattle.rules.specs.Rounds.{worst, best, covered, round, rounds}
-use Rattle.rules.specs.Count.{unchanged}
-use Rattle.rules.proofs.Count.{unchanged-settled}
+use Rattle.value.specs.Value.{Value, fin}
+use Rattle.rules.specs.Graph.{Closed}
 use Rattle.model.specs.Model.{Transition}
 use Rattle.formula.specs.declared.Quantifier.{Quantifier}
 use Rattle.formula.specs.declared.Quantifier.the-variants.{Some, Every}
@@ -28,9 +26,12 @@ use Rattle.formula.proofs.Trees.{Ordered}
 use Rattle.runs.specs.Runs.{Leads}
 use Rattle.runs.specs.Sat.{Sat}
 use Rattle.runs.proofs.Proper.{Proper}
-use Rattle.reduction.specs.Built.{out, near, layout, graphOf}
-use Rattle.reduction.specs.Known.{M, p0-until-p1, T13, T14, T15}
+use Rattle.reduction.specs.Built.{graphOf}
+use Rattle.reduction.proofs.Built.{built-closed}
+use Rattle.known.specs.Questions.{M, p0-until-p1, T13, T14, T15}
+use Rattle.known.specs.Table.{row, known}
+use Rattle.known.proofs.Table.{row-settled, row-value}
 use Rattle.reduction.proofs.Verdict.{yes-exactly}
 
 -- M is proper
 proper-M : Proper M
@@ -58,23 +59,27 @@ module _ (q : Quantifier) (b : Bound) where
           below .at l (rw e at m)
       earlier (suc (suc (suc i))) at m = let z : _≡_ {A = ℕ} 0 1 = cc in absurd (omega arith)
 
-  -- in a round that the next leaves unchanged, a state's node of the until is 0 exactly where the state satisfies it
-  exactly : (i : ℕ) → unchanged (graphOf M (p0-until-p1 q b)) i ≡ true → (a : ℕ) → a < 2
-      → (rounds (graphOf M (p0-until-p1 q b)) i (a + 2 * 2) ≡ fin 0) ↔ Sat M (formulaOf (p0-until-p1 q b) 2) a
-  exactly i e = yes-exactly M (p0-until-p1 q b) proper-M ordered-rows i (unchanged-settled (graphOf M (p0-until-p1 q b)) i e) 2 (lit< tt)
+  -- the graph that is built of M and them is closed
+  closed : Closed (graphOf M (p0-until-p1 q b))
+  closed = built-closed M (p0-until-p1 q b) proper-M ordered-rows
+
+  -- where a row of the table has this graph and says OK, the value of a state's node of the until is 0 exactly where the state satisfies it
+  exactly : (place count : ℕ) (values : List Value) {x : Value} → getElem? known place ≡ some (row (graphOf M (p0-until-p1 q b)) 9 0 count values)
+      → (a : ℕ) → a < 2 → getElem? values (a + 2 * 2) ≡ some x → (x ≡ fin 0) ↔ Sat M (formulaOf (p0-until-p1 q b) 2) a
+  exactly place count values {x} is a l at =
+      let r = row (graphOf M (p0-until-p1 q b)) 9 0 count values in
+      let there = place-∈ known place is in
+      rw (← (row-value r there (a + 2 * 2) at))
+      (yes-exactly M (p0-until-p1 q b) proper-M ordered-rows count (row-settled r there closed refl) 2 (lit< tt) a l)
 
 pub T13-holds : Sat M (formulaOf T13 2) 0
-unfolding unchanged all any upTo rounds round best covered worst keep out near span layout graphOf
-T13-holds = exactly Some (Within 2) 4 refl 0 (lit< tt) .0 refl
+T13-holds = exactly Some (Within 2) 12 4 _ refl 0 (lit< tt) refl .0 refl
 
 pub T14-fails : ¬ Sat M (formulaOf T14 2) 0
-unfolding unchanged all any upTo rounds round best covered worst keep out near span layout graphOf
-T14-fails h = let e = exactly Some (Within 1) 3 refl 0 (lit< tt) .1 h in let z : _≡_ {A = ℕ} 0 1 = cc in omega arith
+T14-fails h = let e = exactly Some (Within 1) 13 3 _ refl 0 (lit< tt) refl .1 h in let z : _≡_ {A = ℕ} 0 1 = cc in omega arith
 
 pub T15-fails : ¬ Sat M (formulaOf T15 2) 0
-unfolding unchanged all any upTo rounds round best covered worst keep out near span layout graphOf
-T15-fails h = let e = exactly Every Unbounded 3 refl 0 (lit< tt) .1 h in let z : _≡_ {A = ℕ} 0 1 = cc in omega arith
+T15-fails h = let e = exactly Every Unbounded 14 3 _ refl 0 (lit< tt) refl .1 h in let z : _≡_ {A = ℕ} 0 1 = cc in omega arith
 
 pub T15-holds : Sat M (formulaOf T15 2) 1
-unfolding unchanged all any upTo rounds round best covered worst keep out near span layout graphOf
-T15-holds = exactly Every Unbounded 3 refl 1 (lit< tt) .0 refl
+T15-holds = exactly Every Unbounded 14 3 _ refl 1 (lit< tt) refl .0 refl
