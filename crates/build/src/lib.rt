@@ -504,3 +504,37 @@ fn put_next(
         }
     }
 }
+
+// The hyperedges of the helper node of state a at place h, for an until of these operands.
+fn put_helper(
+    room: &mut [u8],
+    at: usize,
+    m: &[u8],
+    n: u32,
+    a: u32,
+    h: u32,
+    first: u32,
+    many: u32,
+    q: Quantifier,
+    l: u32,
+    k: u32,
+) -> usize
+    requires { ⌜ Reads (now m) n first many (n * h) ⌝ }
+    requires { ⌜ (a < n) × (n * l + n ≤ 4096) × (n * k + n ≤ 4096) × (many < 65535) ⌝ }
+    requires { ⌜ at + length (hypersBytes (a + n * h) (helperList n a q l k h (transitionsFrom (now m) n first many))) ≤ length (now room) ⌝ }
+    ensures { λ r. ⌜ Laid (now (room .entry)) at (hypersBytes (a + n * h) (helperList n a q l k h (transitionsFrom (now (m .entry)) n first many)))
+        (now (room .exit)) r ⌝ }
+{
+    let v = a + n * h;
+    let left = a + n * l;
+    let shift = n * h;
+    let second = put_single(room, at, v, a + n * k);
+    match q {
+        Quantifier::Some => put_some_steps(room, second, m, n, v, first, many, left, shift),
+        Quantifier::Every => {
+            let head = put_head(room, second, v, many + 1);
+            let targets = put_target(room, head, 0, left);
+            put_every_steps(room, targets, m, n, first, many, shift)
+        }
+    }
+}
