@@ -538,3 +538,35 @@ fn put_helper(
         }
     }
 }
+
+// The hyperedges of an until row's helper nodes, over all states.
+fn put_helper_states(
+    room: &mut [u8],
+    at: usize,
+    m: &[u8],
+    n: u32,
+    p: u32,
+    t: u32,
+    table: &[u32],
+    h: u32,
+    q: Quantifier,
+    l: u32,
+    k: u32,
+) -> usize
+    requires { ⌜ HoldsModel (now m) n p t ⌝ }
+    requires { ⌜ (n < length (now table)) × Starts (now m) n t (now table) ⌝ }
+    requires { ⌜ (n * h + n ≤ 4096) × (l < h) × (k < h) × Narrow (heldModel (now m) n p t) ⌝ }
+    requires { ⌜ at + length (helperBytes (heldModel (now m) n p t) h q l k) ≤ length (now room) ⌝ }
+    ensures { λ e. ⌜ Laid (now (room .entry)) at (helperBytes (heldModel (now (m .entry)) n p t) h q l k) (now (room .exit)) e ⌝ }
+{
+    let mut next = at;
+    let mut a: u32 = 0;
+    while a < n {
+        let i = a as usize;
+        let first = table[i];
+        let many = table[i + 1] - first;
+        next = put_helper(room, next, m, n, a, h, first, many, q, l, k);
+        a += 1;
+    }
+    next
+}
