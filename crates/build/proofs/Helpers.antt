@@ -1,25 +1,35 @@
--- The hyperedges of helper nodes: the parts of one, and the helpers of until rows one after another. Assumes nothing.
-use Prim.Native.Nat.{ℕ, _+_, _*_, _<_, _≤_}
-use mathlib.Core.List.{List, [], _∷_, _++_, map}
-use mathlib.Core.Path.{_≡_, sym, ap, subst, _∙_}
+-- The hyperedges of helper nodes: the parts of one, and the loops over states and rows that lay them in. Assumes nothing.
+use Prim.Native.Nat.{ℕ, suc, _+_, _*_, _-_, _<_, _≤_}
+use mathlib.Core.List.{List, [], _∷_, _++_, map, List·Memᴰ·head, List·Memᴰ·tail}
+use mathlib.Core.Bool.{false}
+use mathlib.Core.Path.{_≡_, refl, sym, ap, subst, _∙_}
+use native.Mathlib.Nat.{mul-le-mul-left, mul-suc}
+use native.Mathlib.Numerals.{add-one}
 use native.Mathlib.Omega.{arith}
 use lib.ListN.{length, length-map}
+use Rattle.lists.specs.Making.{keep}
+use Rattle.lists.proofs.Kept.{keep-pass, keep-fail}
+use Rattle.value.specs.declared.Bound.{Bound}
 use Rattle.wire.specs.Bytes.{bytes}
 use Rattle.wire.specs.Laid.{Laid}
+use Rattle.wire.specs.Layout.{items}
 use Rattle.wire.specs.Write.{writeAll}
 use Rattle.wire.proofs.Laid.{Left, all-left, none-left, left-fits, left-then}
-use Rattle.wire.proofs.Layouts.{items-length}
+use Rattle.wire.proofs.Layouts.{items-more, items-length}
 use Rattle.rules.specs.Graph.{Target}
 use Rattle.graph.specs.Write.{writeTarget, writeHyper}
 use Rattle.model.specs.Model.{Model, Transition}
 use Rattle.formula.specs.declared.Quantifier.{Quantifier}
 use Rattle.formula.specs.declared.Quantifier.the-variants.{Some, Every}
-use Rattle.reduction.specs.Built.{to, hyper, stepEdges}
-use Rattle.build.specs.Held.{transitionLayout, transitionsFrom, heldModel, HoldsModel, Own}
-use Rattle.build.specs.Bytes.{hypersBytes, someSteps, everySteps, helperList, helperBytes, Narrow}
+use Rattle.formula.specs.declared.Row.{Row}
+use Rattle.formula.specs.declared.Row.the-variants.{Until}
+use Rattle.formula.specs.Layouts.{rowAt, rowLayout}
+use Rattle.reduction.specs.Built.{to, hyper, stepEdges, helperEdges, isUntil, untils, layout}
+use Rattle.build.specs.Held.{transitionLayout, transitionsFrom, heldModel, heldRows, HoldsModel, HoldsRows, Own}
+use Rattle.build.specs.Bytes.{hypersBytes, someSteps, everySteps, helperList, helperBytes, helpersBytes, Narrow, HelpersFit}
 use Rattle.build.proofs.Accepted.{out-own}
 use Rattle.build.proofs.Edges.{single-length, hypers-more, hypers-one, first-fits}
-use Rattle.build.proofs.Nodes.{helper-are, statesLeft, states-all, states-more, states-none}
+use Rattle.build.proofs.Nodes.{helper-are, writeAll-append, statesLeft, states-all, states-more, states-none}
 
 -- ---- the helper of a state
 
@@ -86,3 +96,92 @@ module _ {m : List ℕ} {n p t h : ℕ} {q : Quantifier} {l r : ℕ} {b : List �
 
     pub helper-then : {b″ : List ℕ} {end : ℕ} → Laid b′ next here b″ end → StatesLeft m n p t h q l r b at b″ end (a + 1)
     helper-then laid = record { left = left-then (s .left) here _ parts laid }
+
+-- ---- a loop over the rows that lays in the helpers of those that are untils
+
+-- an until row more
+helpers-more : (M : Model) (h : ℕ) (q : Quantifier) (l r : ℕ) (limit : Bound) (us : List Row)
+    → helpersBytes M h (Until q l r limit ∷ us) ≡ helperBytes M h q l r ++ helpersBytes M (h + 1) us
+unfolding helpersBytes helperBytes layout
+helpers-more M h q l r limit us = rw add-one (writeAll-append writeHyper _ (layout hyper (M .states) (helperEdges M) (suc h) us))
+
+module _ {M : Model} {h : ℕ} {row : Row} {us : List Row} (f : HelpersFit M h (row ∷ us)) where
+  fit-here : M .states * h + M .states ≤ 4096
+  fit-here =
+      let below : M .states * suc h ≤ M .states * (h + length (row ∷ us)) = mul-le-mul-left (M .states) (omega arith) in
+      omega (arith, f .node, rw mul-suc at below)
+
+  fit-next : HelpersFit M (h + 1) us
+  fit-next =
+      let same : h + length (row ∷ us) ≡ h + 1 + length us = omega arith in
+      record {
+        node = rw same at (f .node);
+        operands = λ m o. omega (arith, f .operands (List·Memᴰ·tail m) o);
+        narrow = f .narrow;
+      }
+
+-- i rows from p on can be read, and the helpers of the untils among them are left, from place h on
+pub record RowsLeft (M : Model) (f b : List ℕ) (at : ℕ) (whole b′ : List ℕ) (next p h i : ℕ) : Type 0 where
+  pub readable : p + i * 8 ≤ length f
+  pub few : h + i ≤ 128
+  pub fit : HelpersFit M h (untils (items (rowLayout f) i p))
+  pub left : Left b at whole b′ next (helpersBytes M h (untils (items (rowLayout f) i p)))
+
+pub rows-all : {M : Model} {f : List ℕ} {k p : ℕ} → HoldsRows f k p → HelpersFit M k (untils (heldRows f k)) → (b : List ℕ) (at : ℕ)
+    → at + length (helpersBytes M k (untils (heldRows f k))) ≤ length b → RowsLeft M f b at (helpersBytes M k (untils (heldRows f k))) b at 7 k k
+unfolding heldRows
+rows-all r fit b at fits = record { readable = omega (arith, r .long); few = omega (arith, r .rows-fit); fit = fit; left = all-left b at _ fits }
+
+module _ {M : Model} {f b : List ℕ} {at : ℕ} {whole b′ : List ℕ} {next p h i : ℕ} (s : RowsLeft M f b at whole b′ next p h i) where
+  pub rows-none : i ≡ 0 → Laid b at whole b′ next
+  unfolding items keep helpersBytes layout writeAll
+  rows-none e = none-left (rw e at (s .left))
+
+  module _ (some : 0 < i) where
+    abbrev rest : List Row
+    rest = untils (items (rowLayout f) (i - 1) (p + 8))
+
+    -- the next row is an until
+    module _ {q : Quantifier} {l r : ℕ} {limit : Bound} (row-is : rowAt f p ≡ Until q l r limit) where
+      these : untils (items (rowLayout f) i p) ≡ Until q l r limit ∷ rest
+      these =
+          ap untils (items-more (rowLayout f) i p some ∙ ap (λ (row : Row). row ∷ items (rowLayout f) (i - 1) (p + 8)) row-is)
+          ∙ keep-pass isUntil (Until q l r limit) (items (rowLayout f) (i - 1) (p + 8)) refl
+
+      fit : HelpersFit M h (Until q l r limit ∷ rest)
+      fit = subst (HelpersFit M h) these (s .fit)
+
+      until-parts : helpersBytes M h (untils (items (rowLayout f) i p)) ≡ helperBytes M h q l r ++ helpersBytes M (h + 1) rest
+      until-parts = ap (helpersBytes M h) these ∙ helpers-more M h q l r limit rest
+
+      -- what its helpers ask for, and they fit
+      pub until-fit : (M .states * h + M .states ≤ 4096) × (l < h) × (r < h) × Narrow M
+      until-fit = (
+        fit-here fit,
+        fit .operands (List·Memᴰ·head refl) (List·Memᴰ·head refl),
+        fit .operands (List·Memᴰ·head refl) (List·Memᴰ·tail (List·Memᴰ·head refl)),
+        fit .narrow,
+      )
+
+      pub until-fits : next + length (helperBytes M h q l r) ≤ length b′
+      until-fits = left-fits (s .left) (helperBytes M h q l r) _ until-parts
+
+      -- once they are laid in, the others are left
+      pub until-then : {b″ : List ℕ} {end : ℕ} → Laid b′ next (helperBytes M h q l r) b″ end → RowsLeft M f b at whole b″ end (p + 8) (h + 1) (i - 1)
+      until-then laid = record {
+        readable = omega (arith, s .readable);
+        few = omega (arith, s .few);
+        fit = fit-next fit;
+        left = left-then (s .left) (helperBytes M h q l r) _ until-parts laid;
+      }
+
+    -- it is none
+    pub other-then : isUntil (rowAt f p) ≡ false → RowsLeft M f b at whole b′ next (p + 8) h (i - 1)
+    other-then e =
+        let same = ap untils (items-more (rowLayout f) i p some) ∙ keep-fail isUntil (rowAt f p) (items (rowLayout f) (i - 1) (p + 8)) e in
+        record {
+          readable = omega (arith, s .readable);
+          few = omega (arith, s .few);
+          fit = subst (HelpersFit M h) same (s .fit);
+          left = subst (λ (us : List Row). Left b at whole b′ next (helpersBytes M h us)) same (s .left);
+        }

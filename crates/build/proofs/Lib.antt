@@ -9,7 +9,7 @@
 --     Whole      the size of a graph that is built, and of its message
 --     Edges      edges laid into the room one after another, and the loops over transitions that do so
 --     Nodes      the edges of a node, from its state's transitions; loops over states from the front
---     Helpers    the hyperedges of helper nodes, part by part and row by row
+--     Helpers    the hyperedges of helper nodes, and the loops over states and rows that lay them in
 pub mod Holding
 pub mod Stride
 pub mod Counting

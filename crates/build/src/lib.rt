@@ -570,3 +570,39 @@ fn put_helper_states(
     }
     next
 }
+
+// The hyperedges of all helper nodes.
+fn put_helpers(
+    room: &mut [u8],
+    at: usize,
+    m: &[u8],
+    n: u32,
+    p: u32,
+    t: u32,
+    table: &[u32],
+    f: &[u8],
+    k: u32,
+) -> usize
+    requires { ⌜ HoldsModel (now m) n p t ⌝ }
+    requires { ⌜ (n < length (now table)) × Starts (now m) n t (now table) ⌝ }
+    requires { ⌜ HoldsRows (now f) k p ⌝ }
+    requires { ⌜ HelpersFit (heldModel (now m) n p t) k (built.untils (heldRows (now f) k)) ⌝ }
+    requires { ⌜ at + length (helpersBytes (heldModel (now m) n p t) k (built.untils (heldRows (now f) k))) ≤ length (now room) ⌝ }
+    ensures { λ e. ⌜ Laid (now (room .entry)) at (helpersBytes (heldModel (now (m .entry)) n p t) k (built.untils (heldRows (now (f .entry)) k)))
+        (now (room .exit)) e ⌝ }
+{
+    let mut next = at;
+    let mut row_at: usize = 7;
+    let mut h = k;
+    let mut i = k;
+    while 0 < i {
+        let row = formula::row_at(f, row_at);
+        row_at += 8;
+        i -= 1;
+        if let Row::Until(q, l, r, _) = row {
+            next = put_helper_states(room, next, m, n, p, t, table, h, q, l, r);
+            h += 1;
+        }
+    }
+    next
+}
