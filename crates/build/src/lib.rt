@@ -602,3 +602,105 @@ fn put_rows(
     }
     next
 }
+
+// The hyperedges of the helper node of state a at place h, for an until of these operands.
+fn put_helper(
+    room: &mut [u8],
+    at: usize,
+    m: &[u8],
+    n: u32,
+    a: u32,
+    h: u32,
+    first: u32,
+    many: u32,
+    q: Quantifier,
+    l: u32,
+    k: u32,
+) -> usize
+    requires { ⌜ Reads (now m) n first many (n * h) ⌝ }
+    requires { ⌜ (a < n) × (n * l + n ≤ 4096) × (n * k + n ≤ 4096) × (many < 65535) ⌝ }
+    requires { ⌜ at + length (hypersBytes (a + n * h) (helperList n a q l k h (transitionsFrom (now m) n first many))) ≤ length (now room) ⌝ }
+    ensures { λ r. ⌜ Laid (now (room .entry)) at (hypersBytes (a + n * h) (helperList n a q l k h (transitionsFrom (now (m .entry)) n first many)))
+        (now (room .exit)) r ⌝ }
+{
+    let v = a + n * h;
+    let left = a + n * l;
+    let shift = n * h;
+    let second = put_single(room, at, v, a + n * k);
+    match q {
+        Quantifier::Some => put_some_steps(room, second, m, n, v, first, many, left, shift),
+        Quantifier::Every => {
+            let head = put_head(room, second, v, many + 1);
+            let targets = put_target(room, head, 0, left);
+            put_every_steps(room, targets, m, n, first, many, shift)
+        }
+    }
+}
+
+// The hyperedges of an until row's helper nodes, over all states.
+fn put_helper_states(
+    room: &mut [u8],
+    at: usize,
+    m: &[u8],
+    n: u32,
+    p: u32,
+    t: u32,
+    table: &[u32],
+    h: u32,
+    q: Quantifier,
+    l: u32,
+    k: u32,
+) -> usize
+    requires { ⌜ HoldsModel (now m) n p t ⌝ }
+    requires { ⌜ (n < length (now table)) × Starts (now m) n t (now table) ⌝ }
+    requires { ⌜ (n * h + n ≤ 4096) × (l < h) × (k < h) × Narrow (heldModel (now m) n p t) ⌝ }
+    requires { ⌜ at + length (helperBytes (heldModel (now m) n p t) h q l k) ≤ length (now room) ⌝ }
+    ensures { λ e. ⌜ Laid (now (room .entry)) at (helperBytes (heldModel (now (m .entry)) n p t) h q l k) (now (room .exit)) e ⌝ }
+{
+    let mut next = at;
+    let mut a: u32 = 0;
+    while a < n {
+        let i = a as usize;
+        let first = table[i];
+        let many = table[i + 1] - first;
+        next = put_helper(room, next, m, n, a, h, first, many, q, l, k);
+        a += 1;
+    }
+    next
+}
+
+// The hyperedges of all helper nodes.
+fn put_helpers(
+    room: &mut [u8],
+    at: usize,
+    m: &[u8],
+    n: u32,
+    p: u32,
+    t: u32,
+    table: &[u32],
+    f: &[u8],
+    k: u32,
+) -> usize
+    requires { ⌜ HoldsModel (now m) n p t ⌝ }
+    requires { ⌜ (n < length (now table)) × Starts (now m) n t (now table) ⌝ }
+    requires { ⌜ HoldsRows (now f) k p ⌝ }
+    requires { ⌜ HelpersFit (heldModel (now m) n p t) k (built.untils (heldRows (now f) k)) ⌝ }
+    requires { ⌜ at + length (helpersBytes (heldModel (now m) n p t) k (built.untils (heldRows (now f) k))) ≤ length (now room) ⌝ }
+    ensures { λ e. ⌜ Laid (now (room .entry)) at (helpersBytes (heldModel (now (m .entry)) n p t) k (built.untils (heldRows (now (f .entry)) k)))
+        (now (room .exit)) e ⌝ }
+{
+    let mut next = at;
+    let mut row_at: usize = 7;
+    let mut h = k;
+    let mut i = k;
+    while 0 < i {
+        let row = formula::row_at(f, row_at);
+        row_at += 8;
+        i -= 1;
+        if let Row::Until(q, l, r, _) = row {
+            next = put_helper_states(room, next, m, n, p, t, table, h, q, l, r);
+            h += 1;
+        }
+    }
+    next
+}

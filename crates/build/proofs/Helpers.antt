@@ -1,0 +1,187 @@
+-- The hyperedges of helper nodes: the parts of one, and the loops over states and rows that lay them in. Assumes nothing.
+use Prim.Native.Nat.{ℕ, suc, _+_, _*_, _-_, _<_, _≤_}
+use mathlib.Core.List.{List, [], _∷_, _++_, map, List·Memᴰ·head, List·Memᴰ·tail}
+use mathlib.Core.Bool.{false}
+use mathlib.Core.Path.{_≡_, refl, sym, ap, subst, _∙_}
+use native.Mathlib.Nat.{mul-le-mul-left, mul-suc}
+use native.Mathlib.Numerals.{add-one}
+use native.Mathlib.Omega.{arith}
+use lib.ListN.{length, length-map}
+use Rattle.lists.specs.Making.{keep}
+use Rattle.lists.proofs.Kept.{keep-pass, keep-fail}
+use Rattle.value.specs.declared.Bound.{Bound}
+use Rattle.wire.specs.Bytes.{bytes}
+use Rattle.wire.specs.Laid.{Laid}
+use Rattle.wire.specs.Layout.{items}
+use Rattle.wire.specs.Write.{writeAll}
+use Rattle.wire.proofs.Laid.{Left, all-left, none-left, left-fits, left-then}
+use Rattle.wire.proofs.Layouts.{items-more, items-length}
+use Rattle.rules.specs.Graph.{Target}
+use Rattle.graph.specs.Write.{writeTarget, writeHyper}
+use Rattle.model.specs.Model.{Model, Transition}
+use Rattle.formula.specs.declared.Quantifier.{Quantifier}
+use Rattle.formula.specs.declared.Quantifier.the-variants.{Some, Every}
+use Rattle.formula.specs.declared.Row.{Row}
+use Rattle.formula.specs.declared.Row.the-variants.{Until}
+use Rattle.formula.specs.Layouts.{rowAt, rowLayout}
+use Rattle.reduction.specs.Built.{to, hyper, stepEdges, helperEdges, isUntil, untils, layout}
+use Rattle.build.specs.Held.{transitionLayout, transitionsFrom, heldModel, heldRows, HoldsModel, HoldsRows, Own}
+use Rattle.build.specs.Bytes.{hypersBytes, someSteps, everySteps, helperList, helperBytes, helpersBytes, Narrow, HelpersFit}
+use Rattle.build.proofs.Accepted.{out-own}
+use Rattle.build.proofs.Edges.{single-length, hypers-more, hypers-one, first-fits}
+use Rattle.build.proofs.Nodes.{helper-are, writeAll-append, statesLeft, states-all, states-more, states-none}
+
+-- ---- the helper of a state
+
+-- where it fits, its first hyperedge does
+pub right-fits : (v n a : ℕ) (q : Quantifier) (l r h : ℕ) (us : List Transition) (at : ℕ) {size : ℕ}
+    → at + length (hypersBytes v (helperList n a q l r h us)) ≤ size → at + 10 ≤ size
+right-fits v n a Some l r h us at f = first-fits v _ (someSteps us (a + n * l) (n * h)) at 10 (single-length v (to 0 (a + n * r))) f
+right-fits v n a Every l r h us at f = first-fits v _ ((to 0 (a + n * l) ∷ everySteps us (n * h)) ∷ []) at 10 (single-length v (to 0 (a + n * r))) f
+
+-- the second of an A until: a head, the target of left, and one for each transition
+pub every-parts : (v : ℕ) (ts : List Target) (left : Target) (steps : List Target)
+    → hypersBytes v (ts ∷ (left ∷ steps) ∷ [])
+    ≡ writeHyper (hyper v ts) ++ ((bytes 2 v ++ bytes 2 (length (left ∷ steps))) ++ (writeTarget left ++ writeAll writeTarget steps))
+unfolding writeAll
+every-parts v ts left steps = hypers-more v ts ((left ∷ steps) ∷ []) ∙ ap (λ (s : List ℕ). writeHyper (hyper v ts) ++ s) (hypers-one v (left ∷ steps))
+
+pub steps-count : (m : List ℕ) (n first many shift : ℕ) (left : Target) → length (left ∷ everySteps (transitionsFrom m n first many) shift) ≡ many + 1
+steps-count m n first many shift left =
+    let us = transitionsFrom m n first many in
+    omega (arith, length-map us (λ u. to (u .weight) (u .to + shift)), items-length (transitionLayout m) many (13 + n * 4 + first * 8))
+
+-- a state of a narrow model has not too many transitions
+pub own-narrow : {m : List ℕ} {n p t a first many : ℕ} → HoldsModel m n p t → Own m n t a first many → Narrow (heldModel m n p t) → many < 65535
+unfolding heldModel
+own-narrow {a = a} holds o narrow = rw (out-own holds o) at (narrow a (o .state))
+
+-- ---- a loop over the states that lays in an until row's helpers
+
+-- those of the states from a on
+abbrev fromState : Model → ℕ → Quantifier → (l r a : ℕ) → List ℕ
+fromState M h q l r a =
+    statesLeft writeHyper (λ a. map (hyper (a + M .states * h)) ((to 0 (a + M .states * r) ∷ []) ∷ stepEdges M q l h a)) (M .states) a
+
+-- they are left
+pub record StatesLeft (m : List ℕ) (n p t h : ℕ) (q : Quantifier) (l r : ℕ) (b : List ℕ) (at : ℕ) (b′ : List ℕ) (next a : ℕ) : Type 0 where
+  pub left : Left b at (helperBytes (heldModel m n p t) h q l r) b′ next (fromState (heldModel m n p t) h q l r a)
+
+pub helper-all : (m : List ℕ) (n p t h : ℕ) (q : Quantifier) (l r : ℕ) (b : List ℕ) (at : ℕ) → at + length (helperBytes (heldModel m n p t) h q l r) ≤ length b
+    → StatesLeft m n p t h q l r b at b at 0
+unfolding helperBytes
+helper-all m n p t h q l r b at fits =
+    let M = heldModel m n p t in
+    record { left = subst (Left b at (helperBytes M h q l r) b at) (sym (states-all writeHyper _ (M .states))) (all-left b at (helperBytes M h q l r) fits) }
+
+module _ {m : List ℕ} {n p t h : ℕ} {q : Quantifier} {l r : ℕ} {b : List ℕ} {at : ℕ} {b′ : List ℕ} {next a : ℕ}
+    (s : StatesLeft m n p t h q l r b at b′ next a) where
+  pub helper-none : n ≤ a → Laid b at (helperBytes (heldModel m n p t) h q l r) b′ next
+  unfolding heldModel
+  helper-none e = none-left (subst (Left b at (helperBytes (heldModel m n p t) h q l r) b′ next) (states-none writeHyper _ n a e) (s .left))
+
+  -- a state more
+  module _ {first many : ℕ} (o : Own m n t a first many) where
+    abbrev here : List ℕ
+    here = hypersBytes (a + n * h) (helperList n a q l r h (transitionsFrom m n first many))
+
+    parts : fromState (heldModel m n p t) h q l r a ≡ here ++ fromState (heldModel m n p t) h q l r (a + 1)
+    unfolding heldModel
+    parts =
+        states-more writeHyper _ n a (o .state)
+        ∙ ap (λ (tss : List (List Target)). hypersBytes (a + n * h) tss ++ fromState (heldModel m n p t) h q l r (a + 1)) (helper-are p o q l r h)
+
+    pub helper-fits : next + length here ≤ length b′
+    helper-fits = left-fits (s .left) here _ parts
+
+    pub helper-then : {b″ : List ℕ} {end : ℕ} → Laid b′ next here b″ end → StatesLeft m n p t h q l r b at b″ end (a + 1)
+    helper-then laid = record { left = left-then (s .left) here _ parts laid }
+
+-- ---- a loop over the rows that lays in the helpers of those that are untils
+
+-- an until row more
+helpers-more : (M : Model) (h : ℕ) (q : Quantifier) (l r : ℕ) (limit : Bound) (us : List Row)
+    → helpersBytes M h (Until q l r limit ∷ us) ≡ helperBytes M h q l r ++ helpersBytes M (h + 1) us
+unfolding helpersBytes helperBytes layout
+helpers-more M h q l r limit us = rw add-one (writeAll-append writeHyper _ (layout hyper (M .states) (helperEdges M) (suc h) us))
+
+module _ {M : Model} {h : ℕ} {row : Row} {us : List Row} (f : HelpersFit M h (row ∷ us)) where
+  fit-here : M .states * h + M .states ≤ 4096
+  fit-here =
+      let below : M .states * suc h ≤ M .states * (h + length (row ∷ us)) = mul-le-mul-left (M .states) (omega arith) in
+      omega (arith, f .node, rw mul-suc at below)
+
+  fit-next : HelpersFit M (h + 1) us
+  fit-next =
+      let same : h + length (row ∷ us) ≡ h + 1 + length us = omega arith in
+      record {
+        node = rw same at (f .node);
+        operands = λ m o. omega (arith, f .operands (List·Memᴰ·tail m) o);
+        narrow = f .narrow;
+      }
+
+-- i rows from p on can be read, and the helpers of the untils among them are left, from place h on
+pub record RowsLeft (M : Model) (f b : List ℕ) (at : ℕ) (whole b′ : List ℕ) (next p h i : ℕ) : Type 0 where
+  pub readable : p + i * 8 ≤ length f
+  pub few : h + i ≤ 128
+  pub fit : HelpersFit M h (untils (items (rowLayout f) i p))
+  pub left : Left b at whole b′ next (helpersBytes M h (untils (items (rowLayout f) i p)))
+
+pub rows-all : {M : Model} {f : List ℕ} {k p : ℕ} → HoldsRows f k p → HelpersFit M k (untils (heldRows f k)) → (b : List ℕ) (at : ℕ)
+    → at + length (helpersBytes M k (untils (heldRows f k))) ≤ length b → RowsLeft M f b at (helpersBytes M k (untils (heldRows f k))) b at 7 k k
+unfolding heldRows
+rows-all r fit b at fits = record { readable = omega (arith, r .long); few = omega (arith, r .rows-fit); fit = fit; left = all-left b at _ fits }
+
+module _ {M : Model} {f b : List ℕ} {at : ℕ} {whole b′ : List ℕ} {next p h i : ℕ} (s : RowsLeft M f b at whole b′ next p h i) where
+  pub rows-none : i ≡ 0 → Laid b at whole b′ next
+  unfolding items keep helpersBytes layout writeAll
+  rows-none e = none-left (rw e at (s .left))
+
+  module _ (some : 0 < i) where
+    abbrev rest : List Row
+    rest = untils (items (rowLayout f) (i - 1) (p + 8))
+
+    -- the next row is an until
+    module _ {q : Quantifier} {l r : ℕ} {limit : Bound} (row-is : rowAt f p ≡ Until q l r limit) where
+      these : untils (items (rowLayout f) i p) ≡ Until q l r limit ∷ rest
+      these =
+          ap untils (items-more (rowLayout f) i p some ∙ ap (λ (row : Row). row ∷ items (rowLayout f) (i - 1) (p + 8)) row-is)
+          ∙ keep-pass isUntil (Until q l r limit) (items (rowLayout f) (i - 1) (p + 8)) refl
+
+      fit : HelpersFit M h (Until q l r limit ∷ rest)
+      fit = subst (HelpersFit M h) these (s .fit)
+
+      until-parts : helpersBytes M h (untils (items (rowLayout f) i p)) ≡ helperBytes M h q l r ++ helpersBytes M (h + 1) rest
+      until-parts = ap (helpersBytes M h) these ∙ helpers-more M h q l r limit rest
+
+      -- what its helpers ask for, and they fit
+      pub until-fit : (M .states * h + M .states ≤ 4096) × (l < h) × (r < h) × Narrow M
+      until-fit = (
+        fit-here fit,
+        fit .operands (List·Memᴰ·head refl) (List·Memᴰ·head refl),
+        fit .operands (List·Memᴰ·head refl) (List·Memᴰ·tail (List·Memᴰ·head refl)),
+        fit .narrow,
+      )
+
+      pub until-fits : next + length (helperBytes M h q l r) ≤ length b′
+      until-fits = left-fits (s .left) (helperBytes M h q l r) _ until-parts
+
+      -- once they are laid in, the others are left
+      pub until-then : {b″ : List ℕ} {end : ℕ} → Laid b′ next (helperBytes M h q l r) b″ end → RowsLeft M f b at whole b″ end (p + 8) (h + 1) (i - 1)
+      until-then laid = record {
+        readable = omega (arith, s .readable);
+        few = omega (arith, s .few);
+        fit = fit-next fit;
+        left = left-then (s .left) (helperBytes M h q l r) _ until-parts laid;
+      }
+
+    -- it is none
+    pub other-then : isUntil (rowAt f p) ≡ false → RowsLeft M f b at whole b′ next (p + 8) h (i - 1)
+    other-then e =
+        let same = ap untils (items-more (rowLayout f) i p some) ∙ keep-fail isUntil (rowAt f p) (items (rowLayout f) (i - 1) (p + 8)) e in
+        record {
+          readable = omega (arith, s .readable);
+          few = omega (arith, s .few);
+          fit = subst (HelpersFit M h) same (s .fit);
+          left = subst (λ (us : List Row). Left b at whole b′ next (helpersBytes M h us)) same (s .left);
+        }
