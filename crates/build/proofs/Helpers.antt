@@ -117,7 +117,7 @@ module _ {M : Model} {h : ℕ} {row : Row} {us : List Row} (f : HelpersFit M h (
       record {
         node = rw same at (f .node);
         operands = λ m o. omega (arith, f .operands (List·Memᴰ·tail m) o);
-        narrow = f .narrow;
+        narrow = λ m. f .narrow (List·Memᴰ·tail m);
       }
 
 -- i rows from p on can be read, and the helpers of the untils among them are left, from place h on
@@ -160,7 +160,7 @@ module _ {M : Model} {f b : List ℕ} {at : ℕ} {whole b′ : List ℕ} {next p
         fit-here fit,
         fit .operands (List·Memᴰ·head refl) (List·Memᴰ·head refl),
         fit .operands (List·Memᴰ·head refl) (List·Memᴰ·tail (List·Memᴰ·head refl)),
-        fit .narrow,
+        fit .narrow (List·Memᴰ·head refl),
       )
 
       pub until-fits : next + length (helperBytes M h q l r) ≤ length b′

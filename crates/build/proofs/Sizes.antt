@@ -1,15 +1,17 @@
 -- How much room hyperedges take: of joins, of spans, of a row's nodes and its helpers', and of a graph. Assumes nothing.
 use Prim.Native.Nat.{ℕ, zero, suc, _+_, _*_, _-_, _≤_, _<_, min, max}
-use mathlib.Core.List.{List, [], _∷_, _++_, map}
+use mathlib.Core.List.{List, [], _∷_, _++_, map, List·Memᴰ·head, List·Memᴰ·tail}
 use mathlib.Core.Bool.{Bool, true, false, not, cond}
 use mathlib.Core.Path.{_≡_, refl, sym, ap, ap₂, _∙_}
 use native.Mathlib.Numerals.{add-one}
 use native.Mathlib.Omega.{arith}
 use lib.ListN.{length, length-map}
 use lib.Dec.{ltb, eqb}
-use borrow.Author.Tests.{ltb-true, ltb-false, le-ltb}
+use borrow.Author.Tests.{ltb-true, ltb-false, le-ltb, eqb-true, eqb-false}
+use Rattle.lists.specs.Lists.{_∈_}
 use Rattle.lists.specs.Making.{keep, span}
-use Rattle.lists.proofs.Tests.{by-test}
+use Rattle.lists.proofs.Making.{∈-keep}
+use Rattle.lists.proofs.Tests.{by-test, clash}
 use Rattle.lists.proofs.Kept.{keep-length, keep-map}
 use Rattle.value.specs.declared.Bound.{Bound}
 use Rattle.value.specs.Value.{inside}
@@ -19,9 +21,10 @@ use Rattle.formula.specs.declared.Quantifier.{Quantifier}
 use Rattle.formula.specs.declared.Quantifier.the-variants.{Some, Every}
 use Rattle.formula.specs.declared.Row.{Row}
 use Rattle.formula.specs.declared.Row.the-variants.{True, False, Proposition, Negation, And, Or, Next, Until}
-use Rattle.reduction.specs.Built.{to, out, near, rowEdges, helperEdges}
+use Rattle.reduction.specs.Built.{to, out, near, rowEdges, helperEdges, isUntil, untils}
 use Rattle.build.specs.declared.Size.{Size}
 use Rattle.build.specs.Size.{noSize, addSize, sizeOf, stateEdges, rowsEdges, leafEdges, nextSize, stepSize, helperSize}
+use Rattle.build.specs.Bytes.{Narrow}
 
 -- ---- sums of sizes
 
@@ -224,3 +227,61 @@ module _ (M : Model) (few : length (M .transitions) ≤ 65535) where
 -- the part of a small sum that is summed first is small
 pub small-part : {k : ℕ} (x y : Size) {w : Size} → addSize x y ≡ w → Small k w → Small k x
 small-part x y e h = omega (arith, ap (λ (z : Size). z .hypers) e, ap (λ (z : Size). z .targets) e, h .hypers, h .targets)
+
+-- ---- a part is no larger than the whole
+
+infix 40 _⊑_
+-- no number of one is above the other's
+pub record _⊑_ (x y : Size) : Type 0 where
+  pub hypers : x .hypers ≤ y .hypers
+  pub targets : x .targets ≤ y .targets
+  pub most : x .most ≤ y .most
+
+part-left : (x y : Size) {z : Size} → z ⊑ x → z ⊑ addSize x y
+part-left x y h = record { hypers = omega (arith, h .hypers); targets = omega (arith, h .targets); most = omega (arith, h .most) }
+
+part-right : (x y : Size) {z : Size} → z ⊑ y → z ⊑ addSize x y
+part-right x y h = record { hypers = omega (arith, h .hypers); targets = omega (arith, h .targets); most = omega (arith, h .most) }
+
+part-self : (x : Size) → x ⊑ x
+part-self x = record { hypers = omega arith; targets = omega arith; most = omega arith }
+
+part-span : (f : ℕ → List (List Target)) (a n c : ℕ) → a ≤ c → c < a + n → sizeOf (f c) ⊑ sizeOf (span f a n)
+unfolding span
+part-span f a zero c p q = absurd (omega arith)
+part-span f a (suc n) c p q =
+    rw (size-append (f a) (span f (suc a) n))
+    (by-test (eqb c a)
+    (λ e. rw (eqb-true c a e) (part-left (sizeOf (f a)) (sizeOf (span f (suc a) n)) (part-self (sizeOf (f a)))))
+    (λ e. part-right (sizeOf (f a)) (sizeOf (span f (suc a) n)) (part-span f (suc a) n c (omega (arith, eqb-false c a e)) (omega arith))))
+
+-- of a state and a row
+pub part-state : (M : Model) {row : Row} (rows : List Row) → row ∈ rows → (a : ℕ) → a < M .states → sizeOf (stateEdges M row a) ⊑ sizeOf (rowsEdges M rows)
+unfolding rowsEdges
+part-state M [] m a l = elim m [ ]
+part-state M (c ∷ rows) (List·Memᴰ·head e) a l =
+    rw (size-append (span (stateEdges M c) 0 (M .states)) (rowsEdges M rows), e)
+    (part-left (sizeOf (span (stateEdges M c) 0 (M .states))) (sizeOf (rowsEdges M rows)) (part-span (stateEdges M c) 0 (M .states) a (omega arith) (omega arith)))
+part-state M (c ∷ rows) (List·Memᴰ·tail m) a l =
+    rw (size-append (span (stateEdges M c) 0 (M .states)) (rowsEdges M rows))
+    (part-right (sizeOf (span (stateEdges M c) 0 (M .states))) (sizeOf (rowsEdges M rows)) (part-state M rows m a l))
+
+-- where no hyperedge is too large and there are not too many, a state of a model with an until row has not too many transitions
+pub few-narrow : (M : Model) (rows : List Row) {row : Row} → sizeOf (rowsEdges M rows) .hypers ≤ 65535 → sizeOf (rowsEdges M rows) .most ≤ 65535
+    → row ∈ untils rows → Narrow M
+few-narrow M rows {row} few small m a l =
+    let k = ∈-keep isUntil rows m in
+    let part = part-state M rows (k .0) a l in
+    let is = state-size M row a refl refl refl in
+    until-few row (k .1) (rw is at part)
+  where
+    until-few : (row : Row) → isUntil row ≡ true → addSize (sizeOf (rowEdges M row a)) (helperSize row (length (out M a))) ⊑ sizeOf (rowsEdges M rows) → length (out M a) < 65535
+    until-few True e p = clash e refl
+    until-few False e p = clash e refl
+    until-few (Proposition i) e p = clash e refl
+    until-few (Negation i) e p = clash e refl
+    until-few (And l r) e p = clash e refl
+    until-few (Or l r) e p = clash e refl
+    until-few (Next q l b) e p = clash e refl
+    until-few (Until Some l r b) e p = omega (arith, p .hypers, few)
+    until-few (Until Every l r b) e p = omega (arith, p .most, small)

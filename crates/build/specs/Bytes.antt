@@ -90,4 +90,4 @@ Narrow M = (a : ℕ) → a < M .states → length (out M a) < 65535
 pub record HelpersFit (M : Model) (h : ℕ) (us : List Row) : Type 0 where
   pub node : M .states * (h + length us) ≤ 4096
   pub operands : {row : Row} {l : ℕ} → row ∈ us → l ∈ operands row → l < h
-  pub narrow : Narrow M
+  pub narrow : {row : Row} → row ∈ us → Narrow M
