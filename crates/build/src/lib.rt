@@ -504,3 +504,17 @@ fn put_next(
         }
     }
 }
+
+// The header of a graph message.
+fn put_header(room: &mut [u8], long: u32, n: u32, h: u32, c: u32) -> usize
+    requires { ⌜ 14 ≤ length (now room) ⌝ }
+    ensures { λ e. ⌜ Laid (now (room .entry)) 0 (headerBytes long n h c) (now (room .exit)) e ⌝ }
+{
+    wire::store(room, 0, Width::Four, long);
+    wire::store(room, 4, Width::One, 1);
+    wire::store(room, 5, Width::One, 1);
+    wire::store(room, 6, Width::Two, n);
+    wire::store(room, 8, Width::Four, h);
+    wire::store(room, 12, Width::Two, c);
+    14
+}
