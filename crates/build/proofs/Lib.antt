@@ -9,6 +9,7 @@
 --     Whole      the size of a graph that is built, and of its message
 --     Edges      edges laid into the room one after another, and the loops over transitions that do so
 --     Nodes      the edges of a node, from its state's transitions; loops over states from the front
+--     Covers     the bytes of cover edges, state by state and row by row
 pub mod Holding
 pub mod Stride
 pub mod Counting
@@ -19,3 +20,4 @@ pub mod Sizes
 pub mod Whole
 pub mod Edges
 pub mod Nodes
+pub mod Covers

@@ -518,3 +518,22 @@ fn put_header(room: &mut [u8], long: u32, n: u32, h: u32, c: u32) -> usize
     wire::store(room, 12, Width::Two, c);
     14
 }
+
+// The cover edges of an until row's nodes, over all states.
+fn put_cover_states(room: &mut [u8], at: usize, n: u32, r: u32, h: u32, bound: Bound) -> usize
+    requires { ⌜ (n * h + n ≤ 4096) × (r < h) ⌝ }
+    requires { ⌜ at + length (coverBytes n r h bound) ≤ length (now room) ⌝ }
+    ensures { λ e. ⌜ Laid (now (room .entry)) at (coverBytes n r h bound) (now (room .exit)) e ⌝ }
+{
+    let code = bound.code();
+    let mut next = at;
+    let mut a: u32 = 0;
+    while a < n {
+        wire::store(room, next, Width::Two, a + n * r);
+        wire::store(room, next + 2, Width::Four, code);
+        wire::store(room, next + 6, Width::Two, a + n * h);
+        next += 8;
+        a += 1;
+    }
+    next
+}
