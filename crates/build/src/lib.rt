@@ -537,3 +537,27 @@ fn put_cover_states(room: &mut [u8], at: usize, n: u32, r: u32, h: u32, bound: B
     }
     next
 }
+
+// All cover edges: one for each state and until row, to its helper.
+fn put_covers(room: &mut [u8], at: usize, n: u32, p: u32, f: &[u8], k: u32) -> usize
+    requires { ⌜ HoldsRows (now f) k p ⌝ }
+    requires { ⌜ n * (k + length (built.untils (heldRows (now f) k))) ≤ 4096 ⌝ }
+    requires { ⌜ at + length (coversOf n (heldRows (now f) k)) ≤ length (now room) ⌝ }
+    ensures { λ e. ⌜ Laid (now (room .entry)) at (coversOf n (heldRows (now (f .entry)) k)) (now (room .exit)) e ⌝ }
+{
+    let mut next = at;
+    let mut row_at: usize = 7;
+    let mut h = k;
+    let mut r: u32 = 0;
+    while r < k {
+        let row = formula::row_at(f, row_at);
+        let place = r;
+        row_at += 8;
+        r += 1;
+        if let Row::Until(_, _, _, b) = row {
+            next = put_cover_states(room, next, n, place, h, b);
+            h += 1;
+        }
+    }
+    next
+}
