@@ -10,6 +10,8 @@
 --     Edges      edges laid into the room one after another, and the loops over transitions that do so
 --     Nodes      the edges of a node, from its state's transitions; loops over states from the front
 --     Helpers    the hyperedges of helper nodes, and the loops over states and rows that lay them in
+--     Covers     the bytes of cover edges, state by state and row by row
+--     Parts      the message of a built graph, part by part, and what the tests before it is written say of it
 pub mod Holding
 pub mod Stride
 pub mod Counting
@@ -21,3 +23,5 @@ pub mod Whole
 pub mod Edges
 pub mod Nodes
 pub mod Helpers
+pub mod Covers
+pub mod Parts

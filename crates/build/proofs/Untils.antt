@@ -36,3 +36,14 @@ other-tag (And l r) e = refl
 other-tag (Or l r) e = refl
 other-tag (Next q l b) e = refl
 other-tag (Until q l r b) e = absurd (miss others 7 tt e)
+
+-- by whether a row is an until
+pub by-row : (C : Row → Type 0) → ((q : Quantifier) (l r : ℕ) (b : Bound) → C (Until q l r b)) → ((row : Row) → isUntil row ≡ false → C row) → (row : Row) → C row
+by-row C until other True = other True refl
+by-row C until other False = other False refl
+by-row C until other (Proposition i) = other (Proposition i) refl
+by-row C until other (Negation i) = other (Negation i) refl
+by-row C until other (And l r) = other (And l r) refl
+by-row C until other (Or l r) = other (Or l r) refl
+by-row C until other (Next q l b) = other (Next q l b) refl
+by-row C until other (Until q l r b) = until q l r b

@@ -704,3 +704,60 @@ fn put_helpers(
     }
     next
 }
+
+// The header of a graph message.
+fn put_header(room: &mut [u8], long: u32, n: u32, h: u32, c: u32) -> usize
+    requires { ⌜ 14 ≤ length (now room) ⌝ }
+    ensures { λ e. ⌜ Laid (now (room .entry)) 0 (headerBytes long n h c) (now (room .exit)) e ⌝ }
+{
+    wire::store(room, 0, Width::Four, long);
+    wire::store(room, 4, Width::One, 1);
+    wire::store(room, 5, Width::One, 1);
+    wire::store(room, 6, Width::Two, n);
+    wire::store(room, 8, Width::Four, h);
+    wire::store(room, 12, Width::Two, c);
+    14
+}
+
+// The cover edges of an until row's nodes, over all states.
+fn put_cover_states(room: &mut [u8], at: usize, n: u32, r: u32, h: u32, bound: Bound) -> usize
+    requires { ⌜ (n * h + n ≤ 4096) × (r < h) ⌝ }
+    requires { ⌜ at + length (coverBytes n r h bound) ≤ length (now room) ⌝ }
+    ensures { λ e. ⌜ Laid (now (room .entry)) at (coverBytes n r h bound) (now (room .exit)) e ⌝ }
+{
+    let code = bound.code();
+    let mut next = at;
+    let mut a: u32 = 0;
+    while a < n {
+        wire::store(room, next, Width::Two, a + n * r);
+        wire::store(room, next + 2, Width::Four, code);
+        wire::store(room, next + 6, Width::Two, a + n * h);
+        next += 8;
+        a += 1;
+    }
+    next
+}
+
+// All cover edges: one for each state and until row, to its helper.
+fn put_covers(room: &mut [u8], at: usize, n: u32, p: u32, f: &[u8], k: u32) -> usize
+    requires { ⌜ HoldsRows (now f) k p ⌝ }
+    requires { ⌜ n * (k + length (built.untils (heldRows (now f) k))) ≤ 4096 ⌝ }
+    requires { ⌜ at + length (coversOf n (heldRows (now f) k)) ≤ length (now room) ⌝ }
+    ensures { λ e. ⌜ Laid (now (room .entry)) at (coversOf n (heldRows (now (f .entry)) k)) (now (room .exit)) e ⌝ }
+{
+    let mut next = at;
+    let mut row_at: usize = 7;
+    let mut h = k;
+    let mut r: u32 = 0;
+    while r < k {
+        let row = formula::row_at(f, row_at);
+        let place = r;
+        row_at += 8;
+        r += 1;
+        if let Row::Until(_, _, _, b) = row {
+            next = put_cover_states(room, next, n, place, h, b);
+            h += 1;
+        }
+    }
+    next
+}
