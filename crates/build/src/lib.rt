@@ -761,3 +761,31 @@ fn put_covers(room: &mut [u8], at: usize, n: u32, p: u32, f: &[u8], k: u32) -> u
     }
     next
 }
+
+// The bytes of a graph that fits its room.
+fn write(
+    m: &[u8],
+    n: u32,
+    p: u32,
+    t: u32,
+    table: &[u32],
+    f: &[u8],
+    k: u32,
+    untils: u32,
+    hypers: u32,
+    long: u32,
+    room: &mut [u8],
+)
+    requires { ⌜ HoldsModel (now m) n p t ⌝ }
+    requires { ⌜ (n < length (now table)) × Starts (now m) n t (now table) ⌝ }
+    requires { ⌜ HoldsRows (now f) k p ⌝ }
+    requires { ⌜ untils ≡ length (built.untils (heldRows (now f) k)) ⌝ }
+    requires { ⌜ Writable (built.graphOf (heldModel (now m) n p t) (heldRows (now f) k)) hypers long (now room) ⌝ }
+    ensures { λ _. ⌜ now (room .exit) ≡ laid (now (room .entry)) 0
+        (writeGraph (built.graphOf (heldModel (now (m .entry)) n p t) (heldRows (now (f .entry)) k))) ⌝ }
+{
+    let rows = put_header(room, long, n * (k + untils), hypers, n * untils);
+    let helpers = put_rows(room, rows, m, n, p, t, table, f, k);
+    let covers = put_helpers(room, helpers, m, n, p, t, table, f, k);
+    put_covers(room, covers, n, p, f, k);
+}

@@ -1,0 +1,105 @@
+-- What the writing of a graph that passes no limit may rely on. Assumes nothing.
+use Prim.Native.Nat.{ℕ, _+_, _*_, _≤_}
+use mathlib.Core.List.{List, _++_}
+use mathlib.Core.Bool.{Bool, true, _&&_}
+use mathlib.Core.Path.{_≡_, sym, ap, _∙_}
+use native.Mathlib.Nat.{mul-le-mul-left}
+use native.Mathlib.Omega.{arith}
+use lib.Dec.{leb}
+use lib.ListN.{length, length-append}
+use borrow.Author.Tests.{leb-true}
+use Rattle.lists.specs.Lists.{all}
+use Rattle.lists.specs.Making.{keep}
+use Rattle.lists.proofs.Kept.{keep-length}
+use Rattle.lists.proofs.Lists.{all-true}
+use Rattle.lists.proofs.Making.{∈-keep}
+use Rattle.lists.proofs.Places.{place-lt, ∈-place}
+use Rattle.lists.proofs.Tests.{and-left, and-right}
+use Rattle.wire.proofs.Bytes.{length-bytes}
+use Rattle.rules.specs.Graph.{Graph, Hyper}
+use Rattle.graph.specs.WellFormed.{targetsOf}
+use Rattle.graph.specs.Write.{writeGraph}
+use Rattle.reduction.specs.Built.{isUntil, untils, graphOf, Fits}
+use Rattle.build.specs.Built.{fits, Writable}
+use Rattle.build.specs.Bytes.{rowsBytes, helpersBytes, coversOf, headerBytes, HelpersFit}
+use Rattle.build.specs.Held.{heldModel, heldRows, HoldsModel, HoldsRows}
+use Rattle.build.specs.Size.{sizeOf, rowsEdges}
+use Rattle.build.proofs.Accepted.{rows-length}
+use Rattle.build.proofs.Parts.{graph-parts}
+use Rattle.build.proofs.Sizes.{few-narrow}
+use Rattle.build.proofs.Whole.{size-of-graph}
+
+-- what the test says, limit by limit
+pub fits-each : (g : Graph) → fits g ≡ true → Fits g
+unfolding fits
+fits-each g e =
+    let nodes = leb (g .nodes) 4096 in
+    let hypers = leb (length (g .hypers)) 65535 in
+    let targets = leb (targetsOf (g .hypers)) 262144 in
+    let few : Hyper → Bool = λ h. leb (length (h .targets)) 65535 in
+    let each = all few (g .hypers) in
+    let covers = leb (length (g .covers)) 4096 in
+    let rest = and-right nodes (hypers && (targets && (each && covers))) e in
+    let edges = and-right hypers (targets && (each && covers)) rest in
+    let last = and-right targets (each && covers) edges in
+    record {
+      nodes-fit = leb-true _ _ (and-left nodes _ e);
+      hypers-fit = leb-true _ _ (and-left hypers _ rest);
+      targets-fit = leb-true _ _ (and-left targets _ edges);
+      each-fits = λ {h} m. leb-true _ _ (all-true few (g .hypers) (and-left each covers last) h m);
+      covers-fit = leb-true _ _ (and-right each covers last);
+    }
+
+-- none of its hyperedges is too large, tested on all at once
+fits-most : (g : Graph) → fits g ≡ true → all (λ h. leb (length (h .targets)) 65535) (g .hypers) ≡ true
+unfolding fits
+fits-most g e =
+    let rest = and-right (leb (g .nodes) 4096) _ e in
+    let edges = and-right (leb (length (g .hypers)) 65535) _ rest in
+    and-left _ _ (and-right (leb (targetsOf (g .hypers)) 262144) _ edges)
+
+-- there are no more until rows than rows
+pub untils-few : {f : List ℕ} {k p : ℕ} → HoldsRows f k p → length (untils (heldRows f k)) ≤ k
+untils-few {f} {k} h = omega (arith, keep-length isUntil (heldRows f k), rows-length f k)
+
+module _ {m : List ℕ} {n p t : ℕ} {f : List ℕ} {k u hypers long : ℕ} {b : List ℕ} (hm : HoldsModel m n p t) (hr : HoldsRows f k p)
+    (u-is : u ≡ length (untils (heldRows f k))) (w : Writable (graphOf (heldModel m n p t) (heldRows f k)) hypers long b) where
+  -- rows and helpers have few nodes
+  pub nodes-few : n * (k + u) ≤ 4096
+  unfolding heldModel graphOf
+  nodes-few = rw u-is (rw rows-length at (fits-each (graphOf (heldModel m n p t) (heldRows f k)) (w .fits) .nodes-fit))
+
+  pub rows-few : n * k ≤ 4096
+  rows-few = let below : n * k ≤ n * (k + u) = mul-le-mul-left n (omega arith) in omega (arith, nodes-few)
+
+  pub helpers-fit : HelpersFit (heldModel m n p t) k (untils (heldRows f k))
+  unfolding heldModel
+  helpers-fit =
+      let M = heldModel m n p t in
+      let rows = heldRows f k in
+      let g = graphOf M rows in
+      let size = size-of-graph M rows in
+      record {
+        node = rw (← u-is) nodes-few;
+        operands = λ {row} q l.
+            let (i, at) = ∈-place (∈-keep isUntil rows q .0) in
+            omega (arith, hr .well-formed .earlier i at l, place-lt rows i at, rows-length f k);
+        narrow = few-narrow M rows (rw (← size .0) (fits-each g (w .fits) .hypers-fit)) (leb-true _ _ (sym (size .2) ∙ fits-most g (w .fits)));
+      }
+
+  -- the four parts of the message
+  pub written-parts : writeGraph (graphOf (heldModel m n p t) (heldRows f k))
+      ≡ headerBytes long (n * (k + u)) hypers (n * u) ++ rowsBytes (heldModel m n p t) 0 (heldRows f k)
+      ++ helpersBytes (heldModel m n p t) k (untils (heldRows f k)) ++ coversOf n (heldRows f k)
+  unfolding heldModel
+  written-parts =
+      let parts = graph-parts (heldModel m n p t) (heldRows f k) long hypers (w .long-is) (w .hypers-are) in
+      rw (rows-length f k) (rw (rows-length f k, ← u-is) at parts)
+
+-- where four parts fit, so do the first of them
+pub parts-fit : (h r e c : List ℕ) {size : ℕ} → length (h ++ r ++ e ++ c) ≤ size
+    → (0 + length h ≤ size) × (0 + length (h ++ r) ≤ size) × (0 + length (h ++ r ++ e) ≤ size) × (0 + length (h ++ r ++ e ++ c) ≤ size)
+parts-fit h r e c fits = omega (arith, length-append h r, length-append (h ++ r) e, length-append (h ++ r ++ e) c)
+
+pub header-length : (long n h c : ℕ) → length (headerBytes long n h c) ≡ 14
+header-length long n h c = simp (length-append, length-bytes)
