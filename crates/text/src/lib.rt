@@ -43,7 +43,7 @@ impl Written {
 }
 
 // Stores a word at a position; returns the position past it.
-fn put_word(room: &mut [u8], at: usize, word: &[u8]) -> usize
+pub fn put_word(room: &mut [u8], at: usize, word: &[u8]) -> usize
     requires { ⌜ at + length (now word) ≤ length (now room) ⌝ }
     ensures { λ r. ⌜ Laid (now (room .entry)) at (now (word .entry)) (now (room .exit)) r ⌝ }
 {
@@ -56,7 +56,7 @@ fn put_word(room: &mut [u8], at: usize, word: &[u8]) -> usize
 }
 
 // Stores a number in decimal at a position; returns the position past it.
-fn put_decimal(room: &mut [u8], at: usize, n: u32) -> usize
+pub fn put_decimal(room: &mut [u8], at: usize, n: u32) -> usize
     requires { ⌜ at + length (t.decimal n) ≤ length (now room) ⌝ }
     ensures { λ r. ⌜ Laid (now (room .entry)) at (t.decimal n) (now (room .exit)) r ⌝ }
 {
@@ -81,7 +81,7 @@ fn decimal_length(n: u32) -> usize
 }
 
 // Stores a word and a number after it.
-fn put_number(room: &mut [u8], at: usize, word: &[u8], n: u32) -> usize
+pub fn put_number(room: &mut [u8], at: usize, word: &[u8], n: u32) -> usize
     requires { ⌜ at + length (now word) + length (t.decimal n) ≤ length (now room) ⌝ }
     ensures { λ r. ⌜ Laid (now (room .entry)) at (now (word .entry) ++ t.decimal n) (now (room .exit)) r ⌝ }
 {
