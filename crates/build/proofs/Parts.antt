@@ -110,28 +110,40 @@ graph-parts M rows long hypers long-is hypers-are =
     message-parts (graphOf M rows) long long-is
     ∙ rw (← hypers-are, covers-of-graph M rows, graph-covers M rows, writeAll-append) (simp append-assoc)
 
--- ---- the tests before it is written: the graph of n states and k rows, u of them untils, whose hyperedges have the size z
+-- the same, of n states and k rows, u of them untils
+pub parts-are : (M : Model) (rows : List Row) {n k u long hypers : ℕ} → M .states ≡ n → length rows ≡ k → u ≡ length (untils rows)
+    → long ≡ length (writeGraph (graphOf M rows)) → hypers ≡ length (graphOf M rows .hypers)
+    → writeGraph (graphOf M rows) ≡ headerBytes long (n * (k + u)) hypers (n * u) ++ rowsBytes M 0 rows ++ helpersBytes M k (untils rows) ++ coversOf n rows
+parts-are M rows {long = long} {hypers} states-are rows-are untils-are long-is hypers-are = rw (← states-are, ← rows-are, untils-are) (graph-parts M rows long hypers long-is hypers-are)
 
-module _ (M : Model) (rows : List Row) {n k u : ℕ} {z : size.Size} (states-are : M .states ≡ n) (rows-are : length rows ≡ k)
-    (untils-are : u ≡ length (untils rows)) (size-is : z ≡ sizeOf (rowsEdges M rows)) where
+-- ---- the tests before it is written
+
+-- so many states and rows, so many of them untils, and the size of all hyperedges, as they were counted
+pub record Counted (M : Model) (rows : List Row) (n k u : ℕ) (z : size.Size) : Type 0 where
+  pub states-are : M .states ≡ n
+  pub rows-are : length rows ≡ k
+  pub untils-are : u ≡ length (untils rows)
+  pub size-is : z ≡ sizeOf (rowsEdges M rows)
+
+module _ {M : Model} {rows : List Row} {n k u : ℕ} {z : size.Size} (c : Counted M rows n k u z) where
   abbrev g : Graph
   g = graphOf M rows
 
   nodes-are : g .nodes ≡ n * (k + u)
   unfolding graphOf
-  nodes-are = rw (states-are, rows-are, untils-are)
+  nodes-are = rw (c .states-are, c .rows-are, c .untils-are)
 
   covers-are : length (g .covers) ≡ n * u
-  covers-are = covers-of-graph M rows ∙ ap₂ _*_ states-are (sym untils-are)
+  covers-are = covers-of-graph M rows ∙ ap₂ _*_ (c .states-are) (sym (c .untils-are))
 
   pub hypers-are : z .hypers ≡ length (g .hypers)
-  hypers-are = rw size-is (sym (size-of-graph M rows .0))
+  hypers-are = rw (c .size-is) (sym (size-of-graph M rows .0))
 
   targets-are : z .targets ≡ targetsOf (g .hypers)
-  targets-are = rw size-is (sym (size-of-graph M rows .1))
+  targets-are = rw (c .size-is) (sym (size-of-graph M rows .1))
 
   most-are : all (λ h. leb (length (h .targets)) 65535) (g .hypers) ≡ leb (z .most) 65535
-  most-are = rw size-is (size-of-graph M rows .2)
+  most-are = rw (c .size-is) (size-of-graph M rows .2)
 
   -- the length of the message, as it is computed
   abbrev long : ℕ
