@@ -1,28 +1,39 @@
 -- The message of a graph that is built, part by part, and what the tests before it is written say of it. Assumes nothing.
-use Prim.Native.Nat.{ℕ, zero, suc, _+_, _*_}
+use Prim.Native.Nat.{ℕ, zero, suc, _+_, _*_, _<_, _≤_}
 use mathlib.Core.List.{List, [], _∷_, _++_, map, append-assoc}
-use mathlib.Core.Bool.{false}
+use mathlib.Core.Bool.{true, false, _&&_, and-false}
 use mathlib.Core.Path.{_≡_, refl, sym, ap, ap₂, _∙_}
-use native.Mathlib.Nat.{add-zero, zero-add}
+use native.Mathlib.Nat.{add-zero, zero-add, mul-le-mul-left}
 use native.Mathlib.Omega.{arith}
-use lib.ListN.{length, take, length-append}
+use lib.Dec.{leb}
+use lib.ListN.{length, take, drop, length-append}
+use borrow.Author.Tests.{leb-true, le-leb, lt-leb}
+use Rattle.lists.specs.Lists.{all}
 use Rattle.lists.specs.Making.{span, keep}
 use Rattle.lists.proofs.Kept.{keep-fail}
+use Rattle.lists.proofs.Tests.{and-left}
+use Rattle.refusal.specs.declared.Refusal.the-variants.{Size, Room}
 use Rattle.value.specs.declared.Bound.{Bound}
 use Rattle.wire.specs.Bytes.{bytes}
+use Rattle.wire.specs.Laid.{laid}
 use Rattle.wire.specs.Write.{writeAll, message}
 use Rattle.wire.proofs.Bytes.{length-bytes}
 use Rattle.rules.specs.Graph.{Graph}
+use Rattle.graph.specs.WellFormed.{targetsOf}
 use Rattle.graph.specs.Write.{writeHyper, writeCover, writeBody, writeGraph}
 use Rattle.model.specs.Model.{Model}
 use Rattle.formula.specs.declared.Quantifier.{Quantifier}
 use Rattle.formula.specs.declared.Row.{Row}
 use Rattle.formula.specs.declared.Row.the-variants.{Until}
 use Rattle.reduction.specs.Built.{ifUntil, isUntil, untils, helperAt, layout, cover, Limit, graphOf}
+use Rattle.build.specs.declared.Built.the-variants as Built
+use Rattle.build.specs.declared.Size as size
+use Rattle.build.specs.Size.{sizeOf, rowsEdges}
 use Rattle.build.specs.Bytes.{rowsBytes, helpersBytes, coverBytes, coversFrom, coversOf, headerBytes}
+use Rattle.build.specs.Built.{fits, roomy, builtOf, roomOf, Writable}
 use Rattle.build.proofs.Untils.{other-row, by-row}
 use Rattle.build.proofs.Nodes.{writeAll-append}
-use Rattle.build.proofs.Whole.{covers-of-graph}
+use Rattle.build.proofs.Whole.{size-of-graph, covers-of-graph, writing-length}
 
 -- ---- the cover edges
 
@@ -98,3 +109,115 @@ unfolding graphOf rowsBytes helpersBytes
 graph-parts M rows long hypers long-is hypers-are =
     message-parts (graphOf M rows) long long-is
     ∙ rw (← hypers-are, covers-of-graph M rows, graph-covers M rows, writeAll-append) (simp append-assoc)
+
+-- the same, of n states and k rows, u of them untils
+pub parts-are : (M : Model) (rows : List Row) {n k u long hypers : ℕ} → M .states ≡ n → length rows ≡ k → u ≡ length (untils rows)
+    → long ≡ length (writeGraph (graphOf M rows)) → hypers ≡ length (graphOf M rows .hypers)
+    → writeGraph (graphOf M rows) ≡ headerBytes long (n * (k + u)) hypers (n * u) ++ rowsBytes M 0 rows ++ helpersBytes M k (untils rows) ++ coversOf n rows
+parts-are M rows {long = long} {hypers} states-are rows-are untils-are long-is hypers-are = rw (← states-are, ← rows-are, untils-are) (graph-parts M rows long hypers long-is hypers-are)
+
+-- ---- the tests before it is written
+
+-- so many states and rows, so many of them untils, and the size of all hyperedges, as they were counted
+pub record Counted (M : Model) (rows : List Row) (n k u : ℕ) (z : size.Size) : Type 0 where
+  pub states-are : M .states ≡ n
+  pub rows-are : length rows ≡ k
+  pub untils-are : u ≡ length (untils rows)
+  pub size-is : z ≡ sizeOf (rowsEdges M rows)
+
+module _ {M : Model} {rows : List Row} {n k u : ℕ} {z : size.Size} (c : Counted M rows n k u z) where
+  abbrev g : Graph
+  g = graphOf M rows
+
+  nodes-are : g .nodes ≡ n * (k + u)
+  unfolding graphOf
+  nodes-are = rw (c .states-are, c .rows-are, c .untils-are)
+
+  covers-are : length (g .covers) ≡ n * u
+  covers-are = covers-of-graph M rows ∙ ap₂ _*_ (c .states-are) (sym (c .untils-are))
+
+  pub hypers-are : z .hypers ≡ length (g .hypers)
+  hypers-are = rw (c .size-is) (sym (size-of-graph M rows .0))
+
+  targets-are : z .targets ≡ targetsOf (g .hypers)
+  targets-are = rw (c .size-is) (sym (size-of-graph M rows .1))
+
+  most-are : all (λ h. leb (length (h .targets)) 65535) (g .hypers) ≡ leb (z .most) 65535
+  most-are = rw (c .size-is) (size-of-graph M rows .2)
+
+  -- the length of the message, as it is computed
+  abbrev long : ℕ
+  long = 14 + z .hypers * 4 + z .targets * 6 + n * u * 8
+
+  pub long-is : long ≡ length (writeGraph g)
+  long-is = rw (hypers-are, targets-are, ← covers-are) (sym (writing-length g))
+
+  fits-are : fits g ≡ (leb (n * (k + u)) 4096 && (leb (z .hypers) 65535 && (leb (z .targets) 262144 && (leb (z .most) 65535 && leb (n * u) 4096))))
+  unfolding fits
+  fits-are = rw (nodes-are, ← hypers-are, ← targets-are, most-are, covers-are)
+
+  -- one test fails
+  pub too-many-nodes : 4096 < n * (k + u) → fits g ≡ false
+  too-many-nodes h = fits-are ∙ rw (lt-leb (n * (k + u)) 4096 h)
+
+  pub too-many-hypers : 65535 < z .hypers → fits g ≡ false
+  too-many-hypers h = fits-are ∙ rw (lt-leb (z .hypers) 65535 h, and-false)
+
+  pub too-many-targets : 262144 < z .targets → fits g ≡ false
+  too-many-targets h = fits-are ∙ rw (lt-leb (z .targets) 262144 h, and-false, and-false)
+
+  pub too-many-in-one : 65535 < z .most → fits g ≡ false
+  too-many-in-one h = fits-are ∙ rw (lt-leb (z .most) 65535 h, and-false, and-false, and-false)
+
+  -- none does; there are no more cover edges than nodes
+  pub graph-fits : n * (k + u) ≤ 4096 → z .hypers ≤ 65535 → z .targets ≤ 262144 → z .most ≤ 65535 → fits g ≡ true
+  graph-fits nodes hypers targets most =
+      let covers : n * u ≤ n * (k + u) = mul-le-mul-left n (omega arith) in
+      fits-are
+      ∙ rw (
+        le-leb (n * (k + u)) 4096 nodes,
+        le-leb (z .hypers) 65535 hypers,
+        le-leb (z .targets) 262144 targets,
+        le-leb (z .most) 65535 most,
+        le-leb (n * u) 4096 (omega arith),
+      )
+
+  -- the room of bytes and the room of numbers
+  module _ (b : List ℕ) (values : ℕ) where
+    roomy-are : roomy g b values ≡ (leb long (length b) && leb (n * (k + u) * 2) values)
+    unfolding roomy
+    roomy-are = let twice : g .nodes + g .nodes ≡ n * (k + u) * 2 = omega (arith, nodes-are) in rw (long-is, twice)
+
+    pub bytes-short : length b < long → roomy g b values ≡ false
+    bytes-short h = roomy-are ∙ rw (lt-leb long (length b) h)
+
+    pub values-short : values < n * (k + u) * 2 → roomy g b values ≡ false
+    values-short h = roomy-are ∙ rw (lt-leb (n * (k + u) * 2) values h, and-false)
+
+    pub graph-roomy : long ≤ length b → n * (k + u) * 2 ≤ values → roomy g b values ≡ true
+    graph-roomy bytes nodes = roomy-are ∙ rw (le-leb long (length b) bytes, le-leb (n * (k + u) * 2) values nodes)
+
+-- ---- the answers
+
+module _ (g : Graph) (b : List ℕ) (values : ℕ) where
+  pub size-refused : fits g ≡ false → (Built.Refused Size ≡ builtOf g b values) × (b ≡ roomOf g b values)
+  unfolding builtOf roomOf
+  size-refused e = (rw e, rw e)
+
+  pub room-refused : fits g ≡ true → roomy g b values ≡ false → (Built.Refused Room ≡ builtOf g b values) × (b ≡ roomOf g b values)
+  unfolding builtOf roomOf
+  room-refused e f = (rw (e, f), rw (e, f))
+
+  module _ (e : fits g ≡ true) (f : roomy g b values ≡ true) {long : ℕ} (long-is : long ≡ length (writeGraph g)) where
+    pub writable : {hypers : ℕ} → hypers ≡ length (g .hypers) → Writable g hypers long b
+    unfolding roomy
+    writable h = record {
+      fits = e;
+      hypers-are = h;
+      long-is = long-is;
+      room = leb-true (length (writeGraph g)) (length b) (and-left _ _ f);
+    }
+
+    pub graph-built : {b′ : List ℕ} → b′ ≡ laid b 0 (writeGraph g) → (Built.Graph long ≡ builtOf g b values) × (b′ ≡ roomOf g b values)
+    unfolding builtOf roomOf laid
+    graph-built h = (rw (e, f, long-is), rw (e, f) (h ∙ ap (λ (n : ℕ). writeGraph g ++ drop n b) (zero-add (length (writeGraph g)))))

@@ -1,4 +1,4 @@
--- Rows that are no until, by their tag. Assumes nothing.
+-- Rows that are no until, by their tag, and cases by whether a row is one. Assumes nothing.
 use Prim.Native.Nat.{ℕ}
 use mathlib.Core.List.{List, [], _∷_}
 use mathlib.Core.Bool.{false}
