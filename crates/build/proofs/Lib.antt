@@ -7,7 +7,6 @@
 --     Untils     rows that are no until
 --     Sizes      how much room hyperedges take, of a row and of all
 --     Whole      the size of a graph that is built, and of its message
---     Narrow     where a graph that fits has an until, no state has too many transitions
 --     Edges      edges laid into the room one after another, and the loops over transitions that do so
 --     Nodes      the edges of a node, from its state's transitions; loops over states from the front
 --     Helpers    the hyperedges of helper nodes, and the loops over states and rows that lay them in
@@ -22,7 +21,6 @@ pub mod Accepted
 pub mod Untils
 pub mod Sizes
 pub mod Whole
-pub mod Narrow
 pub mod Edges
 pub mod Nodes
 pub mod Helpers

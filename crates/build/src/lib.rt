@@ -789,3 +789,61 @@ fn write(
     let covers = put_helpers(room, helpers, m, n, p, t, table, f, k);
     put_covers(room, covers, n, p, f, k);
 }
+
+// The graph of an accepted model and formula: SIZE and ROOM are decided before anything is written.
+// A room for so many values is lent beside it, and must be large enough too.
+pub fn build(
+    m: &[u8],
+    n: u32,
+    p: u32,
+    t: u32,
+    f: &[u8],
+    k: u32,
+    values: usize,
+    room: &mut [u8],
+) -> Built
+    requires { ⌜ HoldsModel (now m) n p t ⌝ }
+    requires { ⌜ HoldsRows (now f) k p ⌝ }
+    ensures { λ r. ⌜ r ≡ builtOf (built.graphOf (heldModel (now (m .entry)) n p t) (heldRows (now (f .entry)) k)) (now (room .entry)) values ⌝ }
+    ensures { λ _. ⌜ now (room .exit) ≡ roomOf (built.graphOf (heldModel (now (m .entry)) n p t) (heldRows (now (f .entry)) k)) (now (room .entry)) values ⌝ }
+{
+    let untils = count_untils(f, k, p);
+    let table = starts(m, n, p, t);
+    let size = total_size(m, n, p, t, &table, f, k);
+    let hypers = size.hypers;
+    let targets = size.targets;
+    let nodes = n * (k + untils);
+    if 4096 < nodes {
+        return Built::Refused(Refusal::Size);
+    }
+    if 65535 < hypers {
+        return Built::Refused(Refusal::Size);
+    }
+    if 262144 < targets {
+        return Built::Refused(Refusal::Size);
+    }
+    if 65535 < size.most {
+        return Built::Refused(Refusal::Size);
+    }
+    let long = 14 + hypers * 4 + targets * 6 + ((n * untils) as u64) * 8;
+    if (room.len() as u64) < long {
+        return Built::Refused(Refusal::Room);
+    }
+    if values < (nodes as usize) * 2 {
+        return Built::Refused(Refusal::Room);
+    }
+    write(
+        m,
+        n,
+        p,
+        t,
+        &table,
+        f,
+        k,
+        untils,
+        hypers as u32,
+        long as u32,
+        room,
+    );
+    Built::Graph(long as usize)
+}

