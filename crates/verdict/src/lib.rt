@@ -1,6 +1,7 @@
 // The whole question: a model, a formula, a state and a budget; yes, no, or a refusal.
 ghost use mathlib.Core.Path.{_≡_};
 ghost use Rattle.verdict.specs.Answer.{answerNumber, answerVerdict, answerCount, answerLength};
+ghost use Rattle.verdict.specs.Asking.{Asking};
 use refusal::Refusal;
 
 // Yes, no, or none where there is no verdict.
@@ -73,5 +74,18 @@ impl Answer {
             Answer::Spent(_, n) => n,
             Answer::Refused(_) => 0,
         }
+    }
+}
+
+// The model first, then the formula with the model's p.
+fn question(m: &[u8], f: &[u8]) -> Asked
+    ensures { λ r. ⌜ Asking (now (m .entry)) (now (f .entry)) r ⌝ }
+{
+    match model::check(m) {
+        model::Checked::Refused(e) => Asked::Refused(e),
+        model::Checked::Model(n, p, t) => match formula::check(f, p) {
+            formula::Checked::Refused(e) => Asked::Refused(e),
+            formula::Checked::Formula(k) => Asked::Question(n, p, t, k),
+        },
     }
 }
