@@ -1,8 +1,11 @@
 // The whole question: a model, a formula, a state and a budget; yes, no, or a refusal.
 ghost use mathlib.Core.Path.{_≡_};
-ghost use Rattle.verdict.specs.Answer.{answerNumber, answerVerdict, answerCount, answerLength};
-ghost use Rattle.verdict.specs.Asking.{Asking};
+ghost use Rattle.build.specs.Held.{HoldsModel, HoldsRows};
+ghost use Rattle.verdict.specs.Answer.{answerNumber, answerVerdict, answerCount, answerLength, settledFor, bytesFor, valuesFor};
+ghost use Rattle.verdict.specs.Asking.{Asking, heldQuestion};
+use build::Built;
 use refusal::Refusal;
+use rounds::Outcome;
 
 // Yes, no, or none where there is no verdict.
 pub enum Verdict {
@@ -87,5 +90,37 @@ fn question(m: &[u8], f: &[u8]) -> Asked
             formula::Checked::Refused(e) => Asked::Refused(e),
             formula::Checked::Formula(k) => Asked::Question(n, p, t, k),
         },
+    }
+}
+
+// Builds the graph of an accepted question and settles it, once for all states.
+fn settle_question(
+    m: &[u8],
+    n: u32,
+    p: u32,
+    t: u32,
+    f: &[u8],
+    k: u32,
+    budget: u32,
+    bytes: &mut [u8],
+    values: &mut [u64],
+) -> Settled
+    requires { ⌜ HoldsModel (now m) n p t ⌝ }
+    requires { ⌜ HoldsRows (now f) k p ⌝ }
+    ensures { λ r. ⌜ r ≡ settledFor (heldQuestion (now (m .entry)) n p t (now (f .entry)) k) budget (now (bytes .entry)) (now (values .entry)) ⌝ }
+    ensures { λ _. ⌜ now (bytes .exit) ≡ bytesFor (heldQuestion (now (m .entry)) n p t (now (f .entry)) k) (now (bytes .entry)) (now (values .entry)) ⌝ }
+    ensures { λ _. ⌜ now (values .exit) ≡ valuesFor (heldQuestion (now (m .entry)) n p t (now (f .entry)) k) budget (now (bytes .entry))
+        (now (values .entry)) ⌝ }
+{
+    let room = values.len();
+    let long = match build::build(m, n, p, t, f, k, room, bytes) {
+        Built::Graph(long) => long,
+        Built::Refused(e) => return Settled::Refused(e),
+    };
+    let first = n * (k - 1);
+    match rounds::solve(&bytes[..long], budget, values) {
+        Outcome::Settled(count) => Settled::Done(count, long, first, n),
+        Outcome::Spent(count) => Settled::Spent(count, long),
+        Outcome::Refused(e) => Settled::Refused(e),
     }
 }
