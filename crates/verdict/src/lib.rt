@@ -1,8 +1,10 @@
 // The whole question: a model, a formula, a state and a budget; yes, no, or a refusal.
 ghost use mathlib.Core.Path.{_≡_};
 ghost use Rattle.build.specs.Held.{HoldsModel, HoldsRows};
-ghost use Rattle.verdict.specs.Answer.{answerNumber, answerVerdict, answerCount, answerLength, settledFor, bytesFor, valuesFor};
+ghost use Rattle.verdict.specs.Answer.{answerNumber, answerVerdict, answerCount, answerLength, settledFor, bytesFor, valuesFor, settledOf, bytesOf, valuesOf};
 ghost use Rattle.verdict.specs.Asking.{Asking, heldQuestion};
+ghost use Rattle.verdict.specs.Promise.{PromiseAll};
+ghost use Rattle.verdict.specs.Question.{readQuestion};
 use build::Built;
 use refusal::Refusal;
 use rounds::Outcome;
@@ -122,5 +124,18 @@ fn settle_question(
         Outcome::Settled(count) => Settled::Done(count, long, first, n),
         Outcome::Spent(count) => Settled::Spent(count, long),
         Outcome::Refused(e) => Settled::Refused(e),
+    }
+}
+
+// All states' answers from one settled room: the number of state a's node is 0 exactly when a satisfies the formula.
+pub fn settle(m: &[u8], f: &[u8], budget: u32, bytes: &mut [u8], values: &mut [u64]) -> Settled
+    ensures { λ r. ⌜ r ≡ settledOf (readQuestion (now (m .entry)) (now (f .entry))) budget (now (bytes .entry)) (now (values .entry)) ⌝ }
+    ensures { λ _. ⌜ now (bytes .exit) ≡ bytesOf (readQuestion (now (m .entry)) (now (f .entry))) (now (bytes .entry)) (now (values .entry)) ⌝ }
+    ensures { λ _. ⌜ now (values .exit) ≡ valuesOf (readQuestion (now (m .entry)) (now (f .entry))) budget (now (bytes .entry)) (now (values .entry)) ⌝ }
+    ensures { λ r. ⌜ PromiseAll (now (m .entry)) (now (f .entry)) (now (bytes .entry)) (now (values .entry)) (now (bytes .exit)) (now (values .exit)) r ⌝ }
+{
+    match question(m, f) {
+        Asked::Refused(e) => Settled::Refused(e),
+        Asked::Question(n, p, t, k) => settle_question(m, n, p, t, f, k, budget, bytes, values),
     }
 }
