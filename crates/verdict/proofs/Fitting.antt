@@ -27,7 +27,7 @@ use Rattle.build.specs.Built.{fits}
 use Rattle.verdict.specs.Question.{Question, graphFor}
 
 -- what the test says, limit by limit
-fits-each : (g : Graph) → fits g ≡ true → Fits g
+pub fits-each : (g : Graph) → fits g ≡ true → Fits g
 unfolding fits
 fits-each g e =
     let nodes = leb (g .nodes) 4096 in

@@ -1,10 +1,10 @@
 // The whole question: a model, a formula, a state and a budget; yes, no, or a refusal.
 ghost use mathlib.Core.Path.{_≡_};
 ghost use Rattle.build.specs.Held.{HoldsModel, HoldsRows};
-ghost use Rattle.verdict.specs.Answer.{answerNumber, answerVerdict, answerCount, answerLength, settledFor, bytesFor, valuesFor, settledOf, bytesOf, valuesOf};
+ghost use Rattle.verdict.specs.Answer.{answerNumber, answerVerdict, answerCount, answerLength, settledFor, bytesFor, valuesFor, settledOf, answerOf, bytesOf, valuesOf};
 ghost use Rattle.verdict.specs.Asking.{Asking, heldQuestion};
-ghost use Rattle.verdict.specs.Promise.{PromiseAll};
-ghost use Rattle.verdict.specs.Question.{readQuestion};
+ghost use Rattle.verdict.specs.Promise.{Promise, PromiseAll};
+ghost use Rattle.verdict.specs.Question.{readQuestion, readAsked};
 use build::Built;
 use refusal::Refusal;
 use rounds::Outcome;
@@ -137,5 +137,42 @@ pub fn settle(m: &[u8], f: &[u8], budget: u32, bytes: &mut [u8], values: &mut [u
     match question(m, f) {
         Asked::Refused(e) => Settled::Refused(e),
         Asked::Question(n, p, t, k) => settle_question(m, n, p, t, f, k, budget, bytes, values),
+    }
+}
+
+// The verdict on one state.
+pub fn decide(
+    m: &[u8],
+    f: &[u8],
+    state: u32,
+    budget: u32,
+    bytes: &mut [u8],
+    values: &mut [u64],
+) -> Answer
+    ensures { λ r. ⌜ r ≡ answerOf (readAsked (now (m .entry)) (now (f .entry)) state) state budget (now (bytes .entry)) (now (values .entry)) ⌝ }
+    ensures { λ _. ⌜ now (bytes .exit) ≡ bytesOf (readAsked (now (m .entry)) (now (f .entry)) state) (now (bytes .entry)) (now (values .entry)) ⌝ }
+    ensures { λ _. ⌜ now (values .exit) ≡ valuesOf (readAsked (now (m .entry)) (now (f .entry)) state) budget (now (bytes .entry))
+        (now (values .entry)) ⌝ }
+    ensures { λ r. ⌜ Promise (now (m .entry)) (now (f .entry)) state (now (bytes .entry)) (now (values .entry)) (now (bytes .exit))
+        (now (values .exit)) r ⌝ }
+{
+    match question(m, f) {
+        Asked::Refused(e) => Answer::Refused(e),
+        Asked::Question(n, p, t, k) => {
+            if n <= state {
+                return Answer::Refused(Refusal::Name);
+            }
+            match settle_question(m, n, p, t, f, k, budget, bytes, values) {
+                Settled::Done(count, long, first, _) => {
+                    let node = (first + state) as usize;
+                    if values[node] == 0 {
+                        return Answer::Decided(Verdict::Yes, count, long);
+                    }
+                    Answer::Decided(Verdict::No, count, long)
+                }
+                Settled::Spent(count, long) => Answer::Spent(count, long),
+                Settled::Refused(e) => Answer::Refused(e),
+            }
+        }
     }
 }
