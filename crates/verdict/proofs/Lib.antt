@@ -6,7 +6,7 @@
 --     Finished   what settling says of the room of values, and how the verdict on a state is read there
 --     Promised   what the customer is promised follows from the definitions
 --     Answering  what is shown of a call, exit by exit
---     Laws       there is one answer, and a budget that always settles
+--     Laws       there is one answer, a budget that always settles, and one question that the messages write
 pub mod Reading
 pub mod Fitting
 pub mod Settling

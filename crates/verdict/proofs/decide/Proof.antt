@@ -20,42 +20,54 @@ use Rattle.verdict.proofs.Answering.{Shown, one-refused, one-unnamed, o
 use Rattle.verdict.proofs.decide.Statement.{statement}
 use Rattle.verdict.proofs.decide.Tie as tie
 
+-- the start of the call, before the question was read, and how it was read, before it was settled
+abbrev start : tie.After-question → tie.Start
+start c = c .before .before .before .before .before
+
+abbrev read : tie.After-settle-question → tie.After-known-told2
+read c = c .before .before .before .before
+
 -- both messages are bytes
-model-bytes : (c : tie.After-question) → Bytes (now (c .before .before .before .before .before .args .m))
+model-bytes : (c : tie.After-question) → Bytes (now (start c .args .m))
 model-bytes c i = omega (arith, c .before .before .before .before .shared-slice-known .given i)
 
-formula-bytes : (c : tie.After-question) → Bytes (now (c .before .before .before .before .before .args .f))
+formula-bytes : (c : tie.After-question) → Bytes (now (start c .args .f))
 formula-bytes c i = omega (arith, c .before .before .before .shared-slice-known2 .given i)
 
 -- and both are accepted
-held : (c : tie.After-known-told2) → let k = c .before .n .given .0 in
-    Held (now (c .before .before .before .before .before .before .before .before .args .m)) (now (c .before .before .before .before .before .before .before .before .args .f)) (k .0) (k .1 .0) (k .1 .1 .0) (k .1 .1 .1 .0)
-held c = subst (Asking (now (c .before .before .before .before .before .before .before .before .args .m)) (now (c .before .before .before .before .before .before .before .before .args .f))) (c .before .n .given .1) (c .before .before .before .question .ensures)
+held : (c : tie.After-known-told2) → let k = c .before .n .given .0 in let a = start (c .before .before .before) .args in
+    Held (now (a .m)) (now (a .f)) (k .0) (k .1 .0) (k .1 .1 .0) (k .1 .1 .1 .0)
+held c = let a = start (c .before .before .before) .args in subst (Asking (now (a .m)) (now (a .f))) (c .before .n .given .1) (c .before .before .before .question .ensures)
 
 abbrev question : tie.After-known-told2 → Question
 question c =
     let k = c .before .n .given .0 in
-    heldQuestion (now (c .before .before .before .before .before .before .before .before .args .m)) (k .0) (k .1 .0) (k .1 .1 .0) (now (c .before .before .before .before .before .before .before .before .args .f)) (k .1 .1 .1 .0)
+    let a = start (c .before .before .before) .args in
+    heldQuestion (now (a .m)) (k .0) (k .1 .0) (k .1 .1 .0) (now (a .f)) (k .1 .1 .1 .0)
 
 some-row : (c : tie.After-known-told2) → 1 ≤ length (question c .rows)
 some-row c = held c .rows .well-formed .some-row
 
 -- the state exists
-named : (c : tie.After-settle-question) → c .before .before .before .before .before .before .before .before .before .before .before .before .args .state < question (c .before .before .before .before) .model .states
+named : (c : tie.After-settle-question) → c .before .before .before .before .before .before .before .before .before .before .before .before .args .state < question (read c) .model .states
 unfolding heldModel
 named c = c .before .before .before .if1 .left
 
 -- the question settled
 done : (c : tie.After-known-told3) → let k = c .before .count .given .0 in let a = c .before .before .before .before .before .before .before .before .before .before .before .before .before .before .before .before .before .before .before .args in
-    Finished (question (c .before .before .before .before .before .before .before .before .before .before .before)) (a .budget) (now (a .bytes)) (now (a .values)) (k .0) (k .1 .1 .0) (k .1 .1 .1 .0)
+    Finished (question (read (c .before .before .before .before .before .before .before))) (a .budget) (now (a .bytes)) (now (a .values)) (k .0) (k .1 .1 .0) (k .1 .1 .1 .0)
 done c = finished _ _ _ _ (by (c .before .count .given .1) (c .before .before .before .before .before .before .before .settle-question .ensures .0))
 
 -- what the settling answered decides
-decides : (c : tie.After-settle-question) (s : Settled) {r : Answer} → c .settle-question .result ≡ s → r ≡ decided (question (c .before .before .before .before)) (c .before .before .before .before .before .before .before .before .before .before .before .before .args .state) s
-    → let a = c .before .before .before .before .before .before .before .before .before .before .before .before .args in
-    Shown (now (a .m)) (now (a .f)) (a .state) (a .budget) (now (a .bytes)) (now (a .values)) r
+decides : (c : tie.After-settle-question) (s : Settled) {r : Answer} → let a = c .before .before .before .before .before .before .before .before .before .before .before .before .args in
+    c .settle-question .result ≡ s → r ≡ decided (question (read c)) (a .state) s
+    → Shown (now (a .m)) (now (a .f)) (a .state) (a .budget) (now (a .bytes)) (now (a .values)) r
     (c .settle-question .last .1 .1 .1 .1 .1 .1 .1 .0) (c .settle-question .last .1 .1 .1 .1 .1 .1 .1 .1 .0)
-decides c s e d = one-decided _ _ (model-bytes (c .before .before .before .before .before .before .before)) (formula-bytes (c .before .before .before .before .before .before .before)) _ _ _ _ (held (c .before .before .before .before)) (c .before .before .before .if1 .left) (shows-as _ _ _ _ (sym e) (c .settle-question .ensures)) d
+decides c s e d =
+    let q = read c .before .before .before in
+    let a = start q .args in
+    let shows = shows-as (question (read c)) (a .budget) (now (a .bytes)) (now (a .values)) (sym e) (c .settle-question .ensures) in
+    one-decided _ _ (model-bytes q) (formula-bytes q) _ _ _ _ (held (read c)) (c .before .before .before .if1 .left) shows d
 
 question-requires : tie.Need-question-requires
 question-requires c κs = search needs
@@ -67,7 +79,7 @@ enum-known-n : tie.Need-enum-known-n
 enum-known-n c = search needs
 
 returns : tie.Need-returns
-returns c = one-unnamed _ _ (model-bytes (c .before .before .before .before)) (formula-bytes (c .before .before .before .before)) _ _ _ _ (held (c .before)) (c .if1 .taken)
+returns c = let q = c .before .before .before .before in one-unnamed _ _ (model-bytes q) (formula-bytes q) _ _ _ _ (held (c .before)) (c .if1 .taken)
 
 settle-question-requires : tie.Need-settle-question-requires
 settle-question-requires c κs = let h = held (c .before .before .before) in (h .model, h .rows)
@@ -76,7 +88,7 @@ enum-known-count : tie.Need-enum-known-count
 enum-known-count c = search needs
 
 add-node : tie.Need-add-node
-add-node c = let small = node-small (done c) (some-row (c .before .before .before .before .before .before .before .before .before .before .before)) _ (named (c .before .before .before .before .before .before .before)) in omega (arith, small)
+add-node c = let settled = c .before .before .before .before .before .before .before in omega (arith, node-small (done c) (some-row (read settled)) _ (named settled))
 
 cast-node : tie.Need-cast-node
 cast-node c = search needs
@@ -85,7 +97,8 @@ mul-if2 : tie.Need-mul-if2
 mul-if2 c = search needs
 
 slice-read-if2 : tie.Need-slice-read-if2
-slice-read-if2 c = node-inside (done (c .before)) (some-row (c .before .before .before .before .before .before .before .before .before .before .before .before)) _ (named (c .before .before .before .before .before .before .before .before)) (c .before .before .before .before .before .before .before .before .settle-question .ensures .1 .1)
+slice-read-if2 c =
+    let settled = c .before .before .before .before .before .before .before .before in node-inside (done (c .before)) (some-row (read settled)) _ (named settled) (settled .settle-question .ensures .1 .1)
 
 same-length : tie.Need-same-length
 same-length c = search needs
@@ -95,7 +108,9 @@ same-length-2 c = search needs
 
 returns-2 : tie.Need-returns-2
 returns-2 c =
-    decides (c .before .before .before .before .before .before .before .before .before) _ (c .before .before .before .count .given .1) (read-yes (done (c .before .before)) (some-row (c .before .before .before .before .before .before .before .before .before .before .before .before .before)) _ (named (c .before .before .before .before .before .before .before .before .before)) (c .before .before .before .before .before .before .before .before .before .settle-question .ensures .1 .1) (c .if2 .taken))
+    let settled = c .before .before .before .before .before .before .before .before .before in
+    decides settled _ (c .before .before .before .count .given .1)
+    (read-yes (done (c .before .before)) (some-row (read settled)) _ (named settled) (settled .settle-question .ensures .1 .1) (c .if2 .taken))
 
 enum-known-count-2 : tie.Need-enum-known-count-2
 enum-known-count-2 c = search needs
@@ -105,8 +120,9 @@ enum-known-e-2 c = search needs
 
 returns-3 : tie.Need-returns-3
 returns-3 c =
-    let a = c .before .before .before .before .before .before .before .before .args in
-    one-refused _ _ (model-bytes (c .before .before .before)) (formula-bytes (c .before .before .before)) _ _ _ _ (subst (Asking (now (a .m)) (now (a .f))) (c .before .e .given .1) (c .before .before .before .question .ensures))
+    let q = c .before .before .before in
+    let a = start q .args in
+    one-refused _ _ (model-bytes q) (formula-bytes q) _ _ _ _ (subst (Asking (now (a .m)) (now (a .f))) (c .before .e .given .1) (q .question .ensures))
 
 same-length-3 : tie.Need-same-length-3
 same-length-3 c = search needs
@@ -116,7 +132,9 @@ same-length-4 c = search needs
 
 returns-4 : tie.Need-returns-4
 returns-4 c =
-    decides (c .before .before .before .before .before .before .before .before .before) _ (c .before .before .before .count .given .1) (read-no (done (c .before .before)) (some-row (c .before .before .before .before .before .before .before .before .before .before .before .before .before)) _ (named (c .before .before .before .before .before .before .before .before .before)) (c .before .before .before .before .before .before .before .before .before .settle-question .ensures .1 .1) (c .if2 .left))
+    let settled = c .before .before .before .before .before .before .before .before .before in
+    decides settled _ (c .before .before .before .count .given .1)
+    (read-no (done (c .before .before)) (some-row (read settled)) _ (named settled) (settled .settle-question .ensures .1 .1) (c .if2 .left))
 
 same-length-5 : tie.Need-same-length-5
 same-length-5 c = search needs

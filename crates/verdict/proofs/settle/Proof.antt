@@ -9,17 +9,20 @@ use Rattle.verdict.proofs.Answering.{all-refused, all-settled}
 use Rattle.verdict.proofs.settle.Statement.{statement}
 use Rattle.verdict.proofs.settle.Tie as tie
 
+abbrev start : tie.After-question → tie.Start
+start c = c .before .before .before .before .before
+
 -- both messages are bytes
-model-bytes : (c : tie.After-question) → Bytes (now (c .before .before .before .before .before .args .m))
+model-bytes : (c : tie.After-question) → Bytes (now (start c .args .m))
 model-bytes c i = omega (arith, c .before .before .before .before .shared-slice-known .given i)
 
-formula-bytes : (c : tie.After-question) → Bytes (now (c .before .before .before .before .before .args .f))
+formula-bytes : (c : tie.After-question) → Bytes (now (start c .args .f))
 formula-bytes c i = omega (arith, c .before .before .before .shared-slice-known2 .given i)
 
 -- and both are accepted
-held : (c : tie.After-known-told2) → let k = c .before .n .given .0 in
-    Held (now (c .before .before .before .before .before .before .before .before .args .m)) (now (c .before .before .before .before .before .before .before .before .args .f)) (k .0) (k .1 .0) (k .1 .1 .0) (k .1 .1 .1 .0)
-held c = subst (Asking (now (c .before .before .before .before .before .before .before .before .args .m)) (now (c .before .before .before .before .before .before .before .before .args .f))) (c .before .n .given .1) (c .before .before .before .question .ensures)
+held : (c : tie.After-known-told2) → let k = c .before .n .given .0 in let a = start (c .before .before .before) .args in
+    Held (now (a .m)) (now (a .f)) (k .0) (k .1 .0) (k .1 .1 .0) (k .1 .1 .1 .0)
+held c = let a = start (c .before .before .before) .args in subst (Asking (now (a .m)) (now (a .f))) (c .before .n .given .1) (c .before .before .before .question .ensures)
 
 question-requires : tie.Need-question-requires
 question-requires c κs = search needs
@@ -35,8 +38,9 @@ settle-question-requires c κs = let h = held (c .before .before) in (h .model, 
 
 returns : tie.Need-returns
 returns c =
-    let a = c .before .before .before .before .before .before .before .before .args in
-    all-refused _ _ (model-bytes (c .before .before .before)) (formula-bytes (c .before .before .before)) _ _ _ (subst (Asking (now (a .m)) (now (a .f))) (c .before .e .given .1) (c .before .before .before .question .ensures))
+    let q = c .before .before .before in
+    let a = start q .args in
+    all-refused _ _ (model-bytes q) (formula-bytes q) _ _ _ (subst (Asking (now (a .m)) (now (a .f))) (c .before .e .given .1) (q .question .ensures))
 
 same-length : tie.Need-same-length
 same-length c = search needs

@@ -27,17 +27,24 @@ some-row : (s : tie.Start) → 1 ≤ s .args .k
 some-row s = omega (arith, s .pre .1 .well-formed .some-row, rows-length (now (s .args .f)) (s .args .k))
 
 -- the graph was built, and is read back
-built : (c : tie.After-known-told) → let s = c .before .before .before .before .before .before .before .before .before .before .before in WasBuilt (graphFor (question s)) (now (s .args .bytes)) (length (now (s .args .values))) (c .before .long .given .0 .0)
+abbrev start : tie.After-known-told → tie.Start
+start c = c .before .before .before .before .before .before .before .before .before .before .before
+
+built : (c : tie.After-known-told) → let a = start c .args in
+    WasBuilt (graphFor (question (start c))) (now (a .bytes)) (length (now (a .values))) (c .before .long .given .0 .0)
 built c = was-built _ _ _ (by (c .before .before .before .before .before .build .ensures .0) (c .before .long .given .1))
 
-reads : (c : tie.After-known-told) → let g = graphFor (question (c .before .before .before .before .before .before .before .before .before .before .before)) in readGraph (writeGraph g) ≡ good g
-reads c = let s = c .before .before .before .before .before .before .before .before .before .before .before in reads-back (question s) (s .pre .0 .well-formed) (s .pre .1 .well-formed) (built c .fitting)
+reads : (c : tie.After-known-told) → let g = graphFor (question (start c)) in readGraph (writeGraph g) ≡ good g
+reads c = let s = start c in reads-back (question s) (s .pre .0 .well-formed) (s .pre .1 .well-formed) (built c .fitting)
 
 -- what the rounds on it ended in is passed on
-ran : (c : tie.After-solve) (r : Outcome) → c .solve .result ≡ r → let s = c .before .before .before .before .before .before .before .before .before .before .before .before .before .before in Shows (question s) (s .args .budget) (now (s .args .bytes)) (now (s .args .values)) (passed (question s) (c .before .before .before .before .long .given .0 .0) r) (c .before .before .before .before .before .before .before .before .build .last .1 .1 .1 .1 .1 .1 .1 .0) (c .solve .last .1 .1 .0)
+ran : (c : tie.After-solve) (r : Outcome) → c .solve .result ≡ r → let k = c .before .before .before in let s = start k in
+    Shows (question s) (s .args .budget) (now (s .args .bytes)) (now (s .args .values)) (passed (question s) (k .before .long .given .0 .0) r)
+    (k .before .before .before .before .before .build .last .1 .1 .1 .1 .1 .1 .1 .0) (c .solve .last .1 .1 .0)
 ran c r e =
     let k = c .before .before .before in
-    shows-ran _ _ _ _ (reads k) (built k) _ _ _ _ (front (built k) (c .before .before .before .before .before .before .before .before .build .ensures .1)) (c .before .before .before .before .before .before .before .before .build .ensures .1) (by e (c .solve .ensures .0)) (c .solve .ensures .1 .0)
+    let room = k .before .before .before .before .before .build .ensures .1 in
+    shows-ran _ _ _ _ (reads k) (built k) _ _ _ _ (front (built k) room) room (by e (c .solve .ensures .0)) (c .solve .ensures .1 .0)
 
 build-requires : tie.Need-build-requires
 build-requires c κs = (c .before .before .before .before .before .pre .0, (c .before .before .before .before .before .pre .1, ?))
