@@ -18,6 +18,7 @@ use Rattle.model.specs.WellFormed as model
 use Rattle.formula.specs.WellFormed as formula
 use Rattle.formula.proofs.Trees.{ordered}
 use Rattle.runs.proofs.Proper.{proper}
+use Rattle.reduction.proofs.Stands.{node-lt}
 use Rattle.reduction.proofs.Verdict.{yes-exactly}
 use Rattle.verdict.specs.declared.Verdict.{Verdict}
 use Rattle.verdict.specs.declared.Verdict.the-variants as Verdict
@@ -43,6 +44,10 @@ test-zero x = (
   λ e. stored-zero x .0 (eqb-true (stored x) 0 (sym (zero-test x) ∙ e)),
   λ e. zero-test x ∙ eq-eqb (stored x) 0 (stored-zero x .1 e),
 )
+
+-- the root row's node of a state is a node
+pub root-inside : (q : Question) → 1 ≤ length (q .rows) → (a : ℕ) → a < q .model .states → rootNode q a < graphFor q .nodes
+root-inside q some a l = node-lt (q .model) (q .rows) l (omega arith)
 
 module _ (q : Question) (m : model.WellFormed (q .model)) (f : formula.WellFormed (q .model .propositions) (q .rows)) where
   -- in a round that the next leaves unchanged
@@ -74,11 +79,11 @@ module _ (q : Question) (m : model.WellFormed (q .model)) (f : formula.WellForme
       both false e t = clash t refl
 
   -- and all states' in one settled room
-  pub all-when : (i : ℕ) (b : List ℕ) → Settled (graphFor q) i → rootNode q (q .model .states) ≤ graphFor q .nodes → (a : ℕ) → a < q .model .states
+  pub all-when : (i : ℕ) (b : List ℕ) → Settled (graphFor q) i → (a : ℕ) → a < q .model .states
       → (getD (filled (graphFor q) i b) (rootNode q 0 + a) 0 ≡ 0) ↔ Satisfies q a
-  all-when i b settled inside a l =
+  all-when i b settled a l =
       let e : rootNode q 0 + a ≡ rootNode q a = omega arith in
       let r = at-root i settled a l in
       let z = stored-zero (rounds (graphFor q) i (rootNode q a)) in
-      let at = filled-at (graphFor q) i b (rootNode q a) (omega arith) in
+      let at = filled-at (graphFor q) i b (rootNode q a) (root-inside q (f .some-row) a l) in
       rw (e, at) (λ k. r .0 (z .0 k), λ s. z .1 (r .1 s))

@@ -1,9 +1,9 @@
 -- A question that stands: what building its graph and settling it gives is what the definitions say. Assumes nothing.
-use Prim.Native.Nat.{ℕ, _+_, _≤_, min}
+use Prim.Native.Nat.{ℕ, _+_, _*_, _-_, _≤_, min}
 use mathlib.Core.List.{List, _++_}
 use mathlib.Core.Bool.{Bool, true, false, cond}
 use mathlib.Core.Path.{_≡_, refl, ap, _∙_}
-use lib.ListN.{length, take, drop}
+use lib.ListN.{length, take, drop, length-append}
 use lib.Seq.{take-at}
 use lib.Dec.{leb}
 use borrow.Author.Tests.{leb-true, le-ltb}
@@ -21,10 +21,13 @@ use Rattle.rounds.specs.declared.Outcome.the-variants as Outcome
 use Rattle.rounds.specs.Outcome as rounds
 use Rattle.build.specs.declared.Built.{Built}
 use Rattle.build.specs.declared.Built.the-variants as Built
+use Rattle.build.specs.Held.{heldModel}
+use Rattle.build.proofs.Accepted.{rows-length}
 use Rattle.build.specs.Built.{fits, roomy, builtOf, roomOf}
 use Rattle.verdict.specs.declared.Settled.{Settled}
 use Rattle.verdict.specs.declared.Settled.the-variants as Settled
 use Rattle.verdict.specs.Question.{Question, graphFor, rootNode}
+use Rattle.verdict.specs.Asking.{heldQuestion}
 use Rattle.verdict.specs.Answer.{settledFor, bytesFor, valuesFor}
 
 -- a graph that was built passes no limit, and both rooms are large enough
@@ -43,10 +46,30 @@ was-built g b n {long} e = go (fits g) (roomy g b n) refl refl e
     go true false p q z = let w : _≡_ {A = ℕ} 0 1 = cc in absurd (omega arith)
     go false u p q z = let w : _≡_ {A = ℕ} 0 1 = cc in absurd (omega arith)
 
+-- the front of its room is the message
+module _ {g : Graph} {b : List ℕ} {n long : ℕ} (built : WasBuilt g b n long) where
+  pub front : {b′ : List ℕ} → b′ ≡ roomOf g b n → take long b′ ≡ writeGraph g
+  unfolding roomOf
+  front r = rw (r, built .fitting, built .room, built .long-is) (take-at (writeGraph g) _ _ refl)
+
+  pub front-inside : {b′ : List ℕ} → b′ ≡ roomOf g b n → long ≤ length b′
+  unfolding roomOf
+  front-inside r = rw (r, built .fitting, built .room, built .long-is, length-append (writeGraph g)) (omega arith)
+
+-- how an outcome of the rounds is passed on
+abbrev pub passed : Question → ℕ → Outcome → Settled
+passed q long (Outcome.Settled m) = Settled.Done m long (rootNode q 0) (q .model .states)
+passed q long (Outcome.Spent m) = Settled.Spent m long
+passed q long (Outcome.Refused e) = Settled.Refused e
+
 module _ (q : Question) (budget : ℕ) (b v : List ℕ) where
   -- what is shown of settling a question
   abbrev pub Shows : Settled → List ℕ → List ℕ → Type 0
   Shows r b′ v′ = (r ≡ settledFor q budget b v) × ((b′ ≡ bytesFor q b v) × (v′ ≡ valuesFor q budget b v))
+
+  -- the same answer
+  pub shows-as : {r r′ : Settled} {b′ v′ : List ℕ} → r′ ≡ r → Shows r b′ v′ → Shows r′ b′ v′
+  shows-as e s = (e ∙ s .0, s .1)
 
   -- the graph was refused
   pub shows-refused : {e : Refusal} {b′ : List ℕ} → builtOf (graphFor q) b (length v) ≡ Built.Refused e → b′ ≡ roomOf (graphFor q) b (length v)
@@ -71,11 +94,6 @@ module _ (q : Question) (budget : ℕ) (b v : List ℕ) where
 
   -- the graph was built, and the rounds on its message ended
   module _ (reads : readGraph (writeGraph (graphFor q)) ≡ good (graphFor q)) {long : ℕ} (built : WasBuilt (graphFor q) b (length v) long) where
-    -- the front of the room is the message
-    pub front : {b′ : List ℕ} → b′ ≡ roomOf (graphFor q) b (length v) → take long b′ ≡ writeGraph (graphFor q)
-    unfolding roomOf
-    front r = rw (r, built .fitting, built .room, built .long-is) (take-at (writeGraph (graphFor q)) _ _ refl)
-
     long-room : graphFor q .nodes + graphFor q .nodes ≤ length v
     unfolding roomy
     long-room = leb-true _ _ (and-right (leb (length (writeGraph (graphFor q))) (length b)) _ (built .room))
@@ -89,20 +107,22 @@ module _ (q : Question) (budget : ℕ) (b v : List ℕ) where
     unfolding rounds.roomOf rounds.roomOn
     room-is s e = rw (e, reads, le-ltb (length v) _ long-room)
 
-    -- how an outcome of the rounds is passed on
-    abbrev pub passed : Outcome → Settled
-    passed (Outcome.Settled m) = Settled.Done m long (rootNode q 0) (q .model .states)
-    passed (Outcome.Spent m) = Settled.Spent m long
-    passed (Outcome.Refused e) = Settled.Refused e
-
     pub shows-ran : (s b′ v′ : List ℕ) (r : Outcome) → s ≡ writeGraph (graphFor q) → b′ ≡ roomOf (graphFor q) b (length v)
-        → r ≡ rounds.outcomeOf (readGraph s) budget v → v′ ≡ rounds.roomOf (readGraph s) budget v → Shows (passed r) b′ v′
+        → r ≡ rounds.outcomeOf (readGraph s) budget v → v′ ≡ rounds.roomOf (readGraph s) budget v → Shows (passed q long r) b′ v′
     unfolding settledFor bytesFor valuesFor roomOf rounds.ended
     shows-ran s b′ v′ r e rb ro rv =
         rw (built .fitting, built .room)
-        (ap passed (ro ∙ outcome-is s e) ∙ go (leb (count (graphFor q)) budget), (rb ∙ rw (built .fitting, built .room), rv ∙ room-is s e))
+        (ap (passed q long) (ro ∙ outcome-is s e) ∙ go (leb (count (graphFor q)) budget), (rb ∙ rw (built .fitting, built .room), rv ∙ room-is s e))
       where
-        go : (t : Bool) → passed (cond t (Outcome.Settled (count (graphFor q))) (Outcome.Spent budget))
+        go : (t : Bool) → passed q long (cond t (Outcome.Settled (count (graphFor q))) (Outcome.Spent budget))
             ≡ cond t (Settled.Done (count (graphFor q)) (length (writeGraph (graphFor q))) (rootNode q 0) (q .model .states)) (Settled.Spent budget (length (writeGraph (graphFor q))))
         go true = ap (λ (k : ℕ). Settled.Done (count (graphFor q)) k (rootNode q 0) (q .model .states)) (built .long-is)
         go false = ap (Settled.Spent budget) (built .long-is)
+
+-- the root's node of state 0 and the states of a question that the bytes hold, as the counts tell them
+pub held-done : (m : List ℕ) (n p t : ℕ) (f : List ℕ) (k rounds long : ℕ)
+    → Settled.Done rounds long (n * (k - 1)) n ≡ passed (heldQuestion m n p t f k) long (Outcome.Settled rounds)
+unfolding heldModel
+held-done m n p t f k rounds long =
+    let root : n * (k - 1) ≡ rootNode (heldQuestion m n p t f k) 0 = rw (rows-length f k) (omega arith) in
+    ap (λ (r : ℕ). Settled.Done rounds long r n) root

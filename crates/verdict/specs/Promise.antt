@@ -1,9 +1,9 @@
 -- What the customer is promised of a verdict, in the words of the demands.
-use Prim.Native.Nat.{ℕ, _+_, _<_}
+use Prim.Native.Nat.{ℕ, _+_, _≤_, _<_}
 use mathlib.Core.List.{List}
 use mathlib.Core.Path.{_≡_}
 use mathlib.Core.Logic.{_↔_}
-use lib.ListN.{getD}
+use lib.ListN.{length, getD}
 use Rattle.model.specs.Write.{writeModel}
 use Rattle.model.specs.WellFormed as model
 use Rattle.formula.specs.Formula.{rootOf}
@@ -42,6 +42,7 @@ pub record DecidesAll (m f : List ℕ) (values : List ℕ) (first states : ℕ) 
   pub question : Question
   pub asked : Asks m f question
   pub all : states ≡ question .model .states
+  pub inside : first + states ≤ length values
   pub yes : (state : ℕ) → state < states → (getD values (first + state) 0 ≡ 0) ↔ Satisfies question state
 
 -- a refusal but BUDGET leaves both rooms as they came

@@ -1,7 +1,13 @@
 // The whole question: a model, a formula, a state and a budget; yes, no, or a refusal.
 ghost use mathlib.Core.Path.{_≡_};
-ghost use Rattle.verdict.specs.Answer.{answerNumber, answerVerdict, answerCount, answerLength};
+ghost use Rattle.build.specs.Held.{HoldsModel, HoldsRows};
+ghost use Rattle.verdict.specs.Answer.{answerNumber, answerVerdict, answerCount, answerLength, settledFor, bytesFor, valuesFor, settledOf, answerOf, bytesOf, valuesOf};
+ghost use Rattle.verdict.specs.Asking.{Asking, heldQuestion};
+ghost use Rattle.verdict.specs.Promise.{Promise, PromiseAll};
+ghost use Rattle.verdict.specs.Question.{readQuestion, readAsked};
+use build::Built;
 use refusal::Refusal;
+use rounds::Outcome;
 
 // Yes, no, or none where there is no verdict.
 pub enum Verdict {
@@ -72,6 +78,101 @@ impl Answer {
             Answer::Decided(_, _, n) => n,
             Answer::Spent(_, n) => n,
             Answer::Refused(_) => 0,
+        }
+    }
+}
+
+// The model first, then the formula with the model's p.
+fn question(m: &[u8], f: &[u8]) -> Asked
+    ensures { λ r. ⌜ Asking (now (m .entry)) (now (f .entry)) r ⌝ }
+{
+    match model::check(m) {
+        model::Checked::Refused(e) => Asked::Refused(e),
+        model::Checked::Model(n, p, t) => match formula::check(f, p) {
+            formula::Checked::Refused(e) => Asked::Refused(e),
+            formula::Checked::Formula(k) => Asked::Question(n, p, t, k),
+        },
+    }
+}
+
+// Builds the graph of an accepted question and settles it, once for all states.
+fn settle_question(
+    m: &[u8],
+    n: u32,
+    p: u32,
+    t: u32,
+    f: &[u8],
+    k: u32,
+    budget: u32,
+    bytes: &mut [u8],
+    values: &mut [u64],
+) -> Settled
+    requires { ⌜ HoldsModel (now m) n p t ⌝ }
+    requires { ⌜ HoldsRows (now f) k p ⌝ }
+    ensures { λ r. ⌜ r ≡ settledFor (heldQuestion (now (m .entry)) n p t (now (f .entry)) k) budget (now (bytes .entry)) (now (values .entry)) ⌝ }
+    ensures { λ _. ⌜ now (bytes .exit) ≡ bytesFor (heldQuestion (now (m .entry)) n p t (now (f .entry)) k) (now (bytes .entry)) (now (values .entry)) ⌝ }
+    ensures { λ _. ⌜ now (values .exit) ≡ valuesFor (heldQuestion (now (m .entry)) n p t (now (f .entry)) k) budget (now (bytes .entry))
+        (now (values .entry)) ⌝ }
+{
+    let room = values.len();
+    let long = match build::build(m, n, p, t, f, k, room, bytes) {
+        Built::Graph(long) => long,
+        Built::Refused(e) => return Settled::Refused(e),
+    };
+    let first = n * (k - 1);
+    match rounds::solve(&bytes[..long], budget, values) {
+        Outcome::Settled(count) => Settled::Done(count, long, first, n),
+        Outcome::Spent(count) => Settled::Spent(count, long),
+        Outcome::Refused(e) => Settled::Refused(e),
+    }
+}
+
+// All states' answers from one settled room: the number of state a's node is 0 exactly when a satisfies the formula.
+pub fn settle(m: &[u8], f: &[u8], budget: u32, bytes: &mut [u8], values: &mut [u64]) -> Settled
+    ensures { λ r. ⌜ r ≡ settledOf (readQuestion (now (m .entry)) (now (f .entry))) budget (now (bytes .entry)) (now (values .entry)) ⌝ }
+    ensures { λ _. ⌜ now (bytes .exit) ≡ bytesOf (readQuestion (now (m .entry)) (now (f .entry))) (now (bytes .entry)) (now (values .entry)) ⌝ }
+    ensures { λ _. ⌜ now (values .exit) ≡ valuesOf (readQuestion (now (m .entry)) (now (f .entry))) budget (now (bytes .entry)) (now (values .entry)) ⌝ }
+    ensures { λ r. ⌜ PromiseAll (now (m .entry)) (now (f .entry)) (now (bytes .entry)) (now (values .entry)) (now (bytes .exit)) (now (values .exit)) r ⌝ }
+{
+    match question(m, f) {
+        Asked::Refused(e) => Settled::Refused(e),
+        Asked::Question(n, p, t, k) => settle_question(m, n, p, t, f, k, budget, bytes, values),
+    }
+}
+
+// The verdict on one state.
+pub fn decide(
+    m: &[u8],
+    f: &[u8],
+    state: u32,
+    budget: u32,
+    bytes: &mut [u8],
+    values: &mut [u64],
+) -> Answer
+    ensures { λ r. ⌜ r ≡ answerOf (readAsked (now (m .entry)) (now (f .entry)) state) state budget (now (bytes .entry)) (now (values .entry)) ⌝ }
+    ensures { λ _. ⌜ now (bytes .exit) ≡ bytesOf (readAsked (now (m .entry)) (now (f .entry)) state) (now (bytes .entry)) (now (values .entry)) ⌝ }
+    ensures { λ _. ⌜ now (values .exit) ≡ valuesOf (readAsked (now (m .entry)) (now (f .entry)) state) budget (now (bytes .entry))
+        (now (values .entry)) ⌝ }
+    ensures { λ r. ⌜ Promise (now (m .entry)) (now (f .entry)) state (now (bytes .entry)) (now (values .entry)) (now (bytes .exit))
+        (now (values .exit)) r ⌝ }
+{
+    match question(m, f) {
+        Asked::Refused(e) => Answer::Refused(e),
+        Asked::Question(n, p, t, k) => {
+            if n <= state {
+                return Answer::Refused(Refusal::Name);
+            }
+            match settle_question(m, n, p, t, f, k, budget, bytes, values) {
+                Settled::Done(count, long, first, _) => {
+                    let node = (first + state) as usize;
+                    if values[node] == 0 {
+                        return Answer::Decided(Verdict::Yes, count, long);
+                    }
+                    Answer::Decided(Verdict::No, count, long)
+                }
+                Settled::Spent(count, long) => Answer::Spent(count, long),
+                Settled::Refused(e) => Answer::Refused(e),
+            }
         }
     }
 }

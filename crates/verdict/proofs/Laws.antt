@@ -1,0 +1,50 @@
+-- Laws of the whole question: there is one answer and one content of both rooms, a budget that always settles, and one question that the
+-- messages write. Assumes nothing.
+use Prim.Native.Nat.{ℕ, _≤_}
+use mathlib.Core.List.{List}
+use mathlib.Core.Bool.{true}
+use mathlib.Core.Path.{_≡_, sym, _∙_}
+use lib.ListN.{length}
+use borrow.Author.Tests.{le-leb}
+use native.Mathlib.Omega.{arith}
+use Rattle.lists.proofs.Tests.{by}
+use Rattle.wire.specs.Read.{Read}
+use Rattle.rules.specs.Count.{count, enough}
+use Rattle.rules.proofs.Count.{count-le}
+use Rattle.graph.specs.Write.{writeGraph}
+use Rattle.model.proofs.Exact as model
+use Rattle.formula.proofs.Exact as formula
+use Rattle.build.specs.Built.{fits, roomy}
+use Rattle.verdict.specs.declared.Answer.{Answer}
+use Rattle.verdict.specs.declared.Settled.{Settled}
+use Rattle.verdict.specs.declared.Settled.the-variants.{Done}
+use Rattle.verdict.specs.Question.{Question, graphFor, rootNode}
+use Rattle.verdict.specs.Answer.{settledFor, settledOf, answerOf, bytesOf, valuesOf}
+use Rattle.verdict.specs.Promise.{Asks}
+
+-- two that satisfy the contract of `decide` are equal
+pub one-answer : (x : Read Question) (state budget : ℕ) (b v : List ℕ) {r r′ : Answer} {a a′ w w′ : List ℕ}
+    → r ≡ answerOf x state budget b v → r′ ≡ answerOf x state budget b v → a ≡ bytesOf x b v → a′ ≡ bytesOf x b v → w ≡ valuesOf x budget b v
+    → w′ ≡ valuesOf x budget b v → (r ≡ r′) × (a ≡ a′) × (w ≡ w′)
+one-answer x state budget b v p p′ q q′ s s′ = (p ∙ sym p′, q ∙ sym q′, s ∙ sym s′)
+
+-- and two that satisfy that of `settle`
+pub one-settling : (x : Read Question) (budget : ℕ) (b v : List ℕ) {r r′ : Settled} {a a′ w w′ : List ℕ}
+    → r ≡ settledOf x budget b v → r′ ≡ settledOf x budget b v → a ≡ bytesOf x b v → a′ ≡ bytesOf x b v → w ≡ valuesOf x budget b v
+    → w′ ≡ valuesOf x budget b v → (r ≡ r′) × (a ≡ a′) × (w ≡ w′)
+one-settling x budget b v p p′ q q′ s s′ = (p ∙ sym p′, q ∙ sym q′, s ∙ sym s′)
+
+-- a budget of n (c + 1) rounds is never spent: where the graph passes no limit and both rooms are large enough, the question settles
+pub always-settles : (q : Question) (budget : ℕ) (b v : List ℕ) → fits (graphFor q) ≡ true → roomy (graphFor q) b (length v) ≡ true
+    → enough (graphFor q) ≤ budget
+    → settledFor q budget b v ≡ Done (count (graphFor q)) (length (writeGraph (graphFor q))) (rootNode q 0) (q .model .states)
+unfolding settledFor
+always-settles q budget b v fitting room h =
+    rw (fitting, room, le-leb (count (graphFor q)) budget (omega (arith, count-le (graphFor q))))
+
+-- the messages are the writings of one question only, so a promise that speaks of some question speaks of that one
+pub one-question : {m f : List ℕ} {q q′ : Question} → Asks m f q → Asks m f q′ → q ≡ q′
+one-question a b =
+    let models = model.writing-tells (a .model-fits) (b .model-fits) (by (a .model-written) (b .model-written)) in
+    let rows = formula.writing-tells (a .formula-fits) (b .formula-fits) (by (a .formula-written) (b .formula-written)) in
+    λ i. record { model = models i; rows = rows i }
