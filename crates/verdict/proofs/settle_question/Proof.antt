@@ -47,7 +47,7 @@ ran c r e =
     shows-ran _ _ _ _ (reads k) (built k) _ _ _ _ (front (built k) room) room (by e (c .solve .ensures .0)) (c .solve .ensures .1 .0)
 
 build-requires : tie.Need-build-requires
-build-requires c κs = (c .before .before .before .before .before .pre .0, (c .before .before .before .before .before .pre .1, ?))
+build-requires c κs = (c .before .before .before .before .before .pre .0, c .before .before .before .before .before .pre .1)
 
 enum-known-long : tie.Need-enum-known-long
 enum-known-long c = search needs
