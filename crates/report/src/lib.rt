@@ -2,6 +2,7 @@
 ghost use mathlib.Core.Path.{_≡_};
 ghost use Prim.Native.Nat.{_+_, _*_, _≤_};
 ghost use lib.ListN.{length};
+ghost use Rattle.io.specs.Counts.{Counts};
 ghost use Rattle.wire.specs.Laid.{Laid};
 ghost use Rattle.verdict.specs.Question.{readQuestion};
 ghost use Rattle.verdict.specs.Answer.{bytesOf};
@@ -109,4 +110,39 @@ fn put_settled(
     let rounds = text::put_word(out, end, b"\n");
     let states = put_rounds(out, rounds, count);
     put_states(out, states, values, first as usize, n)
+}
+
+// The output for a model and a formula.
+fn answer(m: &[u8], f: &[u8], bytes: &mut [u8], values: &mut [u64], out: &mut [u8]) -> usize
+    requires { ⌜ 8192 ≤ length (now out) ⌝ }
+    ensures { λ r. ⌜ Laid (now (out .entry)) 0 (outputOf (readQuestion (now (m .entry)) (now (f .entry))) (now (bytes .entry)) (now (values .entry)))
+        (now (out .exit)) r ⌝ }
+    ensures { λ _. ⌜ now (bytes .exit) ≡ bytesOf (readQuestion (now (m .entry)) (now (f .entry))) (now (bytes .entry)) (now (values .entry)) ⌝ }
+    ensures { λ _. ⌜ now (values .exit) ≡ leftOf (readQuestion (now (m .entry)) (now (f .entry))) (now (bytes .entry)) (now (values .entry)) ⌝ }
+{
+    match verdict::settle(m, f, u32::MAX, bytes, values) {
+        Settled::Done(count, _, first, n) => {
+            let p = wire::number_at(m, 8, Width::One);
+            put_settled(f, p, count, values, first, n, out)
+        }
+        Settled::Spent(_, _) => put_refused(out, Refusal::Budget),
+        Settled::Refused(e) => put_refused(out, e),
+    }
+}
+
+// The program's output for its input, at the front of a room of at least 8,192 bytes; its length is returned.
+pub fn report(input: &[u8], bytes: &mut [u8], values: &mut [u64], out: &mut [u8]) -> usize
+    ensures { λ r. ⌜ r ≡ reportLength (readInput (now (input .entry))) (now (bytes .entry)) (now (values .entry)) (now (out .entry)) ⌝ }
+    ensures { λ _. ⌜ now (out .exit) ≡ reportOut (readInput (now (input .entry))) (now (bytes .entry)) (now (values .entry)) (now (out .entry)) ⌝ }
+    ensures { λ _. ⌜ now (bytes .exit) ≡ reportBytes (readInput (now (input .entry))) (now (bytes .entry)) (now (values .entry)) (now (out .entry)) ⌝ }
+    ensures { λ _. ⌜ now (values .exit) ≡ reportValues (readInput (now (input .entry))) (now (bytes .entry)) (now (values .entry)) (now (out .entry)) ⌝ }
+    ensures { λ r. ⌜ Counts r (now (out .exit)) ⌝ }
+{
+    if out.len() < 8192 {
+        return 0;
+    }
+    match model_end(input) {
+        Cut::Refused(e) => put_refused(out, e),
+        Cut::At(k) => answer(&input[..k], &input[k..], bytes, values, out),
+    }
 }
