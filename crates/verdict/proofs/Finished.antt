@@ -17,12 +17,12 @@ use Rattle.graph.specs.Write.{writeGraph}
 use Rattle.rounds.specs.Outcome.{filled}
 use Rattle.rounds.proofs.Promised.{stored-length, filled-at}
 use Rattle.build.specs.Built.{fits, roomy}
+use Rattle.build.proofs.Writing.{fits-each}
 use Rattle.verdict.specs.declared.Verdict.the-variants as Verdict
 use Rattle.verdict.specs.declared.Answer.the-variants as Answer
 use Rattle.verdict.specs.declared.Settled.the-variants as Settled
 use Rattle.verdict.specs.Question.{Question, graphFor, rootNode}
 use Rattle.verdict.specs.Answer.{settledFor, valuesFor, verdictOf, decided}
-use Rattle.verdict.proofs.Fitting.{fits-each}
 use Rattle.verdict.proofs.Deciding.{zero-test, root-inside}
 
 pub record Finished (q : Question) (budget : ℕ) (b v : List ℕ) (m first states : ℕ) : Type 0 where
