@@ -1,12 +1,8 @@
--- The built graph of an accepted question that passes no limit: it is well-formed, so its message is read back, and its count is
--- the first unchanged round. Assumes nothing.
+-- The built graph of an accepted question that passes no limit: it is well-formed, so its message is read back. Assumes nothing.
 use Prim.Native.Nat.{ℕ}
 use mathlib.Core.Bool.{true}
 use mathlib.Core.Path.{_≡_}
 use Rattle.wire.specs.Read.{good}
-use Rattle.rules.specs.Rounds.{Settled}
-use Rattle.rules.specs.Count.{count}
-use Rattle.rules.proofs.Count.{count-first}
 use Rattle.graph.specs.Message.{readGraph}
 use Rattle.graph.specs.Write.{writeGraph}
 use Rattle.graph.specs.WellFormed as graph
@@ -24,6 +20,3 @@ module _ (q : Question) {p : ℕ} (m : model.WellFormed (q .model)) (f : formula
 
   pub reads-back : readGraph (writeGraph (graphFor q)) ≡ good (graphFor q)
   reads-back = written-accepted (graphFor q) fits-well
-
-  pub count-settles : Settled (graphFor q) (count (graphFor q))
-  count-settles = count-first (graphFor q) (fits-well .closed) .settled

@@ -132,7 +132,7 @@ pub fn settle(m: &[u8], f: &[u8], budget: u32, bytes: &mut [u8], values: &mut [u
     ensures { λ r. ⌜ r ≡ settledOf (readQuestion (now (m .entry)) (now (f .entry))) budget (now (bytes .entry)) (now (values .entry)) ⌝ }
     ensures { λ _. ⌜ now (bytes .exit) ≡ bytesOf (readQuestion (now (m .entry)) (now (f .entry))) (now (bytes .entry)) (now (values .entry)) ⌝ }
     ensures { λ _. ⌜ now (values .exit) ≡ valuesOf (readQuestion (now (m .entry)) (now (f .entry))) budget (now (bytes .entry)) (now (values .entry)) ⌝ }
-    ensures { λ r. ⌜ PromiseAll (now (m .entry)) (now (f .entry)) (now (bytes .entry)) (now (values .entry)) (now (bytes .exit)) (now (values .exit)) r ⌝ }
+    ensures { λ r. ⌜ PromiseAll (now (m .entry)) (now (f .entry)) budget (now (bytes .entry)) (now (values .entry)) (now (bytes .exit)) (now (values .exit)) r ⌝ }
 {
     match question(m, f) {
         Asked::Refused(e) => Settled::Refused(e),
@@ -153,7 +153,7 @@ pub fn decide(
     ensures { λ _. ⌜ now (bytes .exit) ≡ bytesOf (readAsked (now (m .entry)) (now (f .entry)) state) (now (bytes .entry)) (now (values .entry)) ⌝ }
     ensures { λ _. ⌜ now (values .exit) ≡ valuesOf (readAsked (now (m .entry)) (now (f .entry)) state) budget (now (bytes .entry))
         (now (values .entry)) ⌝ }
-    ensures { λ r. ⌜ Promise (now (m .entry)) (now (f .entry)) state (now (bytes .entry)) (now (values .entry)) (now (bytes .exit))
+    ensures { λ r. ⌜ Promise (now (m .entry)) (now (f .entry)) state budget (now (bytes .entry)) (now (values .entry)) (now (bytes .exit))
         (now (values .exit)) r ⌝ }
 {
     match question(m, f) {
