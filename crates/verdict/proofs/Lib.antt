@@ -5,6 +5,7 @@
 --     Deciding   yes exactly when the state satisfies the formula by its runs
 --     Finished   what an answer says of the graph and the two rooms, and how the verdict on a state is read there
 --     Promised   what the customer is promised follows from the definitions
+--     Building   the graph alone: what is answered, what is left in the room, and what is promised of it
 --     Answering  what is shown of a call, exit by exit
 --     Laws       there is one answer, a budget that always settles, and one question that the messages write
 pub mod Reading
@@ -13,5 +14,6 @@ pub mod Settling
 pub mod Deciding
 pub mod Finished
 pub mod Promised
+pub mod Building
 pub mod Answering
 pub mod Laws

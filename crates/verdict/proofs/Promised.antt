@@ -26,7 +26,7 @@ use Rattle.verdict.specs.declared.Settled.the-variants as Settled
 use Rattle.verdict.specs.Question.{Question, readQuestion, readAsked, graphFor, rootNode}
 use Rattle.verdict.specs.Answer.{settledFor, bytesFor, valuesFor, decided, settledOf, answerOf, bytesOf, valuesOf}
 use Rattle.verdict.specs.Promise.{Asks, Leaves, Settles, Spends, Promise, PromiseAll}
-use Rattle.verdict.proofs.Fitting.{fits-well}
+use Rattle.verdict.proofs.Fitting.{fits-well, stands}
 use Rattle.verdict.proofs.Deciding.{root-inside, yes-when, no-when, all-when}
 use Rattle.verdict.proofs.Finished.{Ran, Finished, Stopped, Ended, ended, filled-inside}
 
@@ -60,8 +60,7 @@ module _ (m f : List ℕ) (budget : ℕ) (b v : List ℕ) (q : Question) (asked 
 
   leaves : {k n : ℕ} → Ran q budget b v k n → Leaves q k b v (bytesFor q b v) (valuesFor q budget b v) n
   leaves {k} {n} ran = record {
-    long = ran .long-is;
-    graph = ran .bytes-are;
+    graph = stands q (asked .model-fits) (asked .formula-fits) (ran .fitting) b (ran .long-is) (ran .bytes-are);
     values = ran .values-are;
     small = rw (ran .values-are) (accepted-filled (writeGraph g) g k v refl (well ran) .small);
   }

@@ -4,11 +4,13 @@ use mathlib.Core.List.{List, _++_}
 use mathlib.Core.Bool.{true}
 use mathlib.Core.Path.{_≡_}
 use mathlib.Core.Logic.{_↔_}
-use lib.ListN.{length, getD, drop}
+use lib.ListN.{length, getD, take, drop}
 use Rattle.value.specs.Value.{finite, _≼_}
+use Rattle.wire.specs.Read.{good}
 use Rattle.rules.specs.Graph.{heaviest}
 use Rattle.rules.specs.Rounds.{Largest}
 use Rattle.rules.specs.Count.{enough, First}
+use Rattle.graph.specs.Message.{readGraph}
 use Rattle.graph.specs.Write.{writeGraph}
 use Rattle.rounds.specs.Outcome.{filled}
 use Rattle.rounds.specs.Room.{held}
@@ -18,6 +20,8 @@ use Rattle.formula.specs.Formula.{rootOf}
 use Rattle.formula.specs.Write.{writeFormula}
 use Rattle.formula.specs.WellFormed as formula
 use Rattle.runs.specs.Sat.{Sat}
+use Rattle.build.specs.declared.Built.{Built}
+use Rattle.build.specs.declared.Built.the-variants as Built
 use Rattle.verdict.specs.declared.Verdict.{Verdict}
 use Rattle.verdict.specs.declared.Verdict.the-variants as Verdict
 use Rattle.verdict.specs.declared.Answer.{Answer}
@@ -37,12 +41,19 @@ pub record Asks (m f : List ℕ) (q : Question) : Type 0 where
 abbrev pub Satisfies : Question → ℕ → Type 0
 Satisfies q state = Sat (q .model) (rootOf (q .rows)) state
 
--- what a verdict or a spent budget leaves in the two rooms after m rounds, with n the returned length
-pub record Leaves (q : Question) (m : ℕ) (b v b′ v′ : List ℕ) (n : ℕ) : Type 0 where
+-- the graph of the question stands in its room, with n the returned length
+pub record Stands (q : Question) (b b′ : List ℕ) (n : ℕ) : Type 0 where
   -- the length is that of the graph
   pub long : n ≡ length (writeGraph (graphFor q))
-  -- the graph stands at the front of its room, the rest untouched
-  pub graph : b′ ≡ writeGraph (graphFor q) ++ drop n b
+  -- it stands at the front, the rest untouched
+  pub front : b′ ≡ writeGraph (graphFor q) ++ drop n b
+  -- these bytes are accepted as a graph, and are read as this one
+  pub reads : readGraph (take n b′) ≡ good (graphFor q)
+
+-- what a verdict or a spent budget leaves in the two rooms after m rounds, with n the returned length
+pub record Leaves (q : Question) (m : ℕ) (b v b′ v′ : List ℕ) (n : ℕ) : Type 0 where
+  -- the graph stands at the front of its room
+  pub graph : Stands q b b′ n
   -- the values are round m and round m + 1, the rest as it came
   pub values : v′ ≡ filled (graphFor q) m v
   -- no finite value of the two is above the heaviest weight times one less than the nodes
@@ -107,6 +118,15 @@ pub record Spends (m f : List ℕ) (budget : ℕ) (b v b′ v′ : List ℕ) (k 
   -- the graph and the last two rounds stand in the rooms
   pub leaves : Leaves question budget b v b′ v′ n
 
+-- the graph alone was built
+pub record Builds (m f : List ℕ) (b b′ : List ℕ) (n : ℕ) : Type 0 where
+  -- the model and the formula
+  pub question : Question
+  -- the messages are their writings
+  pub asked : Asks m f question
+  -- the graph stands at the front of its room
+  pub graph : Stands question b b′ n
+
 -- a refusal but BUDGET leaves both rooms as they came
 abbrev pub Promise : (m f : List ℕ) (state budget : ℕ) (bytes values bytes′ values′ : List ℕ) → Answer → Type 0
 Promise m f state budget b v b′ v′ (Answer.Decided w k n) = Decides m f state budget b v b′ v′ w k n
@@ -117,3 +137,7 @@ abbrev pub PromiseAll : (m f : List ℕ) (budget : ℕ) (bytes values bytes′ v
 PromiseAll m f budget b v b′ v′ (Settled.Done k n first states) = DecidesAll m f budget b v b′ v′ k n first states
 PromiseAll m f budget b v b′ v′ (Settled.Spent k n) = Spends m f budget b v b′ v′ k n
 PromiseAll m f budget b v b′ v′ (Settled.Refused e) = (b′ ≡ b) × (v′ ≡ v)
+
+abbrev pub PromiseGraph : (m f : List ℕ) (bytes bytes′ : List ℕ) → Built → Type 0
+PromiseGraph m f b b′ (Built.Graph n) = Builds m f b b′ n
+PromiseGraph m f b b′ (Built.Refused e) = b′ ≡ b
