@@ -34,7 +34,7 @@ use Rattle.verdict.specs.Answer.{settledFor, valuesFor, settledOf, valuesOf}
 use Rattle.verdict.specs.declared.Settled.{Settled}
 use Rattle.verdict.specs.declared.Settled.the-variants as Settled
 use Rattle.verdict.proofs.Deciding.{zero-test}
-use Rattle.verdict.proofs.Finished.{Finished, finished, node-inside, node-holds}
+use Rattle.verdict.proofs.Finished.{ended-as, node-inside, node-holds}
 use Rattle.verdict.proofs.Laws.{always-settles}
 use Rattle.verdict.proofs.Promised.{asks}
 use Rattle.report.specs.Lines.{line, refusedLine, roundsLine, stateLine, statesLines, textIn, endedLines}
@@ -150,7 +150,7 @@ module _ (m f : List ℕ) (b v : List ℕ) where
         → (first + states ≤ length v′) × (states ≤ 256) × (9 ≤ length m) × (endedLines (readFormula (number 1 m 8) f) k v′ first states ≡ settledLines q k)
     unfolding endedLines settledLines statesLines textIn
     done-for {k} {n} {first} {states} q e vs h =
-        let fin = finished q most b v h in
+        let fin = ended-as q most b v h in
         let asked = asks m f q mb fb e in
         let parts = question-parts m f q e in
         let p = propositions-at m (q .model) (parts .0) in

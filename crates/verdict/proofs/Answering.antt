@@ -27,7 +27,7 @@ use Rattle.verdict.proofs.Promised.{kept-all, kept-one}
 abbrev pub ShownAll : (m f : List ℕ) (budget : ℕ) (b v : List ℕ) → Settled → List ℕ → List ℕ → Type 0
 ShownAll m f budget b v r b′ v′ =
     (r ≡ settledOf (readQuestion m f) budget b v)
-    × ((b′ ≡ bytesOf (readQuestion m f) b v) × ((v′ ≡ valuesOf (readQuestion m f) budget b v) × PromiseAll m f b v b′ v′ r))
+    × ((b′ ≡ bytesOf (readQuestion m f) b v) × ((v′ ≡ valuesOf (readQuestion m f) budget b v) × PromiseAll m f budget b v b′ v′ r))
 
 module _ (m f : List ℕ) (mb : Bytes m) (fb : Bytes f) (budget : ℕ) (b v : List ℕ) where
   shown-all : (r : Settled) (b′ v′ : List ℕ) → r ≡ settledOf (readQuestion m f) budget b v → b′ ≡ bytesOf (readQuestion m f) b v
@@ -50,7 +50,7 @@ module _ (m f : List ℕ) (mb : Bytes m) (fb : Bytes f) (budget : ℕ) (b v : Li
 abbrev pub Shown : (m f : List ℕ) (state budget : ℕ) (b v : List ℕ) → Answer → List ℕ → List ℕ → Type 0
 Shown m f state budget b v r b′ v′ =
     (r ≡ answerOf (readAsked m f state) state budget b v)
-    × ((b′ ≡ bytesOf (readAsked m f state) b v) × ((v′ ≡ valuesOf (readAsked m f state) budget b v) × Promise m f state b v b′ v′ r))
+    × ((b′ ≡ bytesOf (readAsked m f state) b v) × ((v′ ≡ valuesOf (readAsked m f state) budget b v) × Promise m f state budget b v b′ v′ r))
 
 module _ (m f : List ℕ) (mb : Bytes m) (fb : Bytes f) (state budget : ℕ) (b v : List ℕ) where
   shown : (r : Answer) (b′ v′ : List ℕ) → r ≡ answerOf (readAsked m f state) state budget b v → b′ ≡ bytesOf (readAsked m f state) b v

@@ -1,51 +1,22 @@
--- The built graph of an accepted question that passes no limit: it is well-formed, so its message is read back, and its count is
--- the first unchanged round. Assumes nothing.
+-- The built graph of an accepted question that passes no limit: it is well-formed, so its message is read back. Assumes nothing.
 use Prim.Native.Nat.{ℕ}
-use mathlib.Core.Bool.{Bool, true, _&&_}
-use mathlib.Core.Path.{_≡_}
-use lib.ListN.{length}
-use lib.Dec.{leb}
-use borrow.Author.Tests.{leb-true}
-use Rattle.lists.specs.Lists.{all}
-use Rattle.lists.proofs.Lists.{all-true}
-use Rattle.lists.proofs.Tests.{and-left, and-right}
+use mathlib.Core.List.{List, _++_}
+use mathlib.Core.Bool.{true}
+use mathlib.Core.Path.{_≡_, sym, ap, _∙_}
+use lib.ListN.{length, drop}
+use lib.Seq.{take-at}
 use Rattle.wire.specs.Read.{good}
-use Rattle.rules.specs.Graph.{Graph, Hyper}
-use Rattle.rules.specs.Rounds.{Settled}
-use Rattle.rules.specs.Count.{count}
-use Rattle.rules.proofs.Count.{count-first}
 use Rattle.graph.specs.Message.{readGraph}
 use Rattle.graph.specs.Write.{writeGraph}
 use Rattle.graph.specs.WellFormed as graph
-use Rattle.graph.specs.WellFormed.{targetsOf}
 use Rattle.graph.proofs.Exact.{written-accepted}
 use Rattle.model.specs.WellFormed as model
 use Rattle.formula.specs.WellFormed as formula
-use Rattle.reduction.specs.Built.{Fits}
 use Rattle.reduction.proofs.Built.{built-well-formed}
 use Rattle.build.specs.Built.{fits}
+use Rattle.build.proofs.Writing.{fits-each}
 use Rattle.verdict.specs.Question.{Question, graphFor}
-
--- what the test says, limit by limit
-pub fits-each : (g : Graph) → fits g ≡ true → Fits g
-unfolding fits
-fits-each g e =
-    let nodes = leb (g .nodes) 4096 in
-    let hypers = leb (length (g .hypers)) 65535 in
-    let targets = leb (targetsOf (g .hypers)) 262144 in
-    let few : Hyper → Bool = λ h. leb (length (h .targets)) 65535 in
-    let each = all few (g .hypers) in
-    let covers = leb (length (g .covers)) 4096 in
-    let rest = and-right nodes (hypers && (targets && (each && covers))) e in
-    let edges = and-right hypers (targets && (each && covers)) rest in
-    let last = and-right targets (each && covers) edges in
-    record {
-      nodes-fit = leb-true _ _ (and-left nodes _ e);
-      hypers-fit = leb-true _ _ (and-left hypers _ rest);
-      targets-fit = leb-true _ _ (and-left targets _ edges);
-      each-fits = λ {h} m. leb-true _ _ (all-true few (g .hypers) (and-left each covers last) h m);
-      covers-fit = leb-true _ _ (and-right each covers last);
-    }
+use Rattle.verdict.specs.Promise.{Stands}
 
 module _ (q : Question) {p : ℕ} (m : model.WellFormed (q .model)) (f : formula.WellFormed p (q .rows)) (e : fits (graphFor q) ≡ true) where
   pub fits-well : graph.WellFormed (graphFor q)
@@ -54,5 +25,10 @@ module _ (q : Question) {p : ℕ} (m : model.WellFormed (q .model)) (f : formula
   pub reads-back : readGraph (writeGraph (graphFor q)) ≡ good (graphFor q)
   reads-back = written-accepted (graphFor q) fits-well
 
-  pub count-settles : Settled (graphFor q) (count (graphFor q))
-  count-settles = count-first (graphFor q) (fits-well .closed) .settled
+  -- at the front of its room
+  pub stands : (b : List ℕ) {b′ : List ℕ} {n : ℕ} → n ≡ length (writeGraph (graphFor q)) → b′ ≡ writeGraph (graphFor q) ++ drop n b → Stands q b b′ n
+  stands b long front = record {
+    long = long;
+    front = front;
+    reads = ap readGraph (rw front (take-at (writeGraph (graphFor q)) _ _ (sym long))) ∙ reads-back;
+  }

@@ -14,12 +14,13 @@ use Rattle.rules.proofs.Count.{count-le}
 use Rattle.graph.specs.Write.{writeGraph}
 use Rattle.model.proofs.Exact as model
 use Rattle.formula.proofs.Exact as formula
+use Rattle.build.specs.declared.Built.{Built}
 use Rattle.build.specs.Built.{fits, roomy}
 use Rattle.verdict.specs.declared.Answer.{Answer}
 use Rattle.verdict.specs.declared.Settled.{Settled}
 use Rattle.verdict.specs.declared.Settled.the-variants.{Done}
 use Rattle.verdict.specs.Question.{Question, graphFor, rootNode}
-use Rattle.verdict.specs.Answer.{settledFor, settledOf, answerOf, bytesOf, valuesOf}
+use Rattle.verdict.specs.Answer.{settledFor, settledOf, answerOf, bytesOf, valuesOf, graphBuilt, graphRoom}
 use Rattle.verdict.specs.Promise.{Asks}
 
 -- two that satisfy the contract of `decide` are equal
@@ -33,6 +34,11 @@ pub one-settling : (x : Read Question) (budget : ℕ) (b v : List ℕ) {r r′ :
     → r ≡ settledOf x budget b v → r′ ≡ settledOf x budget b v → a ≡ bytesOf x b v → a′ ≡ bytesOf x b v → w ≡ valuesOf x budget b v
     → w′ ≡ valuesOf x budget b v → (r ≡ r′) × (a ≡ a′) × (w ≡ w′)
 one-settling x budget b v p p′ q q′ s s′ = (p ∙ sym p′, q ∙ sym q′, s ∙ sym s′)
+
+-- and two that satisfy that of `graph`
+pub one-graph : (x : Read Question) (b : List ℕ) {r r′ : Built} {a a′ : List ℕ}
+    → r ≡ graphBuilt x b → r′ ≡ graphBuilt x b → a ≡ graphRoom x b → a′ ≡ graphRoom x b → (r ≡ r′) × (a ≡ a′)
+one-graph x b p p′ q q′ = (p ∙ sym p′, q ∙ sym q′)
 
 -- a budget of n (c + 1) rounds is never spent: where the graph passes no limit and both rooms are large enough, the question settles
 pub always-settles : (q : Question) (budget : ℕ) (b v : List ℕ) → fits (graphFor q) ≡ true → roomy (graphFor q) b (length v) ≡ true

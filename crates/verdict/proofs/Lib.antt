@@ -1,10 +1,11 @@
 -- Laws of the whole question.
 --     Reading    the reading of a question, from the answers of the two checks
---     Fitting    a built graph that passes no limit is well-formed, its message is read back, and its count settles
+--     Fitting    a built graph that passes no limit is well-formed, and its message is read back
 --     Settling   what building and settling gives is what the definitions say
 --     Deciding   yes exactly when the state satisfies the formula by its runs
---     Finished   what settling says of the room of values, and how the verdict on a state is read there
+--     Finished   what an answer says of the graph and the two rooms, and how the verdict on a state is read there
 --     Promised   what the customer is promised follows from the definitions
+--     Building   the graph alone: what is answered, what is left in the room, and what is promised of it
 --     Answering  what is shown of a call, exit by exit
 --     Laws       there is one answer, a budget that always settles, and one question that the messages write
 pub mod Reading
@@ -13,5 +14,6 @@ pub mod Settling
 pub mod Deciding
 pub mod Finished
 pub mod Promised
+pub mod Building
 pub mod Answering
 pub mod Laws

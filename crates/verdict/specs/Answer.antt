@@ -12,6 +12,8 @@ use Rattle.rules.specs.Rounds.{rounds}
 use Rattle.rules.specs.Count.{count}
 use Rattle.graph.specs.Write.{writeGraph}
 use Rattle.rounds.specs.Outcome.{filled}
+use Rattle.build.specs.declared.Built.{Built}
+use Rattle.build.specs.declared.Built.the-variants as Built
 use Rattle.build.specs.Built.{fits, roomy}
 use Rattle.verdict.specs.declared.Verdict.{Verdict}
 use Rattle.verdict.specs.declared.Verdict.the-variants as Verdict
@@ -41,6 +43,31 @@ abbrev pub answerLength : Answer → ℕ
 answerLength (Answer.Decided v m n) = n
 answerLength (Answer.Spent m n) = n
 answerLength (Answer.Refused e) = 0
+
+-- and of all states at once
+abbrev pub settledNumber : Settled → ℕ
+settledNumber (Settled.Done m n first states) = ok
+settledNumber (Settled.Spent m n) = numberOf Budget
+settledNumber (Settled.Refused e) = numberOf e
+
+abbrev pub settledCount : Settled → ℕ
+settledCount (Settled.Done m n first states) = m
+settledCount (Settled.Spent m n) = m
+settledCount (Settled.Refused e) = 0
+
+abbrev pub settledLength : Settled → ℕ
+settledLength (Settled.Done m n first states) = n
+settledLength (Settled.Spent m n) = n
+settledLength (Settled.Refused e) = 0
+
+-- and of a graph alone
+abbrev pub builtNumber : Built → ℕ
+builtNumber (Built.Graph n) = ok
+builtNumber (Built.Refused e) = numberOf e
+
+abbrev pub builtLength : Built → ℕ
+builtLength (Built.Graph n) = n
+builtLength (Built.Refused e) = 0
 
 -- a question that stands: SIZE, then the two rooms, and only then BUDGET
 unfoldable pub settledFor : Question → (budget : ℕ) → (bytes values : List ℕ) → Settled
@@ -91,3 +118,18 @@ bytesOf (bad e) b v = b
 unfoldable pub valuesOf : Read Question → (budget : ℕ) → (bytes values : List ℕ) → List ℕ
 valuesOf (good q) budget b v = valuesFor q budget b v
 valuesOf (bad e) budget b v = v
+
+-- the graph alone: SIZE, then ROOM where its message is longer than its room
+unfoldable pub graphBuilt : Read Question → (bytes : List ℕ) → Built
+graphBuilt (good q) b =
+    cond (fits (graphFor q))
+    (cond (leb (length (writeGraph (graphFor q))) (length b)) (Built.Graph (length (writeGraph (graphFor q)))) (Built.Refused Room))
+    (Built.Refused Size)
+graphBuilt (bad e) b = Built.Refused e
+
+unfoldable pub graphRoom : Read Question → (bytes : List ℕ) → List ℕ
+graphRoom (good q) b =
+    cond (fits (graphFor q))
+    (cond (leb (length (writeGraph (graphFor q))) (length b)) (writeGraph (graphFor q) ++ drop (length (writeGraph (graphFor q))) b) b)
+    b
+graphRoom (bad e) b = b

@@ -1,9 +1,9 @@
 // The whole question: a model, a formula, a state and a budget; yes, no, or a refusal.
 ghost use mathlib.Core.Path.{_≡_};
 ghost use Rattle.build.specs.Held.{HoldsModel, HoldsRows};
-ghost use Rattle.verdict.specs.Answer.{answerNumber, answerVerdict, answerCount, answerLength, settledFor, bytesFor, valuesFor, settledOf, answerOf, bytesOf, valuesOf};
+ghost use Rattle.verdict.specs.Answer.{answerNumber, answerVerdict, answerCount, answerLength, settledNumber, settledCount, settledLength, settledFor, bytesFor, valuesFor, settledOf, answerOf, bytesOf, valuesOf, graphBuilt, graphRoom};
 ghost use Rattle.verdict.specs.Asking.{Asking, heldQuestion};
-ghost use Rattle.verdict.specs.Promise.{Promise, PromiseAll};
+ghost use Rattle.verdict.specs.Promise.{Promise, PromiseAll, PromiseGraph};
 ghost use Rattle.verdict.specs.Question.{readQuestion, readAsked};
 use build::Built;
 use refusal::Refusal;
@@ -35,6 +35,41 @@ pub enum Settled {
 pub enum Asked {
     Question(u32, u32, u32, u32),
     Refused(Refusal),
+}
+
+impl Settled {
+    // The number that the paper gives the answer.
+    pub fn number(self) -> u8
+        ensures { λ r. ⌜ r ≡ settledNumber self ⌝ }
+    {
+        match self {
+            Settled::Done(_, _, _, _) => 0,
+            Settled::Spent(_, _) => 1,
+            Settled::Refused(e) => e.number(),
+        }
+    }
+
+    // The reported count of rounds.
+    pub fn count(self) -> u32
+        ensures { λ r. ⌜ r ≡ settledCount self ⌝ }
+    {
+        match self {
+            Settled::Done(m, _, _, _) => m,
+            Settled::Spent(m, _) => m,
+            Settled::Refused(_) => 0,
+        }
+    }
+
+    // The returned length of the graph.
+    pub fn length(self) -> usize
+        ensures { λ r. ⌜ r ≡ settledLength self ⌝ }
+    {
+        match self {
+            Settled::Done(_, n, _, _) => n,
+            Settled::Spent(_, n) => n,
+            Settled::Refused(_) => 0,
+        }
+    }
 }
 
 impl Answer {
@@ -95,6 +130,19 @@ fn question(m: &[u8], f: &[u8]) -> Asked
     }
 }
 
+// The graph of a question alone: model, formula with the model's p, SIZE, then ROOM. No graph has more than 4,096 nodes, so 8,192 values
+// are always enough for two rounds.
+pub fn graph(m: &[u8], f: &[u8], room: &mut [u8]) -> Built
+    ensures { λ r. ⌜ r ≡ graphBuilt (readQuestion (now (m .entry)) (now (f .entry))) (now (room .entry)) ⌝ }
+    ensures { λ _. ⌜ now (room .exit) ≡ graphRoom (readQuestion (now (m .entry)) (now (f .entry))) (now (room .entry)) ⌝ }
+    ensures { λ r. ⌜ PromiseGraph (now (m .entry)) (now (f .entry)) (now (room .entry)) (now (room .exit)) r ⌝ }
+{
+    match question(m, f) {
+        Asked::Refused(e) => Built::Refused(e),
+        Asked::Question(n, p, t, k) => build::build(m, n, p, t, f, k, 8192, room),
+    }
+}
+
 // Builds the graph of an accepted question and settles it, once for all states.
 fn settle_question(
     m: &[u8],
@@ -132,7 +180,7 @@ pub fn settle(m: &[u8], f: &[u8], budget: u32, bytes: &mut [u8], values: &mut [u
     ensures { λ r. ⌜ r ≡ settledOf (readQuestion (now (m .entry)) (now (f .entry))) budget (now (bytes .entry)) (now (values .entry)) ⌝ }
     ensures { λ _. ⌜ now (bytes .exit) ≡ bytesOf (readQuestion (now (m .entry)) (now (f .entry))) (now (bytes .entry)) (now (values .entry)) ⌝ }
     ensures { λ _. ⌜ now (values .exit) ≡ valuesOf (readQuestion (now (m .entry)) (now (f .entry))) budget (now (bytes .entry)) (now (values .entry)) ⌝ }
-    ensures { λ r. ⌜ PromiseAll (now (m .entry)) (now (f .entry)) (now (bytes .entry)) (now (values .entry)) (now (bytes .exit)) (now (values .exit)) r ⌝ }
+    ensures { λ r. ⌜ PromiseAll (now (m .entry)) (now (f .entry)) budget (now (bytes .entry)) (now (values .entry)) (now (bytes .exit)) (now (values .exit)) r ⌝ }
 {
     match question(m, f) {
         Asked::Refused(e) => Settled::Refused(e),
@@ -153,7 +201,7 @@ pub fn decide(
     ensures { λ _. ⌜ now (bytes .exit) ≡ bytesOf (readAsked (now (m .entry)) (now (f .entry)) state) (now (bytes .entry)) (now (values .entry)) ⌝ }
     ensures { λ _. ⌜ now (values .exit) ≡ valuesOf (readAsked (now (m .entry)) (now (f .entry)) state) budget (now (bytes .entry))
         (now (values .entry)) ⌝ }
-    ensures { λ r. ⌜ Promise (now (m .entry)) (now (f .entry)) state (now (bytes .entry)) (now (values .entry)) (now (bytes .exit))
+    ensures { λ r. ⌜ Promise (now (m .entry)) (now (f .entry)) state budget (now (bytes .entry)) (now (values .entry)) (now (bytes .exit))
         (now (values .exit)) r ⌝ }
 {
     match question(m, f) {

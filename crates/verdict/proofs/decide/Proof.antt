@@ -15,7 +15,7 @@ use Rattle.verdict.specs.Question.{Question}
 use Rattle.verdict.specs.Answer.{decided}
 use Rattle.verdict.specs.Asking.{heldQuestion, Asking, Held}
 use Rattle.verdict.proofs.Settling.{shows-as}
-use Rattle.verdict.proofs.Finished.{Finished, finished, node-inside, node-small, read-yes, read-no}
+use Rattle.verdict.proofs.Finished.{Finished, ended-as, node-inside, node-small, read-yes, read-no}
 use Rattle.verdict.proofs.Answering.{Shown, one-refused, one-unnamed, one-decided}
 use Rattle.verdict.proofs.decide.Statement.{statement}
 use Rattle.verdict.proofs.decide.Tie as tie
@@ -55,8 +55,8 @@ named c = c .before .before .before .if1 .left
 
 -- the question settled
 done : (c : tie.After-known-told3) → let k = c .before .count .given .0 in let a = c .before .before .before .before .before .before .before .before .before .before .before .before .before .before .before .before .before .before .before .args in
-    Finished (question (read (c .before .before .before .before .before .before .before))) (a .budget) (now (a .bytes)) (now (a .values)) (k .0) (k .1 .1 .0) (k .1 .1 .1 .0)
-done c = finished _ _ _ _ (by (c .before .count .given .1) (c .before .before .before .before .before .before .before .settle-question .ensures .0))
+    Finished (question (read (c .before .before .before .before .before .before .before))) (a .budget) (now (a .bytes)) (now (a .values)) (k .0) (k .1 .0) (k .1 .1 .0) (k .1 .1 .1 .0)
+done c = ended-as _ _ _ _ (by (c .before .count .given .1) (c .before .before .before .before .before .before .before .settle-question .ensures .0))
 
 -- what the settling answered decides
 decides : (c : tie.After-settle-question) (s : Settled) {r : Answer} → let a = c .before .before .before .before .before .before .before .before .before .before .before .before .args in
