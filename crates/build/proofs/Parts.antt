@@ -1,7 +1,7 @@
 -- The message of a graph that is built, part by part, and what the tests before it is written say of it. Assumes nothing.
 use Prim.Native.Nat.{ℕ, zero, suc, _+_, _*_, _<_, _≤_}
 use mathlib.Core.List.{List, [], _∷_, _++_, map, append-assoc}
-use mathlib.Core.Bool.{true, false, _&&_, and-false}
+use mathlib.Core.Bool.{Bool, true, false, _&&_, and-false}
 use mathlib.Core.Path.{_≡_, refl, sym, ap, ap₂, _∙_}
 use native.Mathlib.Nat.{add-zero, zero-add, mul-le-mul-left}
 use native.Mathlib.Omega.{arith}
@@ -11,7 +11,7 @@ use borrow.Author.Tests.{leb-true, le-leb, lt-leb}
 use Rattle.lists.specs.Lists.{all}
 use Rattle.lists.specs.Making.{span, keep}
 use Rattle.lists.proofs.Kept.{keep-fail}
-use Rattle.lists.proofs.Tests.{and-left}
+use Rattle.lists.proofs.Tests.{by-test, and-left, and-right}
 use Rattle.refusal.specs.declared.Refusal.the-variants.{Size, Room}
 use Rattle.value.specs.declared.Bound.{Bound}
 use Rattle.wire.specs.Bytes.{bytes}
@@ -28,7 +28,7 @@ use Rattle.formula.specs.declared.Row.the-variants.{Until}
 use Rattle.reduction.specs.Built.{ifUntil, isUntil, untils, helperAt, layout, cover, Limit, graphOf}
 use Rattle.build.specs.declared.Built.the-variants as Built
 use Rattle.build.specs.declared.Size as size
-use Rattle.build.specs.Size.{sizeOf, rowsEdges}
+use Rattle.build.specs.Size.{sizeOf, rowsEdges, inLimits}
 use Rattle.build.specs.Bytes.{rowsBytes, helpersBytes, coverBytes, coversFrom, coversOf, headerBytes}
 use Rattle.build.specs.Built.{fits, roomy, builtOf, roomOf, Writable}
 use Rattle.build.proofs.Untils.{other-row, by-row}
@@ -118,6 +118,18 @@ parts-are M rows {long = long} {hypers} states-are rows-are untils-are long-is h
 
 -- ---- the tests before it is written
 
+-- what the limits say, one by one
+pub counts-within : (nodes : ℕ) (z : size.Size) → inLimits nodes z ≡ true → (nodes ≤ 4096) × (z .hypers ≤ 65535) × (z .targets ≤ 262144) × (z .most ≤ 65535)
+unfolding inLimits
+counts-within nodes z e =
+    let rest = and-right (leb nodes 4096) _ e in
+    let edges = and-right (leb (z .hypers) 65535) _ rest in
+    (leb-true _ _ (and-left _ _ e), leb-true _ _ (and-left _ _ rest), leb-true _ _ (and-left _ _ edges), leb-true _ _ (and-right (leb (z .targets) 262144) _ edges))
+
+and-true : (t : Bool) → (t && true) ≡ t
+and-true true = refl
+and-true false = refl
+
 -- so many states and rows, so many of them untils, and the size of all hyperedges, as they were counted
 pub record Counted (M : Model) (rows : List Row) (n k u : ℕ) (z : size.Size) : Type 0 where
   pub states-are : M .states ≡ n
@@ -156,31 +168,23 @@ module _ {M : Model} {rows : List Row} {n k u : ℕ} {z : size.Size} (c : Counte
   unfolding fits
   fits-are = rw (nodes-are, ← hypers-are, ← targets-are, most-are, covers-are)
 
-  -- one test fails
-  pub too-many-nodes : 4096 < n * (k + u) → fits g ≡ false
-  too-many-nodes h = fits-are ∙ rw (lt-leb (n * (k + u)) 4096 h)
+  -- it passes a limit exactly where the counts do; there are no more cover edges than nodes
+  pub limits-are : fits g ≡ inLimits (n * (k + u)) z
+  unfolding inLimits
+  limits-are =
+      by-test (leb (n * (k + u)) 4096)
+      (λ e. let covers : n * u ≤ n * (k + u) = mul-le-mul-left n (omega arith) in
+      let few = le-leb (n * u) 4096 (omega (arith, leb-true (n * (k + u)) 4096 e)) in
+      fits-are ∙ rw (few, and-true))
+      (λ e. fits-are ∙ rw e)
 
-  pub too-many-hypers : 65535 < z .hypers → fits g ≡ false
-  too-many-hypers h = fits-are ∙ rw (lt-leb (z .hypers) 65535 h, and-false)
-
-  pub too-many-targets : 262144 < z .targets → fits g ≡ false
-  too-many-targets h = fits-are ∙ rw (lt-leb (z .targets) 262144 h, and-false, and-false)
-
-  pub too-many-in-one : 65535 < z .most → fits g ≡ false
-  too-many-in-one h = fits-are ∙ rw (lt-leb (z .most) 65535 h, and-false, and-false, and-false)
-
-  -- none does; there are no more cover edges than nodes
-  pub graph-fits : n * (k + u) ≤ 4096 → z .hypers ≤ 65535 → z .targets ≤ 262144 → z .most ≤ 65535 → fits g ≡ true
-  graph-fits nodes hypers targets most =
+  -- so do the cover edges alone
+  pub covers-few : inLimits (n * (k + u)) z ≡ true → inLimits (n * u) z ≡ true
+  unfolding inLimits
+  covers-few e =
+      let h = counts-within (n * (k + u)) z e in
       let covers : n * u ≤ n * (k + u) = mul-le-mul-left n (omega arith) in
-      fits-are
-      ∙ rw (
-        le-leb (n * (k + u)) 4096 nodes,
-        le-leb (z .hypers) 65535 hypers,
-        le-leb (z .targets) 262144 targets,
-        le-leb (z .most) 65535 most,
-        le-leb (n * u) 4096 (omega arith),
-      )
+      rw (le-leb (n * u) 4096 (omega arith), le-leb (z .hypers) 65535 (h .1), le-leb (z .targets) 262144 (h .2), le-leb (z .most) 65535 (h .3))
 
   -- the room of bytes and the room of numbers
   module _ (b : List ℕ) (values : ℕ) where

@@ -1,9 +1,9 @@
 -- How much room the hyperedges of a graph take: how many, how many targets in all, and in the one with the most.
 use Prim.Native.Nat.{ℕ, _+_, _*_, min, max}
 use mathlib.Core.List.{List, [], _∷_, _++_}
-use mathlib.Core.Bool.{Bool, cond}
+use mathlib.Core.Bool.{Bool, cond, _&&_}
 use lib.ListN.{length}
-use lib.Dec.{ltb}
+use lib.Dec.{ltb, leb}
 use Rattle.lists.specs.Making.{span}
 use Rattle.rules.specs.Graph.{Target}
 use Rattle.model.specs.Model.{Model}
@@ -47,3 +47,7 @@ stepSize Every many = record { hypers = 2; targets = 2 + many; most = 1 + many }
 
 abbrev pub helperSize : Row → ℕ → Size
 helperSize row many = ifUntil row (λ q l r b. stepSize q many) noSize
+
+-- so many nodes, and hyperedges of this size, pass no limit
+unfoldable pub inLimits : ℕ → Size → Bool
+inLimits nodes z = leb nodes 4096 && (leb (z .hypers) 65535 && (leb (z .targets) 262144 && leb (z .most) 65535))

@@ -1,4 +1,5 @@
 // The graph of an accepted model and formula, written into a lent room.
+ghost use mathlib.Core.Bool.{true, not};
 ghost use mathlib.Core.Path.{_≡_};
 ghost use Prim.Native.Nat.{_+_, _*_, _-_, _≤_, _<_};
 ghost use mathlib.Core.List.{_++_, _∷_, []};
@@ -12,7 +13,7 @@ ghost use Rattle.graph.specs.Write.{writeTarget, writeHyper, writeGraph};
 ghost use Rattle.model.specs.Model as model;
 ghost use Rattle.reduction.specs.Built as built;
 ghost use Rattle.build.specs.Held.{transitionsFrom, heldModel, heldRows, HoldsModel, HoldsRows, Starts, Own, Reads, leading};
-ghost use Rattle.build.specs.Size.{noSize, addSize, sizeOf, stateEdges, rowsEdges, leafEdges, nextSize, helperSize};
+ghost use Rattle.build.specs.Size.{inLimits, noSize, addSize, sizeOf, stateEdges, rowsEdges, leafEdges, nextSize, helperSize};
 ghost use Rattle.build.specs.Bytes.{hypersBytes, coversBytes, someNext, everyNext, someSteps, everySteps, nextEdges, helperList, rowBytes, rowsBytes, helperBytes, helpersBytes, coverBytes, coversOf, headerBytes, RowFits, Narrow, HelpersFit};
 ghost use Rattle.build.specs.Built.{builtOf, roomOf, Writable};
 use formula::Quantifier;
@@ -790,6 +791,30 @@ fn write(
     put_covers(room, covers, n, p, f, k);
 }
 
+// Whether the graph would pass a limit: there are no more cover edges than nodes.
+fn too_large(nodes: u32, size: Size) -> bool
+    ensures { λ r. ⌜ r ≡ not (inLimits nodes size) ⌝ }
+{
+    if 4096 < nodes {
+        return true;
+    }
+    if 65535 < size.hypers {
+        return true;
+    }
+    if 262144 < size.targets {
+        return true;
+    }
+    65535 < size.most
+}
+
+// The length of the message of a graph of this size, with so many cover edges.
+fn message_length(size: Size, covers: u32) -> usize
+    requires { ⌜ inLimits covers size ≡ true ⌝ }
+    ensures { λ r. ⌜ r ≡ 14 + size .hypers * 4 + size .targets * 6 + covers * 8 ⌝ }
+{
+    14 + (size.hypers as usize) * 4 + (size.targets as usize) * 6 + (covers as usize) * 8
+}
+
 // The graph of an accepted model and formula: SIZE and ROOM are decided before anything is written.
 // A room for so many values is lent beside it, and must be large enough too.
 pub fn build(
@@ -810,40 +835,18 @@ pub fn build(
     let untils = count_untils(f, k, p);
     let table = starts(m, n, p, t);
     let size = total_size(m, n, p, t, &table, f, k);
-    let hypers = size.hypers;
-    let targets = size.targets;
     let nodes = n * (k + untils);
-    if 4096 < nodes {
+    if too_large(nodes, size) {
         return Built::Refused(Refusal::Size);
     }
-    if 65535 < hypers {
-        return Built::Refused(Refusal::Size);
-    }
-    if 262144 < targets {
-        return Built::Refused(Refusal::Size);
-    }
-    if 65535 < size.most {
-        return Built::Refused(Refusal::Size);
-    }
-    let long = 14 + hypers * 4 + targets * 6 + ((n * untils) as u64) * 8;
-    if (room.len() as u64) < long {
+    let hypers = size.hypers as u32;
+    let long = message_length(size, n * untils);
+    if room.len() < long {
         return Built::Refused(Refusal::Room);
     }
     if values < (nodes as usize) * 2 {
         return Built::Refused(Refusal::Room);
     }
-    write(
-        m,
-        n,
-        p,
-        t,
-        &table,
-        f,
-        k,
-        untils,
-        hypers as u32,
-        long as u32,
-        room,
-    );
-    Built::Graph(long as usize)
+    write(m, n, p, t, &table, f, k, untils, hypers, long as u32, room);
+    Built::Graph(long)
 }

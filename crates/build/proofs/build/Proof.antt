@@ -1,20 +1,23 @@
 -- `build::build` meets its contract: its tests are those of the graph's size and of the rooms, and what it writes is the graph.
 use Prim.Native.Nat.{_+_, _*_, _≤_}
 use mathlib.Core.List.{List}
-use mathlib.Core.Path.{_≡_, refl}
-use mathlib.Core.Bool.{true}
+use mathlib.Core.Path.{_≡_, refl, sym, ap, _∙_}
+use mathlib.Core.Bool.{Bool, true, false, not}
 use denote.Ref.{now}
 use native.Mathlib.Nat.{mul-le-mul-left}
 use native.Mathlib.Omega.{arith}
+use lib.ListN.{length}
 use borrow.Author.Needs.{needs}
 use Rattle.lists.proofs.Kept.{keep-length}
+use Rattle.graph.specs.Write.{writeGraph}
 use Rattle.model.specs.Model.{Model}
 use Rattle.formula.specs.declared.Row.{Row}
 use Rattle.reduction.specs.Built.{isUntil, graphOf}
 use Rattle.build.specs.Held.{heldModel, heldRows}
+use Rattle.build.specs.Size.{inLimits}
 use Rattle.build.specs.Built.{fits, roomy}
 use Rattle.build.proofs.Accepted.{states-few, rows-length}
-use Rattle.build.proofs.Parts.{Counted, hypers-are, long-is, too-many-nodes, too-many-hypers, too-many-targets, too-many-in-one, graph-fits, bytes-short, values-short, graph-roomy, size-refused, room-refused, writable, graph-built}
+use Rattle.build.proofs.Parts.{Counted, counts-within, limits-are, covers-few, hypers-are, long-is, bytes-short, values-short, graph-roomy, size-refused, room-refused, writable, graph-built}
 use Rattle.build.proofs.build.Statement.{statement}
 use Rattle.build.proofs.build.Tie as tie
 
@@ -66,92 +69,93 @@ add-nodes c = omega (arith, nodes-few c)
 mul-nodes : tie.Need-mul-nodes
 mul-nodes c = omega (arith, nodes-few c)
 
+too-large-requires : tie.Need-too-large-requires
+too-large-requires c κs = search needs
+
+-- the answer of the test
+tested : (c : tie.After-too-large) → let s = begun (c .before) in fits (graphOf (modelIn s) (rowsIn s)) ≡ not (c .too-large .result)
+tested c = limits-are (counted (c .before)) ∙ turned (c .too-large .ensures)
+  where
+    turned : {t u : Bool} → t ≡ not u → u ≡ not t
+    turned {u = true} e = rw e
+    turned {u = false} e = rw e
+
 returns : tie.Need-returns
-returns c = let t = c .before in size-refused _ _ _ (too-many-nodes (counted t) (c .if1 .taken))
-
-returns-2 : tie.Need-returns-2
-returns-2 c = let t = c .before .before in size-refused _ _ _ (too-many-hypers (counted t) (c .if2 .taken))
-
-returns-3 : tie.Need-returns-3
-returns-3 c = let t = c .before .before .before in size-refused _ _ _ (too-many-targets (counted t) (c .if3 .taken))
-
-returns-4 : tie.Need-returns-4
-returns-4 c = let t = c .before .before .before .before .before in size-refused _ _ _ (too-many-in-one (counted t) (c .if4 .taken))
+returns c = let t = c .before in size-refused _ _ _ (tested t ∙ ap not (c .if1 .taken))
 
 -- the graph passes no limit
-fit : (c : tie.Else4) → let s = begun (c .before .before .before .before .before) in fits (graphOf (modelIn s) (rowsIn s)) ≡ true
-fit c =
-    let t = c .before .before .before .before .before in
-    graph-fits (counted t) (c .before .before .before .before .if1 .left) (c .before .before .before .if2 .left) (c .before .before .if3 .left) (c .if4 .left)
+fit : (c : tie.Else1) → let s = begun (c .before .before) in fits (graphOf (modelIn s) (rowsIn s)) ≡ true
+fit c = let t = c .before in tested t ∙ ap not (c .if1 .left)
 
-mul-long : tie.Need-mul-long
-mul-long c = search needs
+few : (c : tie.Else1) → let t = c .before .before in let s = begun t in inLimits (s .args .n * (s .args .k + t .before .before .before .count-untils .result)) (t .total-size .result) ≡ true
+few c = sym (limits-are (counted (c .before .before))) ∙ fit c
 
-add-long : tie.Need-add-long
-add-long c = search needs
+cast-hypers : tie.Need-cast-hypers
+cast-hypers c = omega (arith, counts-within _ _ (few (c .before)))
 
-mul-long-2 : tie.Need-mul-long-2
-mul-long-2 c = search needs
+mul-message-length : tie.Need-mul-message-length
+mul-message-length c =
+    let t = c .before .before .before in
+    let s = begun t in
+    let u = t .before .before .before .count-untils .result in
+    let below : s .args .n * u ≤ s .args .n * (s .args .k + u) = mul-le-mul-left (s .args .n) (omega arith) in
+    omega (arith, nodes-few t)
 
-add-long-2 : tie.Need-add-long-2
-add-long-2 c = search needs
+message-length-requires : tie.Need-message-length-requires
+message-length-requires c κs = covers-few (counted (c .before .before .before)) (few (c .before))
 
-mul-long-3 : tie.Need-mul-long-3
-mul-long-3 c = search needs
+-- the length is that of the message
+length-is : (c : tie.After-message-length) → let s = begun (c .before .before .before .before) in c .message-length .result ≡ length (writeGraph (graphOf (modelIn s) (rowsIn s)))
+length-is c = c .message-length .ensures ∙ long-is (counted (c .before .before .before .before))
 
-cast-long : tie.Need-cast-long
-cast-long c = search needs
+returns-2 : tie.Need-returns-2
+returns-2 c =
+    let m = c .before in
+    room-refused _ _ _ (fit (m .before .before)) (bytes-short (counted (m .before .before .before .before)) _ _ (rw (← (m .message-length .ensures)) (c .if2 .taken)))
 
-mul-long-4 : tie.Need-mul-long-4
-mul-long-4 c = search needs
+cast-if3 : tie.Need-cast-if3
+cast-if3 c = omega (arith, nodes-few (c .before .before .before .before .before))
 
-add-long-3 : tie.Need-add-long-3
-add-long-3 c = search needs
+mul-if3 : tie.Need-mul-if3
+mul-if3 c = omega (arith, nodes-few (c .before .before .before .before .before))
 
-returns-5 : tie.Need-returns-5
-returns-5 c = let t = c .before .before .before .before .before .before in room-refused _ _ _ (fit (c .before)) (bytes-short (counted t) _ _ (c .if5 .taken))
-
-cast-if6 : tie.Need-cast-if6
-cast-if6 c = search needs
-
-mul-if6 : tie.Need-mul-if6
-mul-if6 c = search needs
-
-returns-6 : tie.Need-returns-6
-returns-6 c = let t = c .before .before .before .before .before .before .before in room-refused _ _ _ (fit (c .before .before)) (values-short (counted t) _ _ (c .if6 .taken))
+returns-3 : tie.Need-returns-3
+returns-3 c =
+    let m = c .before .before in
+    room-refused _ _ _ (fit (m .before .before)) (values-short (counted (m .before .before .before .before)) _ _ (c .if3 .taken))
 
 -- and there is room for it
-room-for : (c : tie.Else6) → let s = begun (c .before .before .before .before .before .before .before) in roomy (graphOf (modelIn s) (rowsIn s)) (now (s .args .room)) (s .args .values) ≡ true
+room-for : (c : tie.Else3) → let s = begun (c .before .before .before .before .before .before) in roomy (graphOf (modelIn s) (rowsIn s)) (now (s .args .room)) (s .args .values) ≡ true
 room-for c =
-    let t = c .before .before .before .before .before .before .before in
-    graph-roomy (counted t) _ _ (c .before .if5 .left) (c .if6 .left)
+    let m = c .before .before in
+    graph-roomy (counted (m .before .before .before .before)) _ _ (rw (← (m .message-length .ensures)) (c .before .if2 .left)) (c .if3 .left)
 
 slice-aggregate-write : tie.Need-slice-aggregate-write
 slice-aggregate-write c = search needs
 
 cast-write : tie.Need-cast-write
-cast-write c = search needs
-
-cast-write-2 : tie.Need-cast-write-2
-cast-write-2 c = search needs
+cast-write c =
+    let m = c .before .before .before in
+    omega (arith, m .message-length .ensures, counts-within _ _ (covers-few (counted (m .before .before .before .before)) (few (m .before .before))))
 
 write-requires : tie.Need-write-requires
 write-requires c κs =
     let last = c .before .before in
-    let t = last .before .before .before .before .before .before .before in
+    let m = last .before .before in
+    let t = m .before .before .before .before in
     let s = begun t in
-    let it = writable _ _ _ (fit (last .before .before)) (room-for last) (long-is (counted t)) (hypers-are (counted t)) in
+    let it = writable _ _ _ (fit (m .before .before)) (room-for last) (length-is m) (hypers-are (counted t)) in
     (s .pre .0, ((omega (arith, t .before .before .starts .ensures .0, states-few (s .pre .0)), t .before .before .starts .ensures .1), (s .pre .1, (t .before .before .before .count-untils .ensures, it))))
 
 same-length : tie.Need-same-length
 same-length c = search needs
 
-returns-7 : tie.Need-returns-7
-returns-7 c =
+returns-4 : tie.Need-returns-4
+returns-4 c =
     let put = c .before .before in
     let last = put .before .before .before in
-    let t = last .before .before .before .before .before .before .before in
-    graph-built _ _ _ (fit (last .before .before)) (room-for last) (long-is (counted t)) (put .write .ensures)
+    let m = last .before .before in
+    graph-built _ _ _ (fit (m .before .before)) (room-for last) (length-is m) (put .write .ensures)
 
 pub build-spec : {M : Type 1} → statement M
 build-spec =
@@ -163,25 +167,17 @@ build-spec =
     total-size-requires
     add-nodes
     mul-nodes
+    too-large-requires
     returns
+    cast-hypers
+    mul-message-length
+    message-length-requires
     returns-2
+    cast-if3
+    mul-if3
     returns-3
-    returns-4
-    mul-long
-    add-long
-    mul-long-2
-    add-long-2
-    mul-long-3
-    cast-long
-    mul-long-4
-    add-long-3
-    returns-5
-    cast-if6
-    mul-if6
-    returns-6
     slice-aggregate-write
     cast-write
-    cast-write-2
     write-requires
     same-length
-    returns-7)
+    returns-4)
