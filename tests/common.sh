@@ -1,11 +1,11 @@
-# Shared by the scripts beside it, which read it with `.`: where things stand, and how the
-# independent program is built.
+# Shared by the scripts beside it, which read it with `.`: where things stand, how the independent
+# program is built, and how `trials` is run.
 
 here=$(cd "$(dirname "$0")" && pwd -P)
 root=$(dirname "$here")
 
-# The calls that `trials` knows; V joins with the verdict.
-letters=GMFTR
+# The calls that `trials` knows.
+letters=GMFTRV
 
 die() {
     printf '%s: %s\n' "$(basename "$0")" "$*" >&2
@@ -22,4 +22,48 @@ build() {
     rustc --edition 2021 -O -D warnings -o "$scratch/independent" "$here/independent/main.rs" ||
         die "the independent program does not build"
     independent=$scratch/independent
+}
+
+# The folder of the kit's toolchain for this machine, found from rt as rt itself does.
+toolchain() {
+    rt=$(command -v rt) || die "rt is not on the path"
+    while [ -L "$rt" ]; do
+        link=$(readlink "$rt")
+        case $link in
+        /*) rt=$link ;;
+        *) rt=$(dirname "$rt")/$link ;;
+        esac
+    done
+    kit=${RATTLE_HOME:-$(cd "$(dirname "$rt")/.." && pwd -P)}
+    echo "$kit/on/$(uname -m)/toolchain"
+}
+
+# Copies the program out of the repository: target/bin/trials, as `rt check trials` leaves it, or the
+# file that TRIALS names.
+copy_trials() {
+    program=${TRIALS:-$root/target/bin/trials}
+    [ -f "$program" ] || die "there is no $program: build it with rt check trials"
+    mkdir "$scratch/run"
+    cp "$program" "$scratch/run/program"
+    chmod 711 "$scratch"
+    chmod 755 "$scratch/run" "$scratch/run/program"
+    tools=$(toolchain)
+    loader=$tools/lib/ld-linux-x86-64.so.2
+    emulator=$tools/bin/qemu-x86_64
+    [ -x "$emulator" ] || emulator=''
+    drop=''
+    if [ "$(id -u)" = 0 ]; then
+        drop='setpriv --reuid=65534 --regid=65534 --clear-groups --no-new-privs'
+    fi
+}
+
+# run_trials INPUT OUTPUT: runs the copy as rt runs programs, under the kit's loader and C library,
+# under its emulator on a machine that isn't x86-64, and as nobody where the caller is root.
+run_trials() {
+    (
+        for word in $(env | sed -n 's/^\(QEMU_[A-Za-z0-9_]*\)=.*/\1/p'); do unset "$word"; done
+        cd "$scratch/run"
+        # shellcheck disable=SC2086
+        exec $drop ${emulator:+"$emulator"} "$loader" --library-path "$tools/lib" ./program
+    ) <"$1" >"$2"
 }

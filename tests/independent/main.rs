@@ -22,6 +22,8 @@ const USAGE: &str = "usage:
   independent make SEED CALLS OUT_STDIN OUT_STDOUT [LETTERS]
       writes a batch of CALLS calls and the lines that `trials` must answer. LETTERS are those of
       the calls to use, GMFTRV unless given; with a `?` among them, a call that ends the run is last
+  independent ends FOLDER
+      writes batches that end in a call which is none, as N.stdin and N.stdout with N from 1
   independent answer
       reads a batch from standard input and writes the lines that `trials` must answer
   independent show LINE
@@ -35,6 +37,7 @@ fn main() -> ExitCode {
     let done = match words.as_slice() {
         ["make", seed, calls, stdin, stdout] => make(seed, calls, stdin, stdout, answer::LETTERS),
         ["make", seed, calls, stdin, stdout, letters] => make(seed, calls, stdin, stdout, letters),
+        ["ends", folder] => ends(folder),
         ["answer"] => answer(),
         ["show", line] => show(line),
         ["self-test"] => self_test("1"),
@@ -74,6 +77,17 @@ fn make(seed: &str, calls: &str, stdin: &str, stdout: &str, letters: &str) -> Re
         input.len(),
         lines.len()
     );
+    Ok(())
+}
+
+fn ends(folder: &str) -> Result<(), String> {
+    let batches = batch::ends::batches();
+    for (index, (input, lines)) in batches.iter().enumerate() {
+        let name = format!("{folder}/{}", index + 1);
+        write(&format!("{name}.stdin"), input)?;
+        write(&format!("{name}.stdout"), lines.as_bytes())?;
+    }
+    println!("{} batches", batches.len());
     Ok(())
 }
 

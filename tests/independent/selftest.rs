@@ -472,9 +472,16 @@ fn batches(seed: u64) {
             .count(),
         100
     );
-    for bytes in batch::no_calls() {
+    for bytes in batch::ends::no_calls() {
         let ended = answer_batch(&[&input[..], &bytes].concat());
         assert_eq!(ended, format!("{lines}? {}\n", bytes[0]));
+    }
+    for (_, lines) in batch::ends::batches() {
+        assert_eq!(lines.lines().count(), LETTERS.len() + 1);
+        assert!(lines
+            .lines()
+            .last()
+            .is_some_and(|line| line.starts_with("? ")));
     }
     assert_eq!(
         answer_batch(&[b"x", &input[..]].concat()),
@@ -483,4 +490,5 @@ fn batches(seed: u64) {
     );
     assert!(batch::make(seed, 9, "?").1.starts_with("? "));
     report("calls in a batch", calls);
+    report("batches that end early", batch::ends::no_calls().len());
 }

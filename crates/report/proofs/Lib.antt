@@ -1,3 +1,11 @@
 -- Laws of the program's output.
 --     Lines      the parts of a line, and the lines of the states from the front
+--     Texts      the text of a formula in the front of the room, and the lines of a settled question
+--     Ended      what settling a question says of the output, exit by exit
+--     Reported   what is shown of a report, exit by exit
+--     Laws       one report; a line says yes exactly when the state satisfies the formula
 pub mod Lines
+pub mod Texts
+pub mod Ended
+pub mod Reported
+pub mod Laws

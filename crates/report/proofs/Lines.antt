@@ -47,9 +47,12 @@ span-agree f g a (suc n) same = ap₂ _++_ (same a (omega arith) (omega arith)) 
 
 -- ---- no line is long
 
-pub refused-length : (e : Refusal) → length (refusedLine e) ≤ 19
+refused-length : (e : Refusal) → length (refusedLine e) ≤ 19
 unfolding refusedLine
 refused-length e = simp length-append (omega (arith, decimal-length 10 (numberOf e)))
+
+pub refused-fits : (e : Refusal) {size : ℕ} → 8192 ≤ size → length (refusedLine e) ≤ size
+refused-fits e h = omega (arith, refused-length e)
 
 pub rounds-length : (m : ℕ) → length (roundsLine m) ≤ 18
 unfolding roundsLine

@@ -7,7 +7,10 @@ use lib.ListN.{getD}
 use Rattle.lists.specs.Making.{span}
 use Rattle.refusal.specs.declared.Refusal.{Refusal}
 use Rattle.refusal.specs.Number.{numberOf}
-use Rattle.text.specs.Text.{word, decimal}
+use Rattle.wire.specs.Read.{Read, good, bad}
+use Rattle.formula.specs.declared.Row.{Row}
+use Rattle.formula.specs.Formula.{rootOf}
+use Rattle.text.specs.Text.{word, decimal, text}
 
 -- every line is ended by a line feed
 abbrev pub line : List ℕ → List ℕ
@@ -32,3 +35,12 @@ stateLine holds a = line (decimal a ++ answerWord holds)
 -- a line for each of n states: yes where its number, `first` further on in the room, is 0
 unfoldable pub statesLines : (values : List ℕ) (first n : ℕ) → List ℕ
 statesLines values first n = span (λ a. stateLine (eqb (getD values (first + a) 0) 0) a) 0 n
+
+-- the text of an accepted formula
+unfoldable pub textIn : Read (List Row) → List ℕ
+textIn (good rows) = text (rootOf rows)
+textIn (bad e) = []
+
+-- the text, the count of rounds, and a line for each state
+unfoldable pub endedLines : Read (List Row) → (m : ℕ) (values : List ℕ) (first n : ℕ) → List ℕ
+endedLines x m values first n = line (textIn x) ++ roundsLine m ++ statesLines values first n

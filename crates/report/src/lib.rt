@@ -1,9 +1,24 @@
 // What the program writes for what it reads.
+ghost use mathlib.Core.Path.{_≡_};
 ghost use Prim.Native.Nat.{_+_, _*_, _≤_};
 ghost use lib.ListN.{length};
+ghost use Rattle.io.specs.Counts.{Counts};
 ghost use Rattle.wire.specs.Laid.{Laid};
-ghost use Rattle.report.specs.Lines.{refusedLine, roundsLine, stateLine, statesLines};
+ghost use Rattle.verdict.specs.Question.{readQuestion};
+ghost use Rattle.verdict.specs.Answer.{bytesOf};
+ghost use Rattle.report.specs.Lines.{refusedLine, roundsLine, stateLine, statesLines, textIn, endedLines};
+ghost use Rattle.formula.specs.Message.{readFormula};
+ghost use Rattle.report.specs.Output.{readCut, cutOf, readInput, outputOf, leftOf, reportLength, reportOut, reportBytes, reportValues};
 use refusal::Refusal;
+use verdict::Settled;
+use wire::Field;
+use wire::Width;
+
+// Where the model ends, or why there is none.
+pub enum Cut {
+    At(usize),
+    Refused(Refusal),
+}
 
 // A refusal's line.
 fn put_refused(out: &mut [u8], e: Refusal) -> usize
@@ -51,4 +66,83 @@ fn put_states(out: &mut [u8], at: usize, values: &[u64], first: usize, n: u32) -
         a += 1;
     }
     next
+}
+
+// Where the model ends in what was read.
+fn model_end(input: &[u8]) -> Cut
+    ensures { λ r. ⌜ r ≡ cutOf (readCut (now (input .entry))) ⌝ }
+{
+    if 8192 < input.len() {
+        return Cut::Refused(Refusal::Length);
+    }
+    let Field::Number(total) = wire::read(input, 0, Width::Four) else {
+        return Cut::Refused(Refusal::Length);
+    };
+    if input.len() < total as usize {
+        return Cut::Refused(Refusal::Length);
+    }
+    Cut::At(total as usize)
+}
+
+// The text of an accepted formula, in a room of 2,048 bytes.
+fn put_text(f: &[u8], p: u32, out: &mut [u8]) -> usize
+    requires { ⌜ 2048 ≤ length (now out) ⌝ }
+    ensures { λ r. ⌜ Laid (now (out .entry)) 0 (textIn (readFormula p (now (f .entry)))) (now (out .exit)) r ⌝ }
+{
+    text::text(f, p, &mut out[..2048]).length()
+}
+
+// The lines of a question that settled: the formula's text, the count of rounds, and each state's answer.
+fn put_settled(
+    f: &[u8],
+    p: u32,
+    count: u32,
+    values: &[u64],
+    first: u32,
+    n: u32,
+    out: &mut [u8],
+) -> usize
+    requires { ⌜ (first + n ≤ length (now values)) × (n ≤ 256) ⌝ }
+    requires { ⌜ 8192 ≤ length (now out) ⌝ }
+    ensures { λ r. ⌜ Laid (now (out .entry)) 0 (endedLines (readFormula p (now (f .entry))) count (now (values .entry)) first n) (now (out .exit)) r ⌝ }
+{
+    let end = put_text(f, p, out);
+    let rounds = text::put_word(out, end, b"\n");
+    let states = put_rounds(out, rounds, count);
+    put_states(out, states, values, first as usize, n)
+}
+
+// The output for a model and a formula.
+fn answer(m: &[u8], f: &[u8], bytes: &mut [u8], values: &mut [u64], out: &mut [u8]) -> usize
+    requires { ⌜ 8192 ≤ length (now out) ⌝ }
+    ensures { λ r. ⌜ Laid (now (out .entry)) 0 (outputOf (readQuestion (now (m .entry)) (now (f .entry))) (now (bytes .entry)) (now (values .entry)))
+        (now (out .exit)) r ⌝ }
+    ensures { λ _. ⌜ now (bytes .exit) ≡ bytesOf (readQuestion (now (m .entry)) (now (f .entry))) (now (bytes .entry)) (now (values .entry)) ⌝ }
+    ensures { λ _. ⌜ now (values .exit) ≡ leftOf (readQuestion (now (m .entry)) (now (f .entry))) (now (bytes .entry)) (now (values .entry)) ⌝ }
+{
+    match verdict::settle(m, f, u32::MAX, bytes, values) {
+        Settled::Done(count, _, first, n) => {
+            let p = wire::number_at(m, 8, Width::One);
+            put_settled(f, p, count, values, first, n, out)
+        }
+        Settled::Spent(_, _) => put_refused(out, Refusal::Budget),
+        Settled::Refused(e) => put_refused(out, e),
+    }
+}
+
+// The program's output for its input, at the front of a room of at least 8,192 bytes; its length is returned.
+pub fn report(input: &[u8], bytes: &mut [u8], values: &mut [u64], out: &mut [u8]) -> usize
+    ensures { λ r. ⌜ r ≡ reportLength (readInput (now (input .entry))) (now (bytes .entry)) (now (values .entry)) (now (out .entry)) ⌝ }
+    ensures { λ _. ⌜ now (out .exit) ≡ reportOut (readInput (now (input .entry))) (now (bytes .entry)) (now (values .entry)) (now (out .entry)) ⌝ }
+    ensures { λ _. ⌜ now (bytes .exit) ≡ reportBytes (readInput (now (input .entry))) (now (bytes .entry)) (now (values .entry)) (now (out .entry)) ⌝ }
+    ensures { λ _. ⌜ now (values .exit) ≡ reportValues (readInput (now (input .entry))) (now (bytes .entry)) (now (values .entry)) (now (out .entry)) ⌝ }
+    ensures { λ r. ⌜ Counts r (now (out .exit)) ⌝ }
+{
+    if out.len() < 8192 {
+        return 0;
+    }
+    match model_end(input) {
+        Cut::Refused(e) => put_refused(out, e),
+        Cut::At(k) => answer(&input[..k], &input[k..], bytes, values, out),
+    }
 }

@@ -1,11 +1,15 @@
 // The line of each call: its letter, and a field for each answer. A body that is past the program's limits, cut short or has
-// bytes left over has an empty line. Numbers stand at fixed places, and what is left is the last message.
+// bytes left over has an empty line. Numbers stand at fixed places, and what is left is the last message, or the last two.
+ghost use Prim.Native.Nat.{_≤_};
+ghost use lib.ListN.{length};
 ghost use Rattle.trials.specs.Lines.{Sound};
 use crate::line::Line;
 use crate::rooms;
 use crate::sums;
 use rounds::Outcome;
 use text::Written;
+use verdict::Answer;
+use verdict::Verdict;
 use wire::Width;
 
 // Whether these bytes are a message of that size, within the program's limit.
@@ -133,4 +137,88 @@ fn rounds_line(outcome: Outcome, room: u32) -> Line
         .number(outcome.number() as u64)
         .number(outcome.count() as u64)
         .sum(room)
+}
+
+// `V`: a state, a budget, a room in bytes, a room in numbers; a model, a formula.
+pub fn verdict(body: &[u8], bytes: &mut [u8], values: &mut [u64]) -> Line
+    ensures { λ r. ⌜ Sound r ⌝ }
+{
+    if body.len() < 20 {
+        return Line::new();
+    }
+    let asked = wire::number_at(body, 8, Width::Four);
+    let len = rooms::front_of_bytes(asked, bytes);
+    if len < asked as usize {
+        return Line::new();
+    }
+    let wanted = wire::number_at(body, 12, Width::Four);
+    let count = rooms::front_of_values(wanted, values);
+    if count < wanted as usize {
+        return Line::new();
+    }
+    verdict_on(body, &mut bytes[..len], &mut values[..count])
+}
+
+// The first message ends where its length says, and what is left is the second with its length.
+fn verdict_on(body: &[u8], bytes: &mut [u8], values: &mut [u64]) -> Line
+    requires { ⌜ 20 ≤ length (now body) ⌝ }
+    ensures { λ r. ⌜ Sound r ⌝ }
+{
+    let state = wire::number_at(body, 0, Width::Four);
+    let budget = wire::number_at(body, 4, Width::Four);
+    let size = wire::number_at(body, 16, Width::Four);
+    let messages = &body[20..];
+    let end = rooms::front_of_bytes(size, messages);
+    let model = &messages[..end];
+    if !is_message(size, model) {
+        return Line::new();
+    }
+    let rest = &messages[end..];
+    if rest.len() < 4 {
+        return Line::new();
+    }
+    let formula = &rest[4..];
+    if !is_message(wire::number_at(rest, 0, Width::Four), formula) {
+        return Line::new();
+    }
+    verdict_in(model, formula, state, budget, bytes, values)
+}
+
+fn verdict_in(
+    model: &[u8],
+    formula: &[u8],
+    state: u32,
+    budget: u32,
+    bytes: &mut [u8],
+    values: &mut [u64],
+) -> Line
+    ensures { λ r. ⌜ Sound r ⌝ }
+{
+    rooms::fill_bytes(bytes);
+    rooms::fill_values(values);
+    let answer = verdict::decide(model, formula, state, budget, bytes, values);
+    verdict_line(answer, sums::of_bytes(bytes), sums::of_values(values))
+}
+
+// A field: a space, and the word for a verdict.
+fn verdict_word(line: Line, verdict: Verdict) -> Line
+    requires { ⌜ Sound line ⌝ }
+    ensures { λ r. ⌜ Sound r ⌝ }
+{
+    match verdict {
+        Verdict::Yes => line.text(b" yes"),
+        Verdict::No => line.text(b" no"),
+        Verdict::None => line.text(b" none"),
+    }
+}
+
+fn verdict_line(answer: Answer, bytes: u32, values: u32) -> Line
+    ensures { λ r. ⌜ Sound r ⌝ }
+{
+    let line = Line::new().byte(b'V').number(answer.number() as u64);
+    verdict_word(line, answer.verdict())
+        .number(answer.count() as u64)
+        .number(answer.length() as u64)
+        .sum(bytes)
+        .sum(values)
 }

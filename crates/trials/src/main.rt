@@ -19,6 +19,7 @@ fn answer(letter: u8, body: &[u8], bytes: &mut [u8], values: &mut [u64]) -> Line
         b'F' => answers::formula(body),
         b'T' => answers::text(body, bytes),
         b'R' => answers::rounds(body, values),
+        b'V' => answers::verdict(body, bytes, values),
         _ => Line::new(),
     }
 }

@@ -106,7 +106,7 @@ module _ {q : Question} {budget : ℕ} {b v : List ℕ} {m long first states : �
     pub node-inside : first + state < length v′
     node-inside = rw (values, done .ran .values-are) (omega (arith, node-is, root-inside q some state named, filled-inside (graphFor q) m v))
 
-    node-holds : getD v′ (first + state) 0 ≡ stored (rounds (graphFor q) m (rootNode q state))
+    pub node-holds : getD v′ (first + state) 0 ≡ stored (rounds (graphFor q) m (rootNode q state))
     node-holds = rw (values, done .ran .values-are, node-is) (filled-at (graphFor q) m v (rootNode q state) (root-inside q some state named))
 
     pub read-yes : getD v′ (first + state) 0 ≡ 0 → Answer.Decided Verdict.Yes m long ≡ decided q state (Settled.Done m long first states)

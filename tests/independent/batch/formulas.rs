@@ -28,7 +28,7 @@ fn text_of(p: u32, message: &[u8]) -> Call {
 }
 
 /// A formula with every operator.
-fn every_operator() -> Message {
+pub fn every_operator() -> Message {
     message::formula(&vec![
         Row::True,
         Row::False,

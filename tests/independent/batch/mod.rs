@@ -1,6 +1,7 @@
 //! Batches of calls: a systematic part that is always the same, then calls made from a seed.
 
 mod damage;
+pub mod ends;
 mod formulas;
 pub mod generate;
 mod graphs;
@@ -9,7 +10,7 @@ mod sweep;
 mod verdicts;
 mod wild;
 
-use crate::answer::{answer_batch, Call, MOST_BYTES, MOST_VALUES};
+use crate::answer::{answer_batch, Call};
 use crate::random::Random;
 use std::collections::BTreeSet;
 
@@ -54,36 +55,6 @@ pub fn make(seed: u64, calls: usize, letters: &str) -> (Vec<u8>, String) {
     (input, lines)
 }
 
-/// Bytes that are no call: "a call past these [limits], with an unknown letter, cut short, or with
-/// bytes left over behind its last message".
-pub fn no_calls() -> Vec<Vec<u8>> {
-    let written = |call: Call| {
-        let mut out = vec![];
-        call.write(&mut out);
-        out
-    };
-    let mut short = written(Call::graph(&[1, 2, 3]));
-    short.pop();
-    let mut left_over = written(Call::graph(&[1, 2, 3]));
-    left_over.push(0);
-    left_over[4] += 1;
-    let mut long_message = written(Call::graph(&[1, 2, 3]));
-    long_message[8] += 1;
-    vec![
-        vec![b'?', 0, 0, 0, 0],
-        vec![b'g', 0, 0, 0, 4, 0, 0, 0, 0],
-        vec![0],
-        vec![b'R'],
-        vec![b'V', 255, 255, 255, 255],
-        short,
-        left_over,
-        long_message,
-        written(Call::model(&vec![0; MOST_BYTES + 1])),
-        written(Call::text(0, MOST_BYTES + 1, &[])),
-        written(Call::rounds(0, MOST_VALUES + 1, &[])),
-    ]
-}
-
 fn no_call(random: &mut Random) -> Vec<u8> {
-    random.pick(&no_calls())
+    random.pick(&ends::no_calls())
 }

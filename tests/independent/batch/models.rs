@@ -41,7 +41,7 @@ fn refusals() -> Vec<Vec<u8>> {
 }
 
 /// "Label: a bit at p or above is FORM.", for each p and the bits on both sides.
-fn labels() -> Vec<Vec<u8>> {
+pub fn labels() -> Vec<Vec<u8>> {
     let mut messages = vec![];
     for p in 0..=32 {
         for bit in [p as i32 - 1, p as i32, 31]
@@ -58,7 +58,7 @@ fn labels() -> Vec<Vec<u8>> {
 }
 
 /// "7 DEAD: a state with no transition": each state in turn, all, and all but one.
-fn dead_states() -> Vec<Vec<u8>> {
+pub fn dead_states() -> Vec<Vec<u8>> {
     let ring = |states: usize, dead: &dyn Fn(usize) -> bool| {
         let alive = (0..states).filter(|state| !dead(*state));
         let steps: Vec<(usize, u32, usize)> = alive

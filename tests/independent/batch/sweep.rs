@@ -126,3 +126,17 @@ pub fn records(message: &Message) -> Vec<Vec<u8>> {
     }
     changed
 }
+
+/// For each rule that one of these messages breaks, the first that breaks it.
+pub fn one_for_each_rule(messages: &[Vec<u8>], judged: Judged) -> Vec<Vec<u8>> {
+    let mut rules = vec![];
+    let mut found = vec![];
+    for message in messages {
+        let fault = judged(message);
+        if fault.is_some() && !rules.contains(&fault) {
+            rules.push(fault);
+            found.push(message.clone());
+        }
+    }
+    found
+}

@@ -3,11 +3,13 @@
 use super::formulas::{self, nested, tower};
 use super::generate::EXTREMES;
 use super::models;
+use super::sweep;
 use crate::answer::{Call, MOST_BYTES, MOST_VALUES};
 use crate::build;
 use crate::bytes::{self, bound_of, Bound, Formula, Model, Row, Runs};
 use crate::known::{self, model};
 use crate::message;
+use crate::refusal::RULES;
 use crate::rounds;
 use crate::verdict::Question;
 
@@ -17,8 +19,10 @@ pub fn calls() -> Vec<Call> {
         operators(),
         extremes(),
         refusals(),
+        two_messages(),
         precedence(),
         sizes(),
+        full_rooms(),
         large(),
     ];
     parts.into_iter().flatten().collect()
@@ -68,6 +72,7 @@ fn asked_of(model: &Model, rows: &Formula, state: usize) -> Call {
 
 /// A question with states, budgets and rooms around what it needs.
 fn around(model: &Model, rows: &Formula) -> Vec<Call> {
+    let states = model.states() as u32;
     let (model, formula) = (message::model(model).bytes, message::formula(rows).bytes);
     let Needs {
         length,
@@ -84,19 +89,7 @@ fn around(model: &Model, rows: &Formula) -> Vec<Call> {
         Call::verdict(&question, graph_room, value_room)
     };
     let mut calls = vec![];
-    for state in [
-        0,
-        1,
-        2,
-        3,
-        255,
-        256,
-        65_535,
-        65_536,
-        65_537,
-        1 << 31,
-        u32::MAX,
-    ] {
+    for state in states_around(states) {
         calls.push(call(state, count, length, values));
     }
     for budget in (0..=count + 1).chain([1 << 31, u32::MAX - 1, u32::MAX]) {
@@ -110,6 +103,13 @@ fn around(model: &Model, rows: &Formula) -> Vec<Call> {
     }
     calls.push(call(0, count - 1, length + 5, values + 5));
     calls
+}
+
+/// States on both sides of the last, and numbers whose low bytes name a state.
+fn states_around(states: u32) -> Vec<u32> {
+    let mut numbers = vec![0, 1, 2, 3, states - 1, states, states + 1];
+    numbers.extend([255, 256, 65_535, 65_536, 65_537, 1 << 31, u32::MAX]);
+    numbers
 }
 
 /// T13 to T15, and a formula with an until in an until, where the rounds take longer.
@@ -202,7 +202,10 @@ fn extremes() -> Vec<Call> {
             let sum = u64::from(weight) + u64::from(second);
             let near = [sum.wrapping_sub(1), sum, sum % (1 << 32)];
             let fitting = near.iter().filter_map(|bound| u32::try_from(*bound).ok());
-            calls.extend(fitting.map(|bound| sum_under(weight, second, Runs::All, Some(bound))));
+            for bound in fitting {
+                calls.push(sum_under(weight, second, Runs::Some, Some(bound)));
+                calls.push(sum_under(weight, second, Runs::All, Some(bound)));
+            }
         }
     }
     calls
@@ -215,30 +218,17 @@ fn sum_under(first: u32, second: u32, runs: Runs, bound: Bound) -> Call {
 
 /// Every fault of the model and of the formula, seen through the verdict.
 fn refusals() -> Vec<Call> {
-    let (model, formula) = (models::base(), formulas::base());
+    let (model, formula) = (models::base().bytes, formulas::base().bytes);
+    let truth = message::formula(&vec![Row::True]).bytes;
     let mut calls: Vec<Call> = vec![];
-    for changed in models::field_changes()
-        .iter()
-        .chain(&super::sweep::records(&model))
-    {
-        calls.push(asked(changed, &formula.bytes, 1));
+    for changed in model_changes() {
+        calls.push(asked(&changed, &formula, 1));
     }
-    for length in (0..model.bytes.len()).step_by(3) {
-        calls.push(asked(
-            &super::damage::cut(&model, length, true),
-            &formula.bytes,
-            0,
-        ));
+    for changed in [models::labels(), models::dead_states()].concat() {
+        calls.push(asked(&changed, &truth, 0));
     }
-    for changed in formulas::changes() {
-        calls.push(asked(&model.bytes, &changed, 2));
-    }
-    for length in (0..formula.bytes.len()).step_by(3) {
-        calls.push(asked(
-            &model.bytes,
-            &super::damage::cut(&formula, length, true),
-            0,
-        ));
+    for changed in formula_changes() {
+        calls.push(asked(&model, &changed, 2));
     }
     for p in [0, 1, 2, 3, 32] {
         let with_p = known::model(p, &[0], &[(0, 0, 0)]);
@@ -251,6 +241,84 @@ fn refusals() -> Vec<Call> {
         }
     }
     calls
+}
+
+/// Every field, every cut, every byte and every record of a model.
+fn model_changes() -> Vec<Vec<u8>> {
+    let base = models::base();
+    let parts = [
+        models::field_changes(),
+        sweep::records(&base),
+        sweep::lengths(&base),
+        sweep::bytes(&base),
+    ];
+    parts.concat()
+}
+
+/// The same of a formula, and every field of every operator.
+fn formula_changes() -> Vec<Vec<u8>> {
+    let (base, all) = (formulas::base(), formulas::every_operator());
+    let judged = |bytes: &[u8]| bytes::formula(2, bytes).err();
+    let parts = [
+        formulas::changes(),
+        sweep::lengths(&base),
+        sweep::bytes(&base),
+        vec![all.bytes.clone()],
+        sweep::fields(&all, &judged),
+    ];
+    parts.concat()
+}
+
+/// Messages that break each rule, one for each: of the model and of the formula.
+fn rule_breakers() -> (Vec<Vec<u8>>, Vec<Vec<u8>>) {
+    let models = [model_changes(), models::dead_states()].concat();
+    let models = sweep::one_for_each_rule(&models, &|bytes| bytes::model(bytes).err());
+    let formulas = formula_changes();
+    let formulas = sweep::one_for_each_rule(&formulas, &|bytes| bytes::formula(2, bytes).err());
+    let rules = |subject: &str| {
+        let of_subject = |rule: &&(&str, &str, &str)| rule.0 == subject && rule.2.contains('V');
+        RULES.iter().filter(of_subject).count()
+    };
+    assert_eq!(models.len(), rules("model"), "a rule of models is missing");
+    assert_eq!(
+        formulas.len(),
+        rules("formula"),
+        "a rule of formulas is missing"
+    );
+    (models, formulas)
+}
+
+/// "model, formula (with the model's p)": each rule of the one broken together with each rule of the
+/// other; each of them with everything else at fault too, and no room; and the messages in each
+/// other's place.
+fn two_messages() -> Vec<Call> {
+    let (model, formula) = (models::base().bytes, formulas::base().bytes);
+    let (models, formulas) = rule_breakers();
+    let mut calls = vec![
+        asked(&formula, &model, 0),
+        asked(&model, &model, 0),
+        asked(&formula, &formula, 0),
+    ];
+    for bad_model in &models {
+        calls.extend(formulas.iter().map(|bad| asked(bad_model, bad, 0)));
+        calls.push(asked_for_nothing(bad_model, &formula));
+    }
+    for bad_formula in &formulas {
+        calls.push(asked_for_nothing(&model, bad_formula));
+    }
+    calls.push(asked_for_nothing(&model, &formula));
+    calls
+}
+
+/// A verdict on no state, in no rounds and without room.
+fn asked_for_nothing(model: &[u8], formula: &[u8]) -> Call {
+    let question = Question {
+        model,
+        formula,
+        state: u32::MAX,
+        budget: 0,
+    };
+    Call::verdict(&question, 0, 0)
 }
 
 /// "For a verdict: model, formula (with the model's p), asked state NAME, SIZE, graph room, value
@@ -379,6 +447,14 @@ fn sizes() -> Vec<Call> {
         }
         calls.push(asked_in_full_rooms(&loops(6_898), &rows));
     }
+    // far past h and targets, with the most transitions of one state that a message can hold
+    for runs in [Runs::Some, Runs::All] {
+        calls.push(asked_in_full_rooms(&loops(8_189), &tower(runs, None, 64)));
+        calls.push(asked_in_full_rooms(
+            &loops(8_189),
+            &nested(runs, None, 31, true),
+        ));
+    }
     // the longest graph in the largest room: 14 + 5 · 4 + 6 · 10,917 is 65,536; one target more
     for last in [2_727, 2_728] {
         calls.push(asked_in_full_rooms(
@@ -398,7 +474,29 @@ fn with_unary(untils: usize, unary: usize) -> Formula {
     rows
 }
 
-/// The most states, in a row: many rounds.
+/// The largest rooms and messages that `trials` has: a small graph in them, the most nodes with a
+/// value room of 2n, one less and two less, and two messages of 65,536 bytes.
+fn full_rooms() -> Vec<Call> {
+    let most = asked_in_full_rooms(&models::full(64, 64), &tower(Runs::Some, None, 64));
+    let in_values = |room: usize| {
+        let mut call = most.clone();
+        call.numbers[3] = room as u32;
+        call
+    };
+    let mut calls: Vec<Call> = known::questions()
+        .iter()
+        .map(|known| asked_in_full_rooms(&known::model_m(), &known.rows))
+        .collect();
+    calls.extend([MOST_VALUES - 1, MOST_VALUES - 2].map(in_values));
+    let mut long = vec![0; MOST_BYTES];
+    calls.push(asked(&long, &long, 0));
+    message::mend_length(&mut long);
+    calls.push(asked(&long, &long, 0));
+    calls.push(asked(&models::base().bytes, &long, 0));
+    calls
+}
+
+/// The most states, in a row: many rounds, with states and budgets around the last.
 fn large() -> Vec<Call> {
     let states = 256;
     let step = |state: usize| (state, u32::MAX, (state + 1).min(states - 1));
@@ -411,8 +509,17 @@ fn large() -> Vec<Call> {
         known::until(Runs::Some, Some(u32::MAX - 1)),
         known::until(Runs::All, None),
     ];
-    rows.iter()
-        .enumerate()
-        .map(|(state, rows)| asked_of(&row, rows, state))
-        .collect()
+    let mut calls = vec![];
+    for (state, rows) in rows.iter().enumerate() {
+        let call = asked_of(&row, rows, state);
+        let needs = needs(&call.messages[0], &call.messages[1]).expect("a question");
+        for budget in [needs.count - 1, needs.count, needs.count + 1] {
+            let mut again = call.clone();
+            again.numbers[1] = budget;
+            calls.push(again);
+        }
+        calls.push(call);
+        calls.extend([254, 255, 256, 257].map(|state| asked_of(&row, rows, state)));
+    }
+    calls
 }

@@ -1,0 +1,67 @@
+-- `report::model_end` meets its contract: each `return` is the reading under the tests that led there.
+use mathlib.Core.Path.{_≡_}
+use mathlib.Core.Bool.{true}
+use denote.Ref.{now}
+use lib.ListN.{length}
+use lib.Dec.{leb}
+use borrow.Author.Needs.{needs}
+use borrow.Author.Tests.{lt-leb, le-leb}
+use Rattle.lists.proofs.Tests.{by}
+use Rattle.wire.specs.Field.{fieldAt}
+use Rattle.wire.specs.declared.Field.the-variants.{Number}
+use Rattle.wire.proofs.Reading.{reading}
+use Rattle.report.specs.Output.{readCut, cutOf}
+use Rattle.report.proofs.model_end.Statement.{statement}
+use Rattle.report.proofs.model_end.Tie as tie
+
+-- the input is not too long, and its length field is there
+short : (c : tie.Else1) → leb (length (now (c .before .before .args .input))) 8192 ≡ true
+short c = le-leb _ _ (c .if1 .left)
+
+total-there : (c : tie.After-known-told) → fieldAt 4 (now (c .before .before .before .before .before .before .args .input)) 0 ≡ Number (c .before .total .given .0 .0)
+total-there c = by (c .before .before .before .read .ensures) (c .before .total .given .1)
+
+returns : tie.Need-returns
+unfolding readCut cutOf
+returns c = simp (reading, lt-leb _ _ (c .if1 .taken))
+
+read-requires : tie.Need-read-requires
+read-requires c κs = search needs
+
+enum-known-total : tie.Need-enum-known-total
+enum-known-total c = search needs
+
+enum-told : tie.Need-enum-told
+enum-told c = search needs
+
+returns-2 : tie.Need-returns-2
+unfolding readCut cutOf
+returns-2 c = simp (reading, short (c .before .before .before), by (c .before .before .read .ensures) (c .enum-told .given .1))
+
+cast-if2 : tie.Need-cast-if2
+cast-if2 c = search needs
+
+returns-3 : tie.Need-returns-3
+unfolding readCut cutOf
+returns-3 c = simp (reading, short (c .before .before .before .before .before), total-there (c .before), lt-leb _ _ (c .if2 .taken))
+
+cast-t3 : tie.Need-cast-t3
+cast-t3 c = search needs
+
+returns-4 : tie.Need-returns-4
+unfolding readCut cutOf
+returns-4 c = simp (reading, short (c .before .before .before .before .before), total-there (c .before), le-leb _ _ (c .if2 .left))
+
+pub model-end-spec : {M : Type 1} → statement M
+model-end-spec =
+    tie.close
+    (tie.spec
+    returns
+    read-requires
+    enum-known-total
+    enum-told
+    returns-2
+    cast-if2
+    returns-3
+    cast-t3
+    returns-4)

@@ -1,0 +1,96 @@
+-- `report::report` meets its contract: a room that is too small, an input that cannot be cut, or the answer for its two parts.
+use Prim.Native.Nat.{_≤_}
+use mathlib.Core.Path.{sym}
+use denote.Ref.{now}
+use native.Mathlib.Omega.{arith}
+use lib.ListN.{length}
+use lib.Seq.{length-take-le}
+use borrow.Author.Needs.{needs}
+use Rattle.lists.proofs.Tests.{by}
+use Rattle.report.proofs.Lines.{refused-fits}
+use Rattle.report.proofs.Reported.{end-inside, end-reads, end-refused, none-reported, as-reported, refusal-reported}
+use Rattle.report.proofs.report.Statement.{statement}
+use Rattle.report.proofs.report.Tie as tie
+
+returns : tie.Need-returns
+returns c = none-reported _ _ _ _ (c .if1 .taken)
+
+model-end-requires : tie.Need-model-end-requires
+model-end-requires c κs = search needs
+
+enum-known-e : tie.Need-enum-known-e
+enum-known-e c = search needs
+
+put-refused-requires : tie.Need-put-refused-requires
+put-refused-requires c κs = refused-fits _ (c .before .before .before .before .before .if1 .left)
+
+enum-known-k : tie.Need-enum-known-k
+enum-known-k c = search needs
+
+-- the model ends inside the input
+inside : (c : tie.After-known-told2) → c .before .k .given .0 .0 ≤ length (now (c .before .before .before .before .before .before .before .before .before .args .input))
+inside c = end-inside _ (by (c .before .k .given .1) (c .before .before .before .model-end .ensures))
+
+slice-aggregate-answer : tie.Need-slice-aggregate-answer
+slice-aggregate-answer c = sym (length-take-le _ (now (c .before .before .before .before .before .before .before .before .before .before .args .input)) (inside (c .before)))
+
+sub-answer : tie.Need-sub-answer
+sub-answer c = inside (c .before)
+
+part-answer-start : tie.Need-part-answer-start
+part-answer-start c = inside (c .before)
+
+part-answer-end : tie.Need-part-answer-end
+part-answer-end c = search needs
+
+answer-requires : tie.Need-answer-requires
+answer-requires c κs = search needs
+
+same-length : tie.Need-same-length
+same-length c = search needs
+
+returns-2 : tie.Need-returns-2
+returns-2 c =
+    let put = c .before .before in
+    let known = put .before .before in
+    let end = known .before .before .before in
+    refusal-reported _ _ _ _ (end-refused _ (by (known .before .e .given .1) (end .model-end .ensures))) (end .before .if1 .left) (put .put-refused .ensures)
+
+same-length-2 : tie.Need-same-length-2
+same-length-2 c = search needs
+
+same-length-3 : tie.Need-same-length-3
+same-length-3 c = search needs
+
+same-length-4 : tie.Need-same-length-4
+same-length-4 c = search needs
+
+returns-3 : tie.Need-returns-3
+returns-3 c =
+    let put = c .before .before .before .before .before .before in
+    let known = put .before .before .before .before .before .before in
+    let end = known .before .before .before in
+    let s = end .before .before .before .before .before .before in
+    let is = end-reads (now (s .args .input)) (by (known .before .k .given .1) (end .model-end .ensures)) in
+    as-reported _ _ _ _ _ is (end .before .if1 .left) (put .answer .ensures .0) (put .answer .ensures .1 .0) (put .answer .ensures .1 .1)
+
+pub report-spec : {M : Type 1} → statement M
+report-spec =
+    tie.close
+    (tie.spec
+    returns
+    model-end-requires
+    enum-known-e
+    put-refused-requires
+    enum-known-k
+    slice-aggregate-answer
+    sub-answer
+    part-answer-start
+    part-answer-end
+    answer-requires
+    same-length
+    returns-2
+    same-length-2
+    same-length-3
+    same-length-4
+    returns-3)
