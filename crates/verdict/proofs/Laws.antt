@@ -1,9 +1,9 @@
--- Laws of the whole question: there is one answer and one content of both rooms, a budget that always settles, and one question that the
--- messages write. Assumes nothing.
+-- Laws of the whole question: there is one answer and one content of both rooms, a budget that always settles, budgets that settle agree,
+-- and there is one question that the messages write. Assumes nothing.
 use Prim.Native.Nat.{ℕ, _≤_}
 use mathlib.Core.List.{List}
 use mathlib.Core.Bool.{true}
-use mathlib.Core.Path.{_≡_, sym, _∙_}
+use mathlib.Core.Path.{_≡_, refl, sym, _∙_}
 use lib.ListN.{length}
 use borrow.Author.Tests.{le-leb}
 use native.Mathlib.Omega.{arith}
@@ -12,6 +12,7 @@ use Rattle.wire.specs.Read.{Read}
 use Rattle.rules.specs.Count.{count, enough}
 use Rattle.rules.proofs.Count.{count-le}
 use Rattle.graph.specs.Write.{writeGraph}
+use Rattle.rounds.specs.Outcome.{filled}
 use Rattle.model.proofs.Exact as model
 use Rattle.formula.proofs.Exact as formula
 use Rattle.build.specs.declared.Built.{Built}
@@ -20,8 +21,9 @@ use Rattle.verdict.specs.declared.Answer.{Answer}
 use Rattle.verdict.specs.declared.Settled.{Settled}
 use Rattle.verdict.specs.declared.Settled.the-variants.{Done}
 use Rattle.verdict.specs.Question.{Question, graphFor, rootNode}
-use Rattle.verdict.specs.Answer.{settledFor, settledOf, answerOf, bytesOf, valuesOf, graphBuilt, graphRoom}
+use Rattle.verdict.specs.Answer.{settledFor, valuesFor, settledOf, answerOf, bytesOf, valuesOf, graphBuilt, graphRoom}
 use Rattle.verdict.specs.Promise.{Asks}
+use Rattle.verdict.proofs.Finished.{ended-as}
 
 -- two that satisfy the contract of `decide` are equal
 pub one-answer : (x : Read Question) (state budget : ℕ) (b v : List ℕ) {r r′ : Answer} {a a′ w w′ : List ℕ}
@@ -47,6 +49,19 @@ pub always-settles : (q : Question) (budget : ℕ) (b v : List ℕ) → fits (gr
 unfolding settledFor
 always-settles q budget b v fitting room h =
     rw (fitting, room, le-leb (count (graphFor q)) budget (omega (arith, count-le (graphFor q))))
+
+-- two budgets that settle a question give the same answer, whatever the rooms, and so the same verdicts; and the same two rounds
+pub two-budgets : (q : Question) (c d : ℕ) (b v b′ v′ : List ℕ) {m n first states m′ n′ first′ states′ : ℕ}
+    → Done m n first states ≡ settledFor q c b v → Done m′ n′ first′ states′ ≡ settledFor q d b′ v′
+    → (Done m n first states ≡ Done m′ n′ first′ states′) × (valuesFor q c b v ≡ filled (graphFor q) m v) × (valuesFor q d b′ v′ ≡ filled (graphFor q) m v′)
+two-budgets q c d b v b′ v′ {m} {n} {first} {states} {m′} {n′} {first′} {states′} e e′ =
+    let done = ended-as q c b v e in
+    let done′ = ended-as q d b′ v′ e′ in
+    let counts : m ≡ m′ = done .count-is ∙ sym (done′ .count-is) in
+    let lengths : n ≡ n′ = done .ran .long-is ∙ sym (done′ .ran .long-is) in
+    let firsts : first ≡ first′ = done .first-is ∙ sym (done′ .first-is) in
+    let all : states ≡ states′ = done .states-are ∙ sym (done′ .states-are) in
+    (rw (counts, lengths, firsts, all) refl, done .ran .values-are, rw counts (done′ .ran .values-are))
 
 -- the messages are the writings of one question only, so a promise that speaks of some question speaks of that one
 pub one-question : {m f : List ℕ} {q q′ : Question} → Asks m f q → Asks m f q′ → q ≡ q′

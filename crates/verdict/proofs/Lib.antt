@@ -7,7 +7,7 @@
 --     Promised   what the customer is promised follows from the definitions
 --     Building   the graph alone: what is answered, what is left in the room, and what is promised of it
 --     Answering  what is shown of a call, exit by exit
---     Laws       there is one answer, a budget that always settles, and one question that the messages write
+--     Laws       there is one answer, a budget that always settles, budgets that settle agree, and one question that the messages write
 pub mod Reading
 pub mod Fitting
 pub mod Settling
