@@ -6,7 +6,6 @@ use native.Mathlib.Nat.{mul-le-mul-left, mul-suc}
 use native.Mathlib.Numerals.{add-one}
 use native.Mathlib.Omega.{arith}
 use lib.Dec.{eqb}
-use lib.ListN.{length}
 use Rattle.lists.specs.Lists.{_∈_}
 use Rattle.lists.specs.Making.{keep, span}
 use Rattle.lists.proofs.Making.{∈-keep}

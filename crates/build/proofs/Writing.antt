@@ -2,14 +2,13 @@
 use Prim.Native.Nat.{ℕ, _+_, _*_, _≤_}
 use mathlib.Core.List.{List, _++_}
 use mathlib.Core.Bool.{Bool, true, _&&_}
-use mathlib.Core.Path.{_≡_, sym, ap, _∙_}
+use mathlib.Core.Path.{_≡_, sym, _∙_}
 use native.Mathlib.Nat.{mul-le-mul-left}
 use native.Mathlib.Omega.{arith}
 use lib.Dec.{leb}
 use lib.ListN.{length, length-append}
 use borrow.Author.Tests.{leb-true}
 use Rattle.lists.specs.Lists.{all}
-use Rattle.lists.specs.Making.{keep}
 use Rattle.lists.proofs.Kept.{keep-length}
 use Rattle.lists.proofs.Lists.{all-true}
 use Rattle.lists.proofs.Making.{∈-keep}
@@ -23,7 +22,6 @@ use Rattle.reduction.specs.Built.{isUntil, untils, graphOf, Fits}
 use Rattle.build.specs.Built.{fits, Writable}
 use Rattle.build.specs.Bytes.{rowsBytes, helpersBytes, coversOf, headerBytes, HelpersFit}
 use Rattle.build.specs.Held.{heldModel, heldRows, HoldsModel, HoldsRows}
-use Rattle.build.specs.Size.{sizeOf, rowsEdges}
 use Rattle.build.proofs.Accepted.{rows-length}
 use Rattle.build.proofs.Parts.{graph-parts}
 use Rattle.build.proofs.Sizes.{few-narrow}

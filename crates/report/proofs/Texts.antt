@@ -19,7 +19,7 @@ use Rattle.text.specs.Written.{writtenLength, writtenOf, roomOf}
 use Rattle.text.specs.declared.Written.{Written}
 use Rattle.text.specs.declared.Written.the-variants as Written
 use Rattle.text.proofs.Length.{accepted-text-length}
-use Rattle.report.specs.Lines.{line, roundsLine, statesLines, textIn, endedLines}
+use Rattle.report.specs.Lines.{line, roundsLine, statesLines, textIn}
 use Rattle.report.proofs.Lines.{rounds-length, state-length, span-length}
 
 -- no accepted formula's text is long

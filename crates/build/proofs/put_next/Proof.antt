@@ -1,6 +1,6 @@
 -- `build::put_next` meets its contract: a hyperedge for each transition, or a head with all their targets behind it.
 use Prim.Native.Nat.{ℕ, _+_, _≤_}
-use mathlib.Core.List.{List, [], _∷_, _++_}
+use mathlib.Core.List.{List, _++_}
 use mathlib.Core.Path.{_≡_, refl, sym, ap, _∙_}
 use denote.Ref.{now}
 use native.Mathlib.Omega.{arith}
@@ -14,7 +14,7 @@ use Rattle.rules.specs.Graph.{Target}
 use Rattle.graph.specs.Write.{writeTarget, writeHyper}
 use Rattle.reduction.specs.Built.{hyper}
 use Rattle.build.specs.Held.{transitionsFrom}
-use Rattle.build.specs.Bytes.{hypersBytes, everyNext}
+use Rattle.build.specs.Bytes.{everyNext}
 use Rattle.build.proofs.Edges.{head-length, hypers-one, one-laid, hyper-laid, every-count}
 use Rattle.build.proofs.put_next.Statement.{statement}
 use Rattle.build.proofs.put_next.Tie as tie

@@ -1,12 +1,11 @@
 -- `build::put_rows` meets its contract: the hyperedges of the rows left make the whole.
 use Prim.Native.Nat.{ℕ, _+_, _*_, _-_, _≤_}
 use mathlib.Core.List.{List, _++_}
-use mathlib.Core.Path.{_≡_, ap, subst, _∙_}
+use mathlib.Core.Path.{_≡_, ap, _∙_}
 use denote.Ref.{now}
 use native.Mathlib.Omega.{arith}
 use Rattle.wire.specs.Layout.{items}
 use Rattle.wire.proofs.Laid.{Left, all-left, left-fits, left-then, none-left}
-use Rattle.formula.specs.declared.Row.{Row}
 use Rattle.formula.specs.Layouts.{rowAt, rowLayout}
 use Rattle.build.specs.Held.{heldModel, heldRows}
 use Rattle.build.specs.Bytes.{rowBytes, rowsBytes}

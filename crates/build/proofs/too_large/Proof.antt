@@ -1,6 +1,6 @@
 -- `build::too_large` meets its contract, limit by limit.
 use mathlib.Core.Bool.{not}
-use mathlib.Core.Path.{_≡_, sym}
+use mathlib.Core.Path.{_≡_}
 use lib.Dec.{leb, ltb}
 use borrow.Author.Tests.{le-leb, lt-leb, leb-true, leb-false, lt-ltb, le-ltb}
 use Rattle.lists.proofs.Tests.{by-test}

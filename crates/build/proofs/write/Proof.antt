@@ -1,13 +1,13 @@
 -- `build::write` meets its contract: the header, the rows' hyperedges, the helpers' and the cover edges, one behind the other.
 use Prim.Native.Nat.{ℕ, _+_, _*_, _≤_}
 use mathlib.Core.List.{List, _++_}
-use mathlib.Core.Path.{_≡_, sym, ap, _∙_}
+use mathlib.Core.Path.{sym, ap, _∙_}
 use denote.Ref.{now}
 use native.Mathlib.Nat.{mul-le-mul-left}
 use native.Mathlib.Omega.{arith}
 use lib.ListN.{length}
 use borrow.Author.Needs.{needs}
-use Rattle.wire.specs.Laid.{Laid, laid}
+use Rattle.wire.specs.Laid.{laid}
 use Rattle.wire.proofs.Laid.{_then_, fits}
 use Rattle.reduction.specs.Built.{untils}
 use Rattle.build.specs.Held.{heldModel, heldRows}

@@ -1,10 +1,9 @@
 -- `report::answer` meets its contract: the lines of a settled question, or of a refusal; the budget is never spent.
-use mathlib.Core.Path.{_≡_, refl, sym, ap, _∙_}
+use mathlib.Core.Path.{refl, sym, _∙_}
 use denote.Ref.{now}
 use native.Mathlib.Omega.{arith}
 use borrow.Author.Needs.{needs}
 use Rattle.lists.proofs.Tests.{by}
-use Rattle.refusal.specs.declared.Refusal.{Refusal}
 use Rattle.wire.specs.Bytes.{Bytes}
 use Rattle.wire.proofs.Laid.{said}
 use Rattle.report.proofs.Ended.{Done, left-is, output-refused, output-spent, output-done}

@@ -1,13 +1,12 @@
 -- `report::put_state` meets its contract: the state, and yes or no with the end of the line.
 use Prim.Native.Nat.{_+_, _≤_}
-use mathlib.Core.Bool.{Bool, true, false}
-use mathlib.Core.List.{List, [], _∷_, _++_}
-use mathlib.Core.Path.{_≡_, refl, ap}
+use mathlib.Core.Bool.{true, false}
+use mathlib.Core.List.{[], _∷_, _++_}
 use denote.Ref.{now}
 use native.Mathlib.Omega.{arith}
 use lib.ListN.{length, length-append}
 use borrow.Author.Needs.{needs}
-use Rattle.wire.proofs.Laid.{_then_, fits, said}
+use Rattle.wire.proofs.Laid.{_then_, fits}
 use Rattle.text.specs.Text.{decimal}
 use Rattle.report.specs.Lines.{answerWord}
 use Rattle.report.proofs.Lines.{state-parts}
