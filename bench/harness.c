@@ -264,16 +264,17 @@ static const struct workload {
     void (*make)(struct input *, uint32_t);
     void (*run)(int version, const struct input *, struct answer *);
     int landed;                              /* the library has it */
+    int check;                               /* it answers for messages with a fault too */
 } table[] = {
-    {"rounds: a chain", "nodes", 4096, chain, run_rounds, 1},
-    {"rounds: cover edges", "nodes", 4096, covers, run_rounds, 1},
-    {"rounds: wide", "nodes", 4096, wide, run_rounds, 1},
-    {"rounds: a ladder, 48 rounds", "nodes", 4096, ladder, run_rounds, 1},
-    {"check of a graph", "nodes", 4096, wide, run_graph, 1},
-    {"check of a model", "transitions", 65535, models, run_model, 1},
-    {"check of a formula", "rows", 64, formulas, run_formula, 1},
-    {"the graph of a model", "transitions", 65535, question, run_build, 0},
-    {"a verdict", "transitions", 65535, question, run_verdict, 0},
+    {"rounds: a chain", "nodes", 4096, chain, run_rounds, 1, 0},
+    {"rounds: cover edges", "nodes", 4096, covers, run_rounds, 1, 0},
+    {"rounds: wide", "nodes", 4096, wide, run_rounds, 1, 0},
+    {"rounds: a ladder, 48 rounds", "nodes", 4096, ladder, run_rounds, 1, 0},
+    {"check of a graph", "nodes", 4096, wide, run_graph, 1, 1},
+    {"check of a model", "transitions", 65535, models, run_model, 1, 1},
+    {"check of a formula", "rows", 64, formulas, run_formula, 1, 1},
+    {"the graph of a model", "transitions", 65535, question, run_build, 0, 0},
+    {"a verdict", "transitions", 65535, question, run_verdict, 0, 0},
 };
 
 /* ---- measuring */
@@ -306,6 +307,30 @@ static void compare(const struct workload *w)
             exit(1);
         }
     }
+}
+
+/* Spoils a small message in a thousand ways, one byte at a time, and compares the first faults that the library, (b) and (c) find.
+ * (d) decodes before it checks, and may find another one first. */
+static long spoil(const struct workload *w)
+{
+    long refused = 0;
+    w->make(&in, w->most / 64 > 8 ? w->most / 64 : 8);
+    for (uint32_t i = 0; i < 1000; i++) {
+        uint8_t *byte = in.message + (i % 2 ? draw((uint32_t)in.length) : draw(16)), kept = *byte;
+        *byte = (uint8_t)(i % 3 ? draw(256) : kept + 1u);
+        for (int v = A; v <= C; v++) {
+            answers[v].number = 99;
+            w->run(v, &in, &answers[v]);
+            if (answers[v].number != answers[A].number) {
+                fprintf(stderr, "%s: version %d finds fault %u, and not %u, where byte %ld is %u\n", w->name, v, answers[v].number,
+                        answers[A].number, (long)(byte - in.message), *byte);
+                exit(1);
+            }
+        }
+        refused += answers[A].number != 0;
+        *byte = kept;
+    }
+    return refused;
 }
 
 /* The least time of a call of each version, in some turns; a turn of a version takes about the time given. */
@@ -354,10 +379,15 @@ int main(int argc, char **argv)
     }
     printf("| workload | size | bytes | rounds | (a) µs | (b) µs | (c) µs | (d) µs | a/b | a/c | a/d | growth of a, b, d |\n");
     printf("|---|---|---|---|---|---|---|---|---|---|---|---|\n");
+    char above[4096] = "";
+    long refused = 0;
     for (size_t i = 0; i < sizeof table / sizeof *table; i++) {
         const struct workload *w = &table[i];
         if (!strstr(w->name, only))
             continue;
+        memset(&in.length, 0, sizeof in - offsetof(struct input, length));
+        if (w->check)
+            refused += spoil(w);
         double last[3] = {0, 0, 0};
         for (uint32_t part = 8; part >= 1; part /= 2) {
             uint32_t size = (w->most + part - 1) / part;
@@ -386,7 +416,11 @@ int main(int argc, char **argv)
                 printf(" -, %.2f, %.2f |\n", b / last[1], d / last[2]);
             last[0] = best[A], last[1] = b, last[2] = d;
             fflush(stdout);
+            if (part == 1 && w->landed && (best[A] > b || best[A] > best[C] || best[A] > 1.2 * d))
+                snprintf(above + strlen(above), sizeof above - strlen(above), "%s%s", *above ? "; " : "", w->name);
         }
     }
+    printf("\nAll versions gave the same answers; (a), (b) and (c) also on %ld messages with a fault. At the largest size, above 1.00 for a/b or a/c or above 1.20 for a/d: %s.\n",
+           refused, *above ? above : "none");
     return 0;
 }

@@ -52,6 +52,10 @@ if [ "$machine" != x86_64 ]; then
     build here gcc "$machine-unknown-linux-gnu" "rustc --edition 2021" "$out/library-here.o"
 fi
 
+$gcc -std=gnu17 -O2 -Wall -Wextra -Werror -I"$root/include" "$root/bench/stack.c" "$target/lib/libotzarvim.a" -o "$out/stack"
+
+# An emulator takes ten times as long.
+if [ "$machine" = x86_64 ]; then turn=0.02 turns=7; else turn=0.005 turns=2; fi
 processor=$(lscpu | sed -n 's/^Model name: *//p' | head -n 1)
 report=$out/RESULTS.md
 {
@@ -70,10 +74,14 @@ END
     else
         printf '\n## x86-64, under an emulator (%s): these times say little about an x86-64 processor\n\n' "${emulated#under }"
     fi
-    $run "$out/x86_64/harness" "${1:-0.02}" "${2:-5}" "${3:-}"
+    $run "$out/x86_64/harness" "${1:-$turn}" "${2:-$turns}" "${3:-}"
     if [ "$machine" != x86_64 ]; then
         printf '\n## %s, without an emulator: the LLVM module of the library compiled for this machine\n\n' "$machine"
         "$out/here/harness" "${1:-0.02}" "${2:-7}" "${3:-}"
     fi
+    printf '\n## Memory, on x86-64\n\n'
+    printf 'No heap: beside its own functions the archive calls %s. What each function touches of the stack, on the inputs that need the most:\n\n' \
+        "$("$nm" -u "$target/lib/libotzarvim.a" | sed -n 's/^ *U \(.*\)/`\1`/p' | paste -sd' ' | sed 's/ / and /')"
+    $run "$out/stack"
 } | tee "$report"
 [ -n "${3:-}" ] || cp "$report" "$root/bench/RESULTS.md"

@@ -17,7 +17,6 @@ say "target/lib/libotzarvim.a proved and compiled"
 for std in c99 c17; do
     echo '#include "otzarvim.h"' | $gcc -std=$std -Wall -Wextra -Wpedantic -Werror -I"$root/include" -x c -c -o "$out/header.o" - || die "the header is not $std"
 done
-nm=$(command -v "${gcc%gcc}nm" || command -v nm)
 promised=$(grep -o '^uint8_t otzarvim_[a-z_]*' "$root/include/otzarvim.h" | cut -d' ' -f2 | sort)
 exported=$("$nm" "$target/lib/libotzarvim.a" 2>/dev/null | sed -n 's/.* T \(.*\)/\1/p' | sort)
 [ "$promised" = "$exported" ] || die "the header and the archive differ: $(printf '%s\n' "$promised" "$exported" | sort | uniq -u | tr '\n' ' ')"
@@ -50,4 +49,4 @@ done
 $rustdoc --test --crate-name otzarvim "$root/bindings/rust/src/lib.rs" --extern otzarvim="$out/libotzarvim.rlib" -L native="$target/lib" $words >"$out/doc-tests.txt" 2>&1 ||
     { cat "$out/doc-tests.txt"; die "a doc test failed"; }
 say "$(sed -n 's/^test result: ok\. \([0-9]* passed\).*/doc tests of bindings\/rust: \1/p' "$out/doc-tests.txt")"
-say "ok (programs for x86-64, run ${emulated/#no/as they are})"
+say "ok (programs for x86-64, run $emulated)"

@@ -20,14 +20,13 @@ triple=x86_64-unknown-linux-gnu
 # Runs a command as root: the installation of a Debian package.
 as_root() { if [ "$(id -u)" = 0 ]; then "$@"; else sudo "$@"; fi; }
 
-# Sets `gcc`, `clang` and `run`: a command for x86-64 each (clang may be missing).
+# Sets `gcc`, `nm` and `run`: a command for x86-64 each; and `emulated`: how programs run.
 c_tools() {
     if [ "$machine" = x86_64 ]; then
         gcc=gcc
-        clang=
-        ! command -v clang >/dev/null || clang=clang
+        nm=nm
         run=
-        emulated=no
+        emulated="as they are"
         command -v gcc >/dev/null || die "gcc is not on the path"
         return
     fi
@@ -36,9 +35,8 @@ c_tools() {
         say "installing gcc-x86-64-linux-gnu"
         as_root apt-get install -y -qq gcc-x86-64-linux-gnu >/dev/null || die "no C compiler for x86-64: apt-get install gcc-x86-64-linux-gnu failed"
     fi
+    nm=x86_64-linux-gnu-nm
     sysroot=/usr/x86_64-linux-gnu
-    clang=
-    ! command -v clang >/dev/null || clang="clang --target=x86_64-linux-gnu"
     [ -x "$tools/bin/qemu-x86_64" ] || die "the kit has no emulator at $tools/bin/qemu-x86_64"
     run="$tools/bin/qemu-x86_64 -L $sysroot"
     emulated="under $("$tools/bin/qemu-x86_64" --version | sed -n '1s/ *(.*//p')"
