@@ -22,8 +22,8 @@ asked m f state budget b v = answerOf (readAsked m f state) state budget b v
 abbrev pub settled : (m f : List ℕ) → (budget : ℕ) → (bytes values : List ℕ) → Settled
 settled m f budget b v = settledOf (readQuestion m f) budget b v
 
--- where state 0's number stands in the room of values, and how many states there are; 0 where nothing settled
-abbrev pub settledStates : Settled → List ℕ
-settledStates (Settled.Done m n first states) = first ∷ states ∷ []
-settledStates (Settled.Spent m n) = 0 ∷ 0 ∷ []
-settledStates (Settled.Refused e) = 0 ∷ 0 ∷ []
+-- where state 0's number stands in the room of values, and how many states there are; as it came where nothing settled
+abbrev pub settledStates : Settled → List ℕ → List ℕ
+settledStates (Settled.Done m n first states) came = first ∷ states ∷ []
+settledStates (Settled.Spent m n) came = came
+settledStates (Settled.Refused e) came = came

@@ -13,6 +13,7 @@ ghost use Rattle.verdict.specs.Question.{readQuestion, readAsked};
 ghost use Rattle.verdict.specs.Answer as v;
 ghost use Rattle.export.specs.Counts.{graphCounts, modelCounts, formulaCount};
 ghost use Rattle.export.specs.Verdicts.{verdictNumber, asked, settled, settledStates};
+use refusal::Refusal;
 use verdict::Settled;
 use verdict::Verdict;
 
@@ -20,17 +21,14 @@ use verdict::Verdict;
 #[no_mangle]
 pub extern "C" fn otzarvim_graph_check(message: &[u8], counts: &mut [u32; 3]) -> u8
     ensures { λ r. ⌜ r ≡ g.checkedNumber (g.checked (readGraph (now (message .entry)))) ⌝ }
-    ensures { λ _. ⌜ now (counts .exit) ≡ graphCounts (g.checked (readGraph (now (message .entry)))) ⌝ }
+    ensures { λ _. ⌜ now (counts .exit) ≡ graphCounts (g.checked (readGraph (now (message .entry)))) (now (counts .entry)) ⌝ }
 {
     match graph::check(message) {
         graph::Checked::Graph(n, h, c) => {
             *counts = [n, h, c];
             0
         }
-        graph::Checked::Refused(e) => {
-            *counts = [0, 0, 0];
-            e.number()
-        }
+        graph::Checked::Refused(e) => e.number(),
     }
 }
 
@@ -38,17 +36,14 @@ pub extern "C" fn otzarvim_graph_check(message: &[u8], counts: &mut [u32; 3]) ->
 #[no_mangle]
 pub extern "C" fn otzarvim_model_check(message: &[u8], counts: &mut [u32; 3]) -> u8
     ensures { λ r. ⌜ r ≡ m.checkedNumber (m.checked (readModel (now (message .entry)))) ⌝ }
-    ensures { λ _. ⌜ now (counts .exit) ≡ modelCounts (m.checked (readModel (now (message .entry)))) ⌝ }
+    ensures { λ _. ⌜ now (counts .exit) ≡ modelCounts (m.checked (readModel (now (message .entry)))) (now (counts .entry)) ⌝ }
 {
     match model::check(message) {
         model::Checked::Model(s, p, t) => {
             *counts = [s, p, t];
             0
         }
-        model::Checked::Refused(e) => {
-            *counts = [0, 0, 0];
-            e.number()
-        }
+        model::Checked::Refused(e) => e.number(),
     }
 }
 
@@ -56,17 +51,14 @@ pub extern "C" fn otzarvim_model_check(message: &[u8], counts: &mut [u32; 3]) ->
 #[no_mangle]
 pub extern "C" fn otzarvim_formula_check(message: &[u8], p: u32, rows: &mut u32) -> u8
     ensures { λ r. ⌜ r ≡ f.checkedNumber (f.checked (readFormula p (now (message .entry)))) ⌝ }
-    ensures { λ _. ⌜ now (rows .exit) ≡ formulaCount (f.checked (readFormula p (now (message .entry)))) ⌝ }
+    ensures { λ _. ⌜ now (rows .exit) ≡ formulaCount (f.checked (readFormula p (now (message .entry)))) (now (rows .entry)) ⌝ }
 {
     match formula::check(message, p) {
         formula::Checked::Formula(count) => {
             *rows = count;
             0
         }
-        formula::Checked::Refused(e) => {
-            *rows = 0;
-            e.number()
-        }
+        formula::Checked::Refused(e) => e.number(),
     }
 }
 
@@ -104,6 +96,17 @@ pub extern "C" fn otzarvim_formula_text(
     written.number()
 }
 
+// The number of a verdict.
+fn verdict_number(verdict: Verdict) -> u8
+    ensures { λ r. ⌜ r ≡ verdictNumber verdict ⌝ }
+{
+    match verdict {
+        Verdict::None => 0,
+        Verdict::Yes => 1,
+        Verdict::No => 2,
+    }
+}
+
 // The verdict on a state; lends back the verdict's number, the count of rounds and the length of the graph.
 #[no_mangle]
 pub extern "C" fn otzarvim_verdict(
@@ -129,17 +132,13 @@ pub extern "C" fn otzarvim_verdict(
         (now (values .entry))) ⌝ }
 {
     let answer = verdict::decide(model, formula, state, budget, bytes, values);
-    *verdict = match answer.verdict() {
-        Verdict::None => 0,
-        Verdict::Yes => 1,
-        Verdict::No => 2,
-    };
+    *verdict = verdict_number(answer.verdict());
     *count = answer.count();
     *length = answer.length();
     answer.number()
 }
 
-// All states at once; lends back the count of rounds, the length of the graph, the place of state 0's number and how many states there are.
+// All states at once; lends back the count of rounds, the length of the graph, the place of state 0's number and how many states there are, where it settled.
 #[no_mangle]
 pub extern "C" fn otzarvim_settle(
     model: &[u8],
@@ -160,15 +159,24 @@ pub extern "C" fn otzarvim_settle(
     ensures { λ _. ⌜ now (length .exit) ≡ v.settledLength (settled (now (model .entry)) (now (formula .entry)) budget (now (bytes .entry))
         (now (values .entry))) ⌝ }
     ensures { λ _. ⌜ now (states .exit) ≡ settledStates (settled (now (model .entry)) (now (formula .entry)) budget (now (bytes .entry))
-        (now (values .entry))) ⌝ }
+        (now (values .entry))) (now (states .entry)) ⌝ }
 {
-    let answer = verdict::settle(model, formula, budget, bytes, values);
-    *states = match answer {
-        Settled::Done(_, _, first, many) => [first, many],
-        Settled::Spent(_, _) => [0, 0],
-        Settled::Refused(_) => [0, 0],
-    };
-    *count = answer.count();
-    *length = answer.length();
-    answer.number()
+    match verdict::settle(model, formula, budget, bytes, values) {
+        Settled::Done(rounds, long, first, many) => {
+            *count = rounds;
+            *length = long;
+            *states = [first, many];
+            0
+        }
+        Settled::Spent(rounds, long) => {
+            *count = rounds;
+            *length = long;
+            Refusal::Budget.number()
+        }
+        Settled::Refused(e) => {
+            *count = 0;
+            *length = 0;
+            e.number()
+        }
+    }
 }

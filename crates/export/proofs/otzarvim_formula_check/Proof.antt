@@ -1,8 +1,10 @@
--- `export::otzarvim_formula_check` meets its contract: the number and the rows of what the check answers.
+-- `export::otzarvim_formula_check` meets its contract: the number of what the check answers, and the rows of an accepted message.
 use mathlib.Core.Path.{sym, ap, _∙_}
+use denote.Ref.{now}
 use borrow.Author.Needs.{needs}
 use Rattle.lists.proofs.Tests.{by}
 use Rattle.formula.specs.Answers.{checkedNumber}
+use Rattle.formula.specs.declared.Checked.{Checked}
 use Rattle.export.specs.Counts.{formulaCount}
 use Rattle.export.proofs.otzarvim_formula_check.Statement.{statement}
 use Rattle.export.proofs.otzarvim_formula_check.Tie as tie
@@ -21,15 +23,25 @@ number-requires c κs = search needs
 
 returns : tie.Need-returns
 returns c =
-    let accepted = by (c .before .before .before .check .ensures) (c .before .count .given .1) in
-    (sym (ap checkedNumber accepted), sym (ap formulaCount accepted))
+    let known = c .before in
+    let accepted = by (known .before .before .check .ensures) (known .count .given .1) in
+    let came = now (known .before .before .before .before .args .rows) in
+    (sym (ap checkedNumber accepted), sym (ap (λ (x : Checked). formulaCount x came) accepted))
 
 returns-2 : tie.Need-returns-2
 returns-2 c =
-    let refused = by (c .before .before .before .before .check .ensures) (c .before .before .e .given .1) in
-    (c .number .ensures ∙ sym (ap checkedNumber refused), sym (ap formulaCount refused))
+    let known = c .before .before in
+    let refused = by (known .before .before .check .ensures) (known .e .given .1) in
+    let came = now (known .before .before .before .before .args .rows) in
+    (c .number .ensures ∙ sym (ap checkedNumber refused), sym (ap (λ (x : Checked). formulaCount x came) refused))
 
 pub otzarvim-formula-check-spec : {M : Type 1} → statement M
 otzarvim-formula-check-spec =
     tie.close
-    (tie.spec check-requires enum-known-count enum-known-e number-requires returns returns-2)
+    (tie.spec
+    check-requires
+    enum-known-count
+    enum-known-e
+    number-requires
+    returns
+    returns-2)

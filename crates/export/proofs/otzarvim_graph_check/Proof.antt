@@ -1,8 +1,10 @@
--- `export::otzarvim_graph_check` meets its contract: the number and the counts of what the check answers.
+-- `export::otzarvim_graph_check` meets its contract: the number of what the check answers, and the counts of an accepted message.
 use mathlib.Core.Path.{sym, ap, _∙_}
+use denote.Ref.{now}
 use borrow.Author.Needs.{needs}
 use Rattle.lists.proofs.Tests.{by}
 use Rattle.graph.specs.Answers.{checkedNumber}
+use Rattle.graph.specs.declared.Checked.{Checked}
 use Rattle.export.specs.Counts.{graphCounts}
 use Rattle.export.proofs.otzarvim_graph_check.Statement.{statement}
 use Rattle.export.proofs.otzarvim_graph_check.Tie as tie
@@ -21,13 +23,17 @@ number-requires c κs = search needs
 
 returns : tie.Need-returns
 returns c =
-    let accepted = by (c .before .before .before .before .check .ensures) (c .before .before .n .given .1) in
-    (sym (ap checkedNumber accepted), sym (ap graphCounts accepted))
+    let known = c .before .before in
+    let accepted = by (known .before .before .check .ensures) (known .n .given .1) in
+    let came = now (known .before .before .before .before .args .counts) in
+    (sym (ap checkedNumber accepted), sym (ap (λ (x : Checked). graphCounts x came) accepted))
 
 returns-2 : tie.Need-returns-2
 returns-2 c =
-    let refused = by (c .before .before .before .before .before .check .ensures) (c .before .before .before .e .given .1) in
-    (c .number .ensures ∙ sym (ap checkedNumber refused), sym (ap graphCounts refused))
+    let known = c .before .before in
+    let refused = by (known .before .before .check .ensures) (known .e .given .1) in
+    let came = now (known .before .before .before .before .args .counts) in
+    (c .number .ensures ∙ sym (ap checkedNumber refused), sym (ap (λ (x : Checked). graphCounts x came) refused))
 
 pub otzarvim-graph-check-spec : {M : Type 1} → statement M
 otzarvim-graph-check-spec =

@@ -1,8 +1,10 @@
--- `export::otzarvim_model_check` meets its contract: the number and the counts of what the check answers.
+-- `export::otzarvim_model_check` meets its contract: the number of what the check answers, and the counts of an accepted message.
 use mathlib.Core.Path.{sym, ap, _∙_}
+use denote.Ref.{now}
 use borrow.Author.Needs.{needs}
 use Rattle.lists.proofs.Tests.{by}
 use Rattle.model.specs.Answers.{checkedNumber}
+use Rattle.model.specs.declared.Checked.{Checked}
 use Rattle.export.specs.Counts.{modelCounts}
 use Rattle.export.proofs.otzarvim_model_check.Statement.{statement}
 use Rattle.export.proofs.otzarvim_model_check.Tie as tie
@@ -21,13 +23,17 @@ number-requires c κs = search needs
 
 returns : tie.Need-returns
 returns c =
-    let accepted = by (c .before .before .before .before .check .ensures) (c .before .before .s .given .1) in
-    (sym (ap checkedNumber accepted), sym (ap modelCounts accepted))
+    let known = c .before .before in
+    let accepted = by (known .before .before .check .ensures) (known .s .given .1) in
+    let came = now (known .before .before .before .before .args .counts) in
+    (sym (ap checkedNumber accepted), sym (ap (λ (x : Checked). modelCounts x came) accepted))
 
 returns-2 : tie.Need-returns-2
 returns-2 c =
-    let refused = by (c .before .before .before .before .before .check .ensures) (c .before .before .before .e .given .1) in
-    (c .number .ensures ∙ sym (ap checkedNumber refused), sym (ap modelCounts refused))
+    let known = c .before .before in
+    let refused = by (known .before .before .check .ensures) (known .e .given .1) in
+    let came = now (known .before .before .before .before .args .counts) in
+    (c .number .ensures ∙ sym (ap checkedNumber refused), sym (ap (λ (x : Checked). modelCounts x came) refused))
 
 pub otzarvim-model-check-spec : {M : Type 1} → statement M
 otzarvim-model-check-spec =
