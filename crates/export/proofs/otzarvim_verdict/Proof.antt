@@ -2,7 +2,6 @@
 use mathlib.Core.Path.{ap, _∙_}
 use borrow.Author.Needs.{needs}
 use Rattle.verdict.specs.Answer.{answerNumber, answerVerdict, answerCount, answerLength}
-use Rattle.verdict.specs.declared.Answer.{Answer}
 use Rattle.export.specs.Verdicts.{verdictNumber}
 use Rattle.export.proofs.otzarvim_verdict.Statement.{statement}
 use Rattle.export.proofs.otzarvim_verdict.Tie as tie
