@@ -139,31 +139,23 @@ fn judge(p: u32, place: u32, operator: u32, left: u32, right: u32, zero: u32, bo
     Judged::Fine(row)
 }
 
-// One row.
+// One row: where its last field fits, so do those before it.
 fn one_row(s: &[u8], p: u32, st: State) -> Step
     requires { ⌜ (st .at ≤ length (now s)) × (st .tally ≤ 64) ⌝ }
     ensures { λ r. ⌜ r ≡ step (one (m.rows (now (s .entry)) p) st) ⌝ }
 {
     let at = st.at;
-    let Field::Number(operator) = wire::read(s, at, Width::One) else {
-        return Step::Refused(Refusal::Length);
-    };
-    let left_at = at + 1;
-    let Field::Number(left) = wire::read(s, left_at, Width::One) else {
-        return Step::Refused(Refusal::Length);
-    };
-    let right_at = at + 2;
-    let Field::Number(right) = wire::read(s, right_at, Width::One) else {
-        return Step::Refused(Refusal::Length);
-    };
-    let zero_at = at + 3;
-    let Field::Number(zero) = wire::read(s, zero_at, Width::One) else {
-        return Step::Refused(Refusal::Length);
-    };
     let bound_at = at + 4;
     let Field::Number(bound) = wire::read(s, bound_at, Width::Four) else {
         return Step::Refused(Refusal::Length);
     };
+    let operator = wire::number_at(s, at, Width::One);
+    let left_at = at + 1;
+    let left = wire::number_at(s, left_at, Width::One);
+    let right_at = at + 2;
+    let right = wire::number_at(s, right_at, Width::One);
+    let zero_at = at + 3;
+    let zero = wire::number_at(s, zero_at, Width::One);
     if let Judged::Refused(e) = judge(p, st.tally, operator, left, right, zero, bound) {
         return Step::Refused(e);
     }
@@ -229,28 +221,26 @@ pub fn row_at(s: &[u8], at: usize) -> Row
 }
 
 // One use more of a row.
-fn count_use(counts: [u32; 64], row: u32) -> [u32; 64]
-    requires { ⌜ (row < 64) × (getD counts row 0 < 256) ⌝ }
-    ensures { λ r. ⌜ ((i : ℕ) → getD r i 0 ≡ getD counts i 0 + rows.times i (row ∷ [])) ⌝ }
+fn count_use(counts: &mut [u32], row: u32)
+    requires { ⌜ (row < length (now counts)) × (getD (now counts) row 0 < 256) ⌝ }
+    ensures { λ _. ⌜ ((i : ℕ) → getD (now (counts .exit)) i 0 ≡ getD (now (counts .entry)) i 0 + rows.times i (row ∷ [])) ⌝ }
 {
-    let mut more = counts;
     let k = row as usize;
-    more[k] = more[k] + 1;
-    more
+    counts[k] += 1;
 }
 
 // The uses that a row makes of others.
-fn count_row(counts: [u32; 64], row: Row) -> [u32; 64]
-    requires { ⌜ ((l : ℕ) → l ∈ rows.operands row → l < 64) × ((i : ℕ) → getD counts i 0 < 255) ⌝ }
-    ensures { λ r. ⌜ ((i : ℕ) → getD r i 0 ≡ getD counts i 0 + rows.times i (rows.operands row)) ⌝ }
+fn count_row(counts: &mut [u32], row: Row)
+    requires { ⌜ ((l : ℕ) → l ∈ rows.operands row → l < length (now counts)) × ((i : ℕ) → getD (now counts) i 0 < 255) ⌝ }
+    ensures { λ _. ⌜ ((i : ℕ) → getD (now (counts .exit)) i 0 ≡ getD (now (counts .entry)) i 0 + rows.times i (rows.operands row)) ⌝ }
 {
     match row {
-        Row::True | Row::False | Row::Proposition(_) | Row::Negation(_) => counts,
+        Row::True | Row::False | Row::Proposition(_) | Row::Negation(_) => {}
         Row::Next(_, l, _) => count_use(counts, l),
-        Row::And(l, r) | Row::Or(l, r) | Row::Until(_, l, r, _) => count_use(
-            count_use(counts, l),
-            r,
-        ),
+        Row::And(l, r) | Row::Or(l, r) | Row::Until(_, l, r, _) => {
+            count_use(counts, l);
+            count_use(counts, r);
+        }
     }
 }
 
@@ -260,12 +250,12 @@ fn count_rows(s: &[u8], f: u32) -> [u32; 64]
     requires { ⌜ f ≤ 64 ⌝ }
     ensures { λ r. ⌜ ((i : ℕ) → getD r i 0 ≡ rows.uses i (items (rowLayout (now (s .entry))) f 7)) ⌝ }
 {
-    let mut counts = [0; 64];
+    let mut counts = [0u32; 64];
     let mut at = 7;
     let mut k = f;
     while 0 < k {
-        let more = count_row(counts, row_at(s, at));
-        counts = more;
+        let row = row_at(s, at);
+        count_row(&mut counts, row);
         at += 8;
         k -= 1;
     }
