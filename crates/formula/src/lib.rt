@@ -3,10 +3,12 @@ ghost use mathlib.Core.Path.{_≡_};
 ghost use Prim.Native.Nat.{ℕ, _+_, _≤_, _<_};
 ghost use mathlib.Core.Bool.{_&&_};
 ghost use mathlib.Core.List.{[], _∷_};
-ghost use lib.Dec.{eqb};
+ghost use lib.Dec.{eqb, ltb};
 ghost use lib.ListN.{length, getD};
 ghost use Rattle.lists.specs.Lists.{_∈_};
+ghost use Rattle.refusal.specs.declared.Refusal.the-variants as fault;
 ghost use Rattle.wire.specs.Layout.{items, Sound};
+ghost use Rattle.wire.specs.Read as read;
 ghost use Rattle.wire.specs.Reader.{one, run};
 ghost use Rattle.wire.specs.Step.{step};
 ghost use Rattle.formula.specs.Rows as rows;
@@ -97,46 +99,43 @@ fn all_zero(a: u32, b: u32, c: u32, d: u32) -> bool
     d == 0
 }
 
-// Whether the fields that the row doesn't use are zero: one that it uses counts as zero.
-fn spare_zero(row: Row, left: u32, right: u32, zero: u32, bound: u32) -> bool
-    ensures { λ r. ⌜ r ≡ rows.spareZero row left right zero bound ⌝ }
+// Whether both operands are below the row's own place.
+fn both_below(left: u32, right: u32, place: u32) -> bool
+    ensures { λ r. ⌜ r ≡ (ltb left place && ltb right place) ⌝ }
 {
-    match row {
-        Row::True | Row::False => all_zero(left, right, zero, bound),
-        Row::Proposition(_) | Row::Negation(_) => all_zero(0, right, zero, bound),
-        Row::And(_, _) | Row::Or(_, _) => all_zero(0, 0, zero, bound),
-        Row::Next(_, _, _) => all_zero(0, right, zero, 0),
-        Row::Until(_, _, _, _) => all_zero(0, 0, zero, 0),
-    }
+    left < place && right < place
 }
 
-// Whether the row's proposition is below p, and its operands are below its own place.
-fn named(row: Row, p: u32, place: u32) -> bool
-    ensures { λ r. ⌜ r ≡ rows.named p place row ⌝ }
+// The row, or its first fault: whether the fields that it doesn't use are zero comes before whether its names exist.
+fn first_fault(spare: bool, named: bool, row: Row) -> Judged
+    ensures { λ r. ⌜ r ≡ answers.judged (read._>>_ (read.demand spare fault.Form) (read._>>_ (read.demand named fault.Name) (read.good row))) ⌝ }
 {
-    match row {
-        Row::True | Row::False => true,
-        Row::Proposition(q) | Row::Negation(q) => q < p,
-        Row::Next(_, l, _) => l < place,
-        Row::And(l, r) | Row::Or(l, r) | Row::Until(_, l, r, _) => l < place && r < place,
-    }
-}
-
-// The row of these fields at a place, or its first fault.
-fn judge(p: u32, place: u32, operator: u32, left: u32, right: u32, zero: u32, bound: u32) -> Judged
-    ensures { λ r. ⌜ r ≡ answers.judged (m.judgeRow p place operator left right zero bound) ⌝ }
-{
-    if 9 < operator {
+    if !spare {
         return Judged::Refused(Refusal::Form);
     }
-    let row = row_of(operator, left, right, bound);
-    if !spare_zero(row, left, right, zero, bound) {
-        return Judged::Refused(Refusal::Form);
-    }
-    if !named(row, p, place) {
+    if !named {
         return Judged::Refused(Refusal::Name);
     }
     Judged::Fine(row)
+}
+
+// The row of these fields at a place, or its first fault; of the fields that should be zero, one that the row uses counts as zero.
+fn judge(p: u32, place: u32, operator: u32, left: u32, right: u32, zero: u32, bound: u32) -> Judged
+    ensures { λ r. ⌜ r ≡ answers.judged (m.judgeRow p place operator left right zero bound) ⌝ }
+{
+    let row = row_of(operator, left, right, bound);
+    match operator {
+        0 | 1 => first_fault(all_zero(left, right, zero, bound), true, row),
+        2 | 3 => first_fault(all_zero(0, right, zero, bound), left < p, row),
+        4 | 5 => first_fault(
+            all_zero(0, 0, zero, bound),
+            both_below(left, right, place),
+            row,
+        ),
+        6 | 7 => first_fault(all_zero(0, right, zero, 0), left < place, row),
+        8 | 9 => first_fault(all_zero(0, 0, zero, 0), both_below(left, right, place), row),
+        _ => Judged::Refused(Refusal::Form),
+    }
 }
 
 // One row: where its last field fits, so do those before it.
