@@ -1,6 +1,6 @@
 -- Edges laid into the room one after another, and the loops over transitions that do so. Assumes nothing.
 use Prim.Native.Nat.{ℕ, _+_, _*_, _-_, _<_, _≤_}
-use mathlib.Core.List.{List, [], _∷_, _++_, map, append-nil, List·Memᴰ·head, List·Memᴰ·tail}
+use mathlib.Core.List.{List, [], _∷_, _++_, map, append-assoc, append-nil, List·Memᴰ·head, List·Memᴰ·tail}
 use mathlib.Core.Bool.{Bool, true, false, cond}
 use mathlib.Core.Path.{_≡_, refl, sym, ap, subst, _∙_}
 use native.Mathlib.Omega.{arith}
@@ -15,9 +15,10 @@ use Rattle.wire.specs.Laid.{Laid}
 use Rattle.wire.specs.Layout.{items}
 use Rattle.wire.specs.Write.{writeAll}
 use Rattle.wire.proofs.Bytes.{length-bytes}
+use Rattle.wire.proofs.Exact.{length-writeAll}
 use Rattle.wire.proofs.Laid.{Left, all-left, none-left, left-fits, left-then, nothing, _then_, said}
 use Rattle.wire.proofs.Layouts.{items-more}
-use Rattle.rules.specs.Graph.{Target}
+use Rattle.rules.specs.Graph.{Target, Hyper}
 use Rattle.graph.specs.Write.{writeTarget, writeHyper}
 use Rattle.model.specs.Model.{Transition}
 use Rattle.reduction.specs.Built.{to, hyper}
@@ -26,6 +27,11 @@ use Rattle.build.specs.Bytes.{hypersBytes, everyNext}
 use Rattle.build.proofs.Counting.{weight-within}
 
 -- ---- lists of records
+
+pub writeAll-append : {A : Type 0} (w : A → List ℕ) (xs ys : List A) → writeAll w (xs ++ ys) ≡ writeAll w xs ++ writeAll w ys
+unfolding writeAll
+writeAll-append w [] ys = refl
+writeAll-append w (a ∷ xs) ys = ap (λ (s : List ℕ). w a ++ s) (writeAll-append w xs ys) ∙ sym (append-assoc (w a) (writeAll w xs) (writeAll w ys))
 
 pub writeAll-map : {A B : Type 0} (w : B → List ℕ) (f : A → B) (l : List A) → writeAll w (map f l) ≡ writeAll (λ a. w (f a)) l
 unfolding writeAll
@@ -60,13 +66,15 @@ pub target-length : (t : Target) → length (writeTarget t) ≡ 6
 unfolding writeTarget
 target-length t = simp (length-append, length-bytes)
 
+pub hyper-length : (h : Hyper) → length (writeHyper h) ≡ 4 + length (h .targets) * 6
+unfolding writeHyper
+hyper-length h = simp (length-append, length-bytes) (omega (arith, length-writeAll writeTarget 6 target-length (h .targets)))
+
 pub single-length : (v : ℕ) (t : Target) → length (writeHyper (hyper v (t ∷ []))) ≡ 10
-unfolding writeHyper writeAll writeTarget
-single-length v t = simp (length-append, length-bytes)
+single-length v t = hyper-length (hyper v (t ∷ []))
 
 pub pair-length : (v : ℕ) (t t′ : Target) → length (writeHyper (hyper v (t ∷ t′ ∷ []))) ≡ 16
-unfolding writeHyper writeAll writeTarget
-pair-length v t t′ = simp (length-append, length-bytes)
+pair-length v t t′ = hyper-length (hyper v (t ∷ t′ ∷ []))
 
 -- a hyperedge is its head, and behind it its targets
 pub hyper-laid : {b : List ℕ} {at : ℕ} {b′ : List ℕ} {next : ℕ} {b″ : List ℕ} {end : ℕ} (v : ℕ) (ts : List Target)

@@ -1,13 +1,13 @@
--- The hyperedges of helper nodes: the parts of one, and the loops over states and rows that lay them in. Assumes nothing.
+-- The hyperedges of helper nodes: the parts of one, state by state, and the loop over rows that lays them in. Assumes nothing.
 use Prim.Native.Nat.{ℕ, suc, _+_, _*_, _-_, _<_, _≤_}
 use mathlib.Core.List.{List, [], _∷_, _++_, map, List·Memᴰ·head, List·Memᴰ·tail}
 use mathlib.Core.Bool.{false}
-use mathlib.Core.Path.{_≡_, refl, sym, ap, subst, _∙_}
+use mathlib.Core.Path.{_≡_, refl, ap, subst, _∙_}
 use native.Mathlib.Nat.{mul-le-mul-left, mul-suc}
 use native.Mathlib.Numerals.{add-one}
 use native.Mathlib.Omega.{arith}
 use lib.ListN.{length, length-map}
-use Rattle.lists.specs.Making.{keep}
+use Rattle.lists.specs.Making.{keep, span}
 use Rattle.lists.proofs.Kept.{keep-pass, keep-fail}
 use Rattle.value.specs.declared.Bound.{Bound}
 use Rattle.wire.specs.Bytes.{bytes}
@@ -28,8 +28,9 @@ use Rattle.reduction.specs.Built.{to, hyper, stepEdges, helperEdges, isUntil, u
 use Rattle.build.specs.Held.{transitionLayout, transitionsFrom, heldModel, heldRows, HoldsModel, HoldsRows, Own}
 use Rattle.build.specs.Bytes.{hypersBytes, someSteps, everySteps, helperList, helperBytes, helpersBytes, Narrow, HelpersFit}
 use Rattle.build.proofs.Accepted.{out-own}
-use Rattle.build.proofs.Edges.{single-length, hypers-more, hypers-one, first-fits}
-use Rattle.build.proofs.Nodes.{helper-are, writeAll-append, statesLeft, states-all, states-more, states-none}
+use Rattle.build.proofs.Edges.{writeAll-append, single-length, hypers-more, hypers-one, first-fits}
+use Rattle.build.proofs.Nodes.{helper-are}
+use Rattle.build.proofs.Spans.{span-written}
 
 -- ---- the helper of a state
 
@@ -56,46 +57,20 @@ pub own-narrow : {m : List ℕ} {n p t a first many : ℕ} → HoldsModel m n p 
 unfolding heldModel
 own-narrow {a = a} holds o narrow = rw (out-own holds o) at (narrow a (o .state))
 
--- ---- a loop over the states that lays in an until row's helpers
+-- ---- an until row's helpers, state by state
 
--- those of the states from a on
-abbrev fromState : Model → ℕ → Quantifier → (l r a : ℕ) → List ℕ
-fromState M h q l r a =
-    statesLeft writeHyper (λ a. map (hyper (a + M .states * h)) ((to 0 (a + M .states * r) ∷ []) ∷ stepEdges M q l h a)) (M .states) a
+-- those of state a
+abbrev pub helperOf : Model → ℕ → Quantifier → (l r a : ℕ) → List ℕ
+helperOf M h q l r a = hypersBytes (a + M .states * h) ((to 0 (a + M .states * r) ∷ []) ∷ stepEdges M q l h a)
 
--- they are left
-pub record StatesLeft (m : List ℕ) (n p t h : ℕ) (q : Quantifier) (l r : ℕ) (b : List ℕ) (at : ℕ) (b′ : List ℕ) (next a : ℕ) : Type 0 where
-  pub left : Left b at (helperBytes (heldModel m n p t) h q l r) b′ next (fromState (heldModel m n p t) h q l r a)
-
-pub helper-all : (m : List ℕ) (n p t h : ℕ) (q : Quantifier) (l r : ℕ) (b : List ℕ) (at : ℕ) → at + length (helperBytes (heldModel m n p t) h q l r) ≤ length b
-    → StatesLeft m n p t h q l r b at b at 0
+pub helper-spans : (M : Model) (h : ℕ) (q : Quantifier) (l r : ℕ) → helperBytes M h q l r ≡ span (helperOf M h q l r) 0 (M .states)
 unfolding helperBytes
-helper-all m n p t h q l r b at fits =
-    let M = heldModel m n p t in
-    record { left = subst (Left b at (helperBytes M h q l r) b at) (sym (states-all writeHyper _ (M .states))) (all-left b at (helperBytes M h q l r) fits) }
+helper-spans M h q l r = span-written writeHyper (λ a. map (hyper (a + M .states * h)) ((to 0 (a + M .states * r) ∷ []) ∷ stepEdges M q l h a)) 0 (M .states)
 
-module _ {m : List ℕ} {n p t h : ℕ} {q : Quantifier} {l r : ℕ} {b : List ℕ} {at : ℕ} {b′ : List ℕ} {next a : ℕ}
-    (s : StatesLeft m n p t h q l r b at b′ next a) where
-  pub helper-none : n ≤ a → Laid b at (helperBytes (heldModel m n p t) h q l r) b′ next
-  unfolding heldModel
-  helper-none e = none-left (subst (Left b at (helperBytes (heldModel m n p t) h q l r) b′ next) (states-none writeHyper _ n a e) (s .left))
-
-  -- a state more
-  module _ {first many : ℕ} (o : Own m n t a first many) where
-    abbrev here : List ℕ
-    here = hypersBytes (a + n * h) (helperList n a q l r h (transitionsFrom m n first many))
-
-    parts : fromState (heldModel m n p t) h q l r a ≡ here ++ fromState (heldModel m n p t) h q l r (a + 1)
-    unfolding heldModel
-    parts =
-        states-more writeHyper _ n a (o .state)
-        ∙ ap (λ (tss : List (List Target)). hypersBytes (a + n * h) tss ++ fromState (heldModel m n p t) h q l r (a + 1)) (helper-are p o q l r h)
-
-    pub helper-fits : next + length here ≤ length b′
-    helper-fits = left-fits (s .left) here _ parts
-
-    pub helper-then : {b″ : List ℕ} {end : ℕ} → Laid b′ next here b″ end → StatesLeft m n p t h q l r b at b″ end (a + 1)
-    helper-then laid = record { left = left-then (s .left) here _ parts laid }
+pub helper-is : (p : ℕ) {m : List ℕ} {n t a first many : ℕ} → Own m n t a first many → (h : ℕ) (q : Quantifier) (l r : ℕ)
+    → helperOf (heldModel m n p t) h q l r a ≡ hypersBytes (a + n * h) (helperList n a q l r h (transitionsFrom m n first many))
+unfolding heldModel
+helper-is p {n = n} {a = a} o h q l r = ap (hypersBytes (a + n * h)) (helper-are p o q l r h)
 
 -- ---- a loop over the rows that lays in the helpers of those that are untils
 

@@ -8,8 +8,9 @@
 --     Sizes      how much room hyperedges take, of a row and of all
 --     Whole      the size of a graph that is built, and of its message
 --     Edges      edges laid into the room one after another, and the loops over transitions that do so
---     Nodes      the edges of a node, from its state's transitions; loops over states from the front
---     Helpers    the hyperedges of helper nodes, and the loops over states and rows that lay them in
+--     Spans      lists that are made number by number, and the loop that lays such bytes in
+--     Nodes      the edges of a node, from its state's transitions; rows one after another
+--     Helpers    the hyperedges of helper nodes, and the loop over rows that lays them in
 --     Covers     the bytes of cover edges, state by state and row by row
 --     Parts      the message of a built graph, part by part, and what the tests before it is written say of it
 --     Writing    what the writing of a graph that passes no limit may rely on
@@ -22,6 +23,7 @@ pub mod Untils
 pub mod Sizes
 pub mod Whole
 pub mod Edges
+pub mod Spans
 pub mod Nodes
 pub mod Helpers
 pub mod Covers

@@ -1,7 +1,7 @@
 -- The edges of a node of an accepted model, from its state's transitions, and what a builder of them may rely on. Assumes nothing.
 use Prim.Native.Nat.{ℕ, suc, _+_, _*_, _-_, _<_, _≤_}
-use mathlib.Core.List.{List, [], _∷_, _++_, map, map-map, append-assoc}
-use mathlib.Core.Path.{_≡_, refl, sym, ap, _∙_}
+use mathlib.Core.List.{List, [], _∷_, _++_, map, map-map}
+use mathlib.Core.Path.{_≡_, refl, ap, _∙_}
 use native.Mathlib.Nat.{mul-le-mul-left, mul-suc}
 use native.Mathlib.Numerals.{add-one}
 use native.Mathlib.Omega.{arith}
@@ -27,7 +27,9 @@ use Rattle.formula.specs.Rows.{operands}
 use Rattle.formula.specs.WellFormed.{RowAt}
 use Rattle.reduction.specs.Built.{to, hyper, out, near, rowEdges, stepEdges, layout}
 use Rattle.build.specs.Held.{transitionsFrom, heldModel, heldRows, HoldsModel, HoldsRows, Own, Reads}
-use Rattle.build.specs.Bytes.{nextEdges, helperList, rowBytes, rowsBytes, RowFits}
+use Rattle.build.specs.Bytes.{hypersBytes, nextEdges, helperList, rowBytes, rowsBytes, RowFits}
+use Rattle.build.proofs.Edges.{writeAll-append}
+use Rattle.build.proofs.Spans.{span-written}
 use Rattle.build.proofs.Stride.{items-get}
 
 -- the nodes of an earlier place stand before those of a later one
@@ -74,42 +76,13 @@ module _ (p : ℕ) {m : List ℕ} {n t a first many : ℕ} (o : Own m n t a firs
     shift-fits = fits;
   }
 
--- ---- loops over states, from the front
-
--- records written one behind the other
-pub writeAll-append : {A : Type 0} (w : A → List ℕ) (xs ys : List A) → writeAll w (xs ++ ys) ≡ writeAll w xs ++ writeAll w ys
-unfolding writeAll
-writeAll-append w [] ys = refl
-writeAll-append w (a ∷ xs) ys = ap (λ (s : List ℕ). w a ++ s) (writeAll-append w xs ys) ∙ sym (append-assoc (w a) (writeAll w xs) (writeAll w ys))
-
-module _ {B : Type 0} (w : B → List ℕ) (f : ℕ → List B) where
-  -- the states from a on, below n
-  abbrev pub statesLeft : (n a : ℕ) → List ℕ
-  statesLeft n a = writeAll w (span f a (n - a))
-
-  pub states-all : (n : ℕ) → statesLeft n 0 ≡ writeAll w (span f 0 n)
-  states-all n = let all : n - 0 ≡ n = omega arith in rw all
-
-  pub states-more : (n a : ℕ) → a < n → statesLeft n a ≡ writeAll w (f a) ++ statesLeft n (a + 1)
-  unfolding span
-  states-more n a h =
-      let left : n - a ≡ suc (n - (a + 1)) = omega arith in
-      rw (left, add-one) (writeAll-append w (f a) (span f (suc a) (n - suc a)))
-
-  pub states-none : (n a : ℕ) → n ≤ a → statesLeft n a ≡ []
-  unfolding span writeAll
-  states-none n a h = let none : n - a ≡ 0 = omega arith in rw none
-
 -- ---- rows one after another
 
 module _ (M : Model) where
-  -- the nodes of a row, from state a on
-  abbrev pub rowLeft : (n r : ℕ) → Row → ℕ → List ℕ
-  rowLeft n r row a = statesLeft writeHyper (λ c. map (hyper (c + n * r)) (rowEdges M row c)) n a
-
-  pub row-all : (r : ℕ) (row : Row) → rowBytes M r row ≡ rowLeft (M .states) r row 0
+  -- a row's nodes, state by state
+  pub row-spans : (r : ℕ) (row : Row) → rowBytes M r row ≡ span (λ a. hypersBytes (a + M .states * r) (rowEdges M row a)) 0 (M .states)
   unfolding rowBytes
-  row-all r row = sym (states-all writeHyper (λ c. map (hyper (c + M .states * r)) (rowEdges M row c)) (M .states))
+  row-spans r row = span-written writeHyper (λ a. map (hyper (a + M .states * r)) (rowEdges M row a)) 0 (M .states)
 
   -- a row more
   pub rows-more : (r : ℕ) (row : Row) (rows : List Row) → rowsBytes M r (row ∷ rows) ≡ rowBytes M r row ++ rowsBytes M (r + 1) rows

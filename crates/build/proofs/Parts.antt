@@ -1,7 +1,7 @@
 -- The message of a graph that is built, part by part, and what the tests before it is written say of it. Assumes nothing.
-use Prim.Native.Nat.{ℕ, zero, suc, _+_, _*_, _<_, _≤_}
+use Prim.Native.Nat.{ℕ, suc, _+_, _*_, _<_, _≤_}
 use mathlib.Core.List.{List, [], _∷_, _++_, map, append-assoc}
-use mathlib.Core.Bool.{Bool, true, false, _&&_, and-false}
+use mathlib.Core.Bool.{true, false, _&&_, and-true, and-false}
 use mathlib.Core.Path.{_≡_, refl, sym, ap, ap₂, _∙_}
 use native.Mathlib.Nat.{add-zero, zero-add, mul-le-mul-left}
 use native.Mathlib.Omega.{arith}
@@ -32,15 +32,11 @@ use Rattle.build.specs.Size.{sizeOf, rowsEdges, inLimits}
 use Rattle.build.specs.Bytes.{rowsBytes, helpersBytes, coverBytes, coversFrom, coversOf, headerBytes}
 use Rattle.build.specs.Built.{fits, roomy, builtOf, roomOf, Writable}
 use Rattle.build.proofs.Untils.{other-row, by-row}
-use Rattle.build.proofs.Nodes.{writeAll-append}
+use Rattle.build.proofs.Edges.{writeAll-append}
+use Rattle.build.proofs.Spans.{span-empty}
 use Rattle.build.proofs.Whole.{size-of-graph, covers-of-graph, writing-length}
 
 -- ---- the cover edges
-
-span-none : {B : Type 0} (f : ℕ → List B) → ((a : ℕ) → f a ≡ []) → (a n : ℕ) → span f a n ≡ []
-unfolding span
-span-none f each a zero = refl
-span-none f each a (suc n) = ap₂ _++_ (each a) (span-none f each (suc a) n)
 
 -- with s states, and the helper of the row at each place at the place that is given
 module _ (s : ℕ) (place : ℕ → ℕ) where
@@ -72,7 +68,7 @@ module _ (s : ℕ) (place : ℕ → ℕ) where
         → Placed r h (row ∷ rows) → here r row ++ written (suc r) rows ≡ coversFrom s r h (row ∷ rows)
     unfolding coversFrom writeAll
     other-written row e at =
-        let none : span (λ a. map (cover (a + s * r)) (limits row r a)) 0 s ≡ [] = span-none _ (λ a. ap (map (cover (a + s * r))) (other-row row _ [] e)) 0 s in
+        let none : span (λ a. map (cover (a + s * r)) (limits row r a)) 0 s ≡ [] = span-empty _ (λ a. ap (map (cover (a + s * r))) (other-row row _ [] e)) 0 s in
         ap (λ cs. writeAll writeCover cs ++ written (suc r) rows) none
         ∙ rest h (λ j. ap place (next j) ∙ at (suc j) ∙ ap (λ l. h + length l) (keep-fail isUntil row (take j rows) e))
         ∙ sym (other-row row _ _ e)
@@ -110,12 +106,6 @@ graph-parts M rows long hypers long-is hypers-are =
     message-parts (graphOf M rows) long long-is
     ∙ rw (← hypers-are, covers-of-graph M rows, graph-covers M rows, writeAll-append) (simp append-assoc)
 
--- the same, of n states and k rows, u of them untils
-pub parts-are : (M : Model) (rows : List Row) {n k u long hypers : ℕ} → M .states ≡ n → length rows ≡ k → u ≡ length (untils rows)
-    → long ≡ length (writeGraph (graphOf M rows)) → hypers ≡ length (graphOf M rows .hypers)
-    → writeGraph (graphOf M rows) ≡ headerBytes long (n * (k + u)) hypers (n * u) ++ rowsBytes M 0 rows ++ helpersBytes M k (untils rows) ++ coversOf n rows
-parts-are M rows {long = long} {hypers} states-are rows-are untils-are long-is hypers-are = rw (← states-are, ← rows-are, untils-are) (graph-parts M rows long hypers long-is hypers-are)
-
 -- ---- the tests before it is written
 
 -- what the limits say, one by one
@@ -125,10 +115,6 @@ counts-within nodes z e =
     let rest = and-right (leb nodes 4096) _ e in
     let edges = and-right (leb (z .hypers) 65535) _ rest in
     (leb-true _ _ (and-left _ _ e), leb-true _ _ (and-left _ _ rest), leb-true _ _ (and-left _ _ edges), leb-true _ _ (and-right (leb (z .targets) 262144) _ edges))
-
-and-true : (t : Bool) → (t && true) ≡ t
-and-true true = refl
-and-true false = refl
 
 -- so many states and rows, so many of them untils, and the size of all hyperedges, as they were counted
 pub record Counted (M : Model) (rows : List Row) (n k u : ℕ) (z : size.Size) : Type 0 where

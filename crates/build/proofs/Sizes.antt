@@ -3,7 +3,6 @@ use Prim.Native.Nat.{ℕ, zero, suc, _+_, _*_, _-_, _≤_, _<_, min, max}
 use mathlib.Core.List.{List, [], _∷_, _++_, map, List·Memᴰ·head, List·Memᴰ·tail}
 use mathlib.Core.Bool.{Bool, true, false, not, cond}
 use mathlib.Core.Path.{_≡_, refl, sym, ap, ap₂, _∙_}
-use native.Mathlib.Numerals.{add-one}
 use native.Mathlib.Omega.{arith}
 use lib.ListN.{length, length-map}
 use lib.Dec.{ltb, eqb}
@@ -25,6 +24,7 @@ use Rattle.reduction.specs.Built.{to, out, near, rowEdges, helperEdges, isUntil
 use Rattle.build.specs.declared.Size.{Size}
 use Rattle.build.specs.Size.{noSize, addSize, sizeOf, stateEdges, rowsEdges, leafEdges, nextSize, stepSize, helperSize}
 use Rattle.build.specs.Bytes.{Narrow}
+use Rattle.build.proofs.Spans.{span-more}
 
 -- ---- sums of sizes
 
@@ -81,20 +81,13 @@ size-spans f g a (suc n) =
     ∙ add-swap (sizeOf (f a)) (sizeOf (g a)) (sizeOf (span f (suc a) n)) (sizeOf (span g (suc a) n))
     ∙ ap₂ addSize (sym (size-append (f a) (span f (suc a) n))) (sym (size-append (g a) (span g (suc a) n)))
 
-pub size-nothing : (a n : ℕ) → sizeOf (span (λ c. []) a n) ≡ noSize
-unfolding span sizeOf
-size-nothing a zero = refl
-size-nothing a (suc n) = size-nothing (suc a) n
-
 -- a turn of a loop over a span: what is summed, and what is left, make the whole
 pub size-turn : (f : ℕ → List (List Target)) (a n : ℕ) (sum one : Size) {w : Size} → addSize sum (sizeOf (span f a (n - a))) ≡ w → a < n → sizeOf (f a) ≡ one
     → addSize (addSize sum one) (sizeOf (span f (a + 1) (n - (a + 1)))) ≡ w
-unfolding span
 size-turn f a n sum one whole h is =
-    let left : n - a ≡ suc (n - (a + 1)) = omega arith in
     let rest = sizeOf (span f (a + 1) (n - (a + 1))) in
     let more : sizeOf (span f a (n - a)) ≡ addSize one rest =
-    rw (left, add-one) (size-append (f a) (span f (suc a) (n - suc a)) ∙ ap (λ (z : Size). addSize z (sizeOf (span f (suc a) (n - suc a)))) is) in
+    ap sizeOf (span-more f n a h) ∙ size-append (f a) (span f (a + 1) (n - (a + 1))) ∙ ap (λ (z : Size). addSize z rest) is in
     add-assoc sum one rest ∙ ap (addSize sum) (sym more) ∙ whole
 
 -- and of a loop over rows

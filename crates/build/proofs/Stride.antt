@@ -1,23 +1,17 @@
--- Records of one width by position: how many, the end, one by its index, the first so many and the rest. Assumes nothing.
+-- Records of one width by position: one by its index, the first so many and the rest. Assumes nothing.
 use Prim.Native.Nat.{ℕ, zero, suc, _+_, _*_, _-_, _<_, _≤_}
-use mathlib.Core.List.{_++_, List·Memᴰ·head, List·Memᴰ·tail}
+use mathlib.Core.List.{_++_}
 use mathlib.Core.Option.{some}
 use mathlib.Core.Path.{_≡_, ap, _∙_}
 use native.Mathlib.Nat.{not-suc-le-zero, suc-add, zero-add}
 use native.Mathlib.Omega.{arith}
 use lib.ListN.{getD, getElem?, take, drop}
 use lib.Seq.{take-at, drop-at}
-use Rattle.lists.specs.Lists.{_∈_}
 use Rattle.wire.proofs.Layouts.{items-length}
-use Rattle.wire.specs.Layout.{Layout, items, end}
+use Rattle.wire.specs.Layout.{Layout, items}
 
 -- each record is w long
 module _ {A : Type 0} (L : Layout A) (w : ℕ) (wide : (at : ℕ) → L .next at ≡ at + w) where
-  pub end-is : (k at : ℕ) → end L k at ≡ at + k * w
-  unfolding end
-  end-is zero at = omega arith
-  end-is (suc k) at = rw wide (end-is k (at + w) ∙ omega arith)
-
   pub items-append : (i k at : ℕ) → items L (i + k) at ≡ items L i at ++ items L k (at + i * w)
   unfolding items
   items-append zero k at = let here : at + 0 * w ≡ at = omega arith in rw (zero-add, here)
@@ -40,24 +34,6 @@ module _ {A : Type 0} (L : Layout A) (w : ℕ) (wide : (at : ℕ) → L .next at
   items-get (suc k) at (suc i) h =
       let there : at + w + i * w ≡ at + suc i * w = omega arith in
       rw (wide, items-get k (at + w) i (omega arith), there)
-
-  pub item-∈ : (k at i : ℕ) → i < k → L .item (at + i * w) ∈ items L k at
-  unfolding items
-  item-∈ zero at i h = absurd (not-suc-le-zero h)
-  item-∈ (suc k) at zero h = let here : at + 0 * w ≡ at = omega arith in List·Memᴰ·head (ap (L .item) here)
-  item-∈ (suc k) at (suc i) h =
-      let there : at + suc i * w ≡ at + w + i * w = omega arith in
-      let m : L .item (at + suc i * w) ∈ items L k (L .next at) = rw (wide, there) (item-∈ k (at + w) i (omega arith)) in
-      List·Memᴰ·tail m
-
-  pub ∈-item : {a : A} (k at : ℕ) → a ∈ items L k at → (i : ℕ) × (i < k) × (a ≡ L .item (at + i * w))
-  unfolding items
-  ∈-item zero at m = elim m [ ]
-  ∈-item (suc k) at (List·Memᴰ·head e) = let here : at + 0 * w ≡ at = omega arith in (0, omega arith, rw here e)
-  ∈-item (suc k) at (List·Memᴰ·tail m) =
-      let (i, h, e) = ∈-item k (at + w) (rw wide at m) in
-      let there : at + suc i * w ≡ at + w + i * w = omega arith in
-      (suc i, omega arith, rw there e)
 
   -- the first so many, and the rest
   pub items-take : (i k at : ℕ) → i ≤ k → take i (items L k at) ≡ items L i at

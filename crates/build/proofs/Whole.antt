@@ -16,7 +16,7 @@ use Rattle.wire.proofs.Bytes.{length-bytes}
 use Rattle.wire.proofs.Exact.{length-writeAll}
 use Rattle.rules.specs.Graph.{Graph, Hyper, Target, Cover}
 use Rattle.graph.specs.WellFormed.{targetsOf}
-use Rattle.graph.specs.Write.{writeTarget, writeHyper, writeCover, writeBody, writeGraph}
+use Rattle.graph.specs.Write.{writeHyper, writeCover, writeBody, writeGraph}
 use Rattle.model.specs.Model.{Model}
 use Rattle.formula.specs.declared.Row.{Row}
 use Rattle.formula.specs.declared.Row.the-variants.{True, False, Proposition, Negation, And, Or, Next, Until}
@@ -24,7 +24,9 @@ use Rattle.reduction.specs.Built.{rowEdges, helperEdges, isUntil, untils, rowCo
 use Rattle.build.specs.declared.Size.{Size}
 use Rattle.build.specs.Size.{noSize, addSize, sizeOf, stateEdges, rowsEdges}
 use Rattle.build.proofs.Untils.{other-row}
-use Rattle.build.proofs.Sizes.{none-add, add-swap, size-append, size-span, size-spans, size-nothing, helper-size}
+use Rattle.build.proofs.Sizes.{none-add, add-swap, size-append, size-span, size-spans, helper-size}
+use Rattle.build.proofs.Edges.{hyper-length}
+use Rattle.build.proofs.Spans.{span-length, span-empty}
 
 -- ---- hyperedges by their target lists
 
@@ -77,7 +79,7 @@ module _ (M : Model) where
   helpers h rows = sizeOf (listsOf (layout hyper (M .states) (helperEdges M) h (untils rows)))
 
   helpers-more : (h : ℕ) (row : Row) (rows : List Row) → (k : ℕ) × (helpers h (row ∷ rows) ≡ addSize (sizeOf (span (helperEdges M row 0) 0 (M .states))) (helpers k rows))
-  unfolding helpers keep
+  unfolding helpers keep sizeOf
   helpers-more h row rows =
       by-test (isUntil row)
       (λ e. (
@@ -87,7 +89,7 @@ module _ (M : Model) where
             ∙ ap (λ x. addSize x (helpers (suc h) rows)) (size-span (helperEdges M row h) (helperEdges M row 0) (λ a. helper-size M row h a ∙ sym (helper-size M row 0 a)) 0 (M .states))),
       ))
       (λ e. let nothing : sizeOf (span (helperEdges M row 0) 0 (M .states)) ≡ noSize =
-      size-span (helperEdges M row 0) (λ a. []) (λ a. ap sizeOf (other-row row _ [] e)) 0 (M .states) ∙ size-nothing 0 (M .states) in
+      ap sizeOf (span-empty (helperEdges M row 0) (λ a. other-row row _ [] e) 0 (M .states)) in
       (h, rw (e, nothing) (sym (none-add (helpers h rows)))))
 
   -- the rows' and the helpers', regrouped row by row
@@ -120,18 +122,13 @@ size-of-graph M rows =
     ap sizeOf (map-append (λ h. h .targets) first second) ∙ size-append (listsOf first) (listsOf second) ∙ regrouped M 0 (length rows) rows in
     rw total at (hypers-size (first ++ second))
 
-length-span : {B : Type 0} (f : ℕ → List B) (k : ℕ) → ((a : ℕ) → length (f a) ≡ k) → (a n : ℕ) → length (span f a n) ≡ n * k
-unfolding span
-length-span f k each a zero = omega arith
-length-span f k each a (suc n) = rw (length-append (f a) (span f (suc a) n)) (omega (arith, each a, length-span f k each (suc a) n))
-
 -- a cover edge for each state and until row
 covers-length : (s : ℕ) (f : Row → ℕ → ℕ → List Limit) → ((row : Row) (r a : ℕ) → length (f row r a) ≡ cond (isUntil row) 1 0)
     → (r : ℕ) (rows : List Row) → length (layout cover s f r rows) ≡ s * length (untils rows)
 unfolding layout keep
 covers-length s f each r [] = omega arith
 covers-length s f each r (row ∷ rows) =
-    let here = length-span (λ a. map (cover (a + s * r)) (f row r a)) (cond (isUntil row) 1 0) (λ a. length-map (f row r a) (cover (a + s * r)) ∙ each row r a) 0 s in
+    let here = span-length (λ a. map (cover (a + s * r)) (f row r a)) (cond (isUntil row) 1 0) (λ a. length-map (f row r a) (cover (a + s * r)) ∙ each row r a) 0 s in
     let rest = covers-length s f each (suc r) rows in
     rw (length-append (span (λ a. map (cover (a + s * r)) (f row r a)) 0 s) (layout cover s f (suc r) rows), here, rest)
     (by-test (isUntil row) (λ e. rw e (simp mul-suc (omega arith))) (λ e. rw e (omega arith)))
@@ -151,14 +148,6 @@ unfolding graphOf
 covers-of-graph M rows = covers-length (M .states) (rowCovers M rows) (row-covers M rows) 0 rows
 
 -- ---- the message
-
-target-length : (t : Target) → length (writeTarget t) ≡ 6
-unfolding writeTarget
-target-length t = simp (length-append, length-bytes)
-
-hyper-length : (h : Hyper) → length (writeHyper h) ≡ 4 + length (h .targets) * 6
-unfolding writeHyper
-hyper-length h = simp (length-append, length-bytes) (omega (arith, length-writeAll writeTarget 6 target-length (h .targets)))
 
 hypers-length : (hs : List Hyper) → length (writeAll writeHyper hs) ≡ length hs * 4 + targetsOf hs * 6
 unfolding writeAll targetsOf

@@ -7,10 +7,10 @@ use native.Mathlib.Nat.{mul-le-mul-left}
 use native.Mathlib.Omega.{arith}
 use lib.Dec.{leb}
 use lib.ListN.{length, length-append}
-use borrow.Author.Tests.{leb-true}
+use borrow.Author.Tests.{leb-true, le-leb}
 use Rattle.lists.specs.Lists.{all}
 use Rattle.lists.proofs.Kept.{keep-length}
-use Rattle.lists.proofs.Lists.{all-true}
+use Rattle.lists.proofs.Lists.{all-true, true-all}
 use Rattle.lists.proofs.Making.{∈-keep}
 use Rattle.lists.proofs.Places.{place-lt, ∈-place}
 use Rattle.lists.proofs.Tests.{and-left, and-right}
@@ -50,11 +50,7 @@ fits-each g e =
 
 -- none of its hyperedges is too large, tested on all at once
 fits-most : (g : Graph) → fits g ≡ true → all (λ h. leb (length (h .targets)) 65535) (g .hypers) ≡ true
-unfolding fits
-fits-most g e =
-    let rest = and-right (leb (g .nodes) 4096) _ e in
-    let edges = and-right (leb (length (g .hypers)) 65535) _ rest in
-    and-left _ _ (and-right (leb (targetsOf (g .hypers)) 262144) _ edges)
+fits-most g e = true-all _ (g .hypers) (λ h m. le-leb _ _ (fits-each g e .each-fits m))
 
 -- there are no more until rows than rows
 pub untils-few : {f : List ℕ} {k p : ℕ} → HoldsRows f k p → length (untils (heldRows f k)) ≤ k

@@ -11,7 +11,6 @@ use borrow.Author.Tests.{le-leb}
 use Rattle.lists.specs.Making.{span}
 use Rattle.lists.proofs.Tests.{by-test}
 use Rattle.refusal.specs.declared.Refusal.{Refusal}
-use Rattle.refusal.specs.declared.Refusal.the-variants.{Room, Size}
 use Rattle.value.specs.Value.{atMost}
 use Rattle.wire.specs.Bytes.{Bytes, number}
 use Rattle.wire.specs.Read.{Read, good, bad}
@@ -27,7 +26,8 @@ use Rattle.model.proofs.Good.{header-good}
 use Rattle.formula.specs.Formula.{rootOf}
 use Rattle.formula.specs.Message.{readFormula}
 use Rattle.text.specs.Text.{text}
-use Rattle.build.specs.Built.{fits, roomy}
+use Rattle.build.specs.Built.{fits}
+use Rattle.build.proofs.Spans.{span-agree}
 use Rattle.build.proofs.Writing.{fits-each}
 use Rattle.verdict.specs.Question.{Question, readQuestion, graphFor, rootNode}
 use Rattle.verdict.specs.Answer.{settledFor, valuesFor, settledOf, valuesOf}
@@ -35,11 +35,10 @@ use Rattle.verdict.specs.declared.Settled.{Settled}
 use Rattle.verdict.specs.declared.Settled.the-variants as Settled
 use Rattle.verdict.proofs.Deciding.{zero-test}
 use Rattle.verdict.proofs.Finished.{ended-as, node-inside, node-holds}
-use Rattle.verdict.proofs.Laws.{always-settles}
 use Rattle.verdict.proofs.Promised.{asks}
+use Rattle.verdict.proofs.Reading.{question-parts}
 use Rattle.report.specs.Lines.{line, refusedLine, roundsLine, stateLine, statesLines, textIn, endedLines}
 use Rattle.report.specs.Output.{settledLines, settledOutput, outputOf, leftOf}
-use Rattle.report.proofs.Lines.{span-agree}
 
 -- ---- the largest budget is as good as n (c + 1)
 
@@ -73,30 +72,11 @@ module _ (q : Question) (b v : List ℕ) where
       (λ e. rw e)
 
   never-spent : {k n : ℕ} → Settled.Spent k n ≡ settledFor q most b v → ⊥
-  unfolding settledFor
   never-spent e =
-      by-test (fits (graphFor q))
-      (λ p. by-test (roomy (graphFor q) b (length v))
-      (λ r. apart (e ∙ always-settles q most b v p r (enough-fits (graphFor q) p)))
-      (λ r. let no : settledFor q most b v ≡ Settled.Refused Room = rw (p, r) in other (e ∙ no)))
-      (λ p. let no : settledFor q most b v ≡ Settled.Refused Size = rw p in other (e ∙ no))
-    where
-      apart : {k n i j l o : ℕ} → Settled.Spent k n ≡ Settled.Done i j l o → ⊥
-      apart z = let c : _≡_ {A = ℕ} 0 1 = cc in omega arith
-
-      other : {k n : ℕ} {e : Refusal} → Settled.Spent k n ≡ Settled.Refused e → ⊥
-      other z = let c : _≡_ {A = ℕ} 0 1 = cc in omega arith
+      let stop = ended-as q most b v e in
+      omega (arith, stop .later, count-le (graphFor q), enough-fits (graphFor q) (stop .ran .fitting))
 
 -- ---- a question that is read
-
-question-parts : (m f : List ℕ) (q : Question) → readQuestion m f ≡ good q
-    → (readModel m ≡ good (q .model)) × (readFormula (q .model .propositions) f ≡ good (q .rows))
-unfolding readQuestion
-question-parts m f q e =
-    let x = bind-good _ _ e in
-    let y = bind-good _ _ (x .rest) in
-    let same = good-same (y .rest) in
-    rw (← same) (x .first, y .first)
 
 -- its p stands at the ninth byte of the model
 propositions-at : (m : List ℕ) (M : Model) → readModel m ≡ good M → (9 ≤ length m) × (number 1 m 8 ≡ M .propositions)

@@ -2,10 +2,9 @@
 -- formula by its runs. Assumes nothing.
 use Prim.Native.Nat.{ℕ, _<_}
 use mathlib.Core.List.{List}
-use mathlib.Core.Bool.{Bool, true, false}
+use mathlib.Core.Bool.{true}
 use mathlib.Core.Logic.{_↔_}
-use mathlib.Core.Path.{_≡_, refl, sym, ap, _∙_}
-use native.Mathlib.Omega.{arith}
+use mathlib.Core.Path.{_≡_, sym, _∙_}
 use Rattle.value.specs.Value.{atMost}
 use Rattle.wire.specs.Read.{Read}
 use Rattle.rules.specs.Rounds.{rounds}
@@ -14,10 +13,8 @@ use Rattle.model.specs.WellFormed as model
 use Rattle.formula.specs.WellFormed as formula
 use Rattle.build.specs.Built.{fits}
 use Rattle.verdict.specs.Question.{Question, graphFor, rootNode}
-use Rattle.verdict.specs.Answer.{verdictOf}
 use Rattle.verdict.specs.Promise.{Satisfies}
-use Rattle.verdict.specs.declared.Verdict.the-variants as Verdict
-use Rattle.verdict.proofs.Deciding.{yes-when}
+use Rattle.verdict.proofs.Deciding.{test-when}
 use Rattle.rules.proofs.Count.{count-first}
 use Rattle.verdict.proofs.Fitting.{fits-well}
 use Rattle.report.proofs.Reported.{Reported}
@@ -30,10 +27,4 @@ one-report x b v o p q = (p .0 ∙ sym (q .0), p .1 .0 ∙ sym (q .1 .0), p .1 .
 -- the test behind a state's line, once the rounds have settled
 pub line-exactly : (q : Question) → model.WellFormed (q .model) → formula.WellFormed (q .model .propositions) (q .rows) → fits (graphFor q) ≡ true
     → (a : ℕ) → a < q .model .states → (atMost (rounds (graphFor q) (count (graphFor q)) (rootNode q a)) 0 ≡ true) ↔ Satisfies q a
-line-exactly q m f e a l =
-    let y = yes-when q m f (count (graphFor q)) (count-first (graphFor q) (fits-well q m f e .closed) .settled) a l in
-    (λ t. y .0 (ap verdictOf t), λ s. is-yes _ (y .1 s))
-  where
-    is-yes : (b : Bool) → verdictOf b ≡ Verdict.Yes → b ≡ true
-    is-yes true h = refl
-    is-yes false h = let k : _≡_ {A = ℕ} 0 1 = cc in absurd (omega arith)
+line-exactly q m f e a l = test-when q m f (count (graphFor q)) (count-first (graphFor q) (fits-well q m f e .closed) .settled) a l

@@ -1,5 +1,5 @@
 -- Laws of the program's output.
---     Lines      the parts of a line, and the lines of the states from the front
+--     Lines      the parts of a line, and how long a line is at most
 --     Texts      the text of a formula in the front of the room, and the lines of a settled question
 --     Ended      what settling a question says of the output, exit by exit
 --     Reported   what is shown of a report, exit by exit

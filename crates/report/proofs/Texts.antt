@@ -19,8 +19,9 @@ use Rattle.text.specs.Written.{writtenLength, writtenOf, roomOf}
 use Rattle.text.specs.declared.Written.{Written}
 use Rattle.text.specs.declared.Written.the-variants as Written
 use Rattle.text.proofs.Length.{accepted-text-length}
+use Rattle.build.proofs.Spans.{span-short}
 use Rattle.report.specs.Lines.{line, roundsLine, statesLines, textIn}
-use Rattle.report.proofs.Lines.{rounds-length, state-length, span-length}
+use Rattle.report.proofs.Lines.{rounds-length, state-length}
 
 -- no accepted formula's text is long
 pub text-short : (p : ℕ) (s : List ℕ) → Bytes s → length (textIn (readFormula p s)) ≤ 1152
@@ -66,7 +67,7 @@ text-laid p s o {r} {b} {n} bytes long answer room length-is = go (readFormula p
 
 states-length : (values : List ℕ) (first n : ℕ) → length (statesLines values first n) ≤ n * 15
 unfolding statesLines
-states-length values first n = span-length _ 15 (λ a. state-length _ a) 0 n
+states-length values first n = span-short _ 15 (λ a. state-length _ a) 0 n
 
 -- their parts fit a room of 8,192 bytes, one behind the other
 pub ended-fit : (p : ℕ) (s : List ℕ) (m : ℕ) (values : List ℕ) (first n : ℕ) {size : ℕ} → Bytes s → n ≤ 256 → 8192 ≤ size

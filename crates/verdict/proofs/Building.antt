@@ -2,12 +2,13 @@
 -- Assumes nothing.
 use Prim.Native.Nat.{ℕ, _+_}
 use mathlib.Core.List.{List, _++_}
-use mathlib.Core.Bool.{Bool, true, false, cond, _&&_}
+use mathlib.Core.Bool.{Bool, true, false, cond, and-true}
 use mathlib.Core.Path.{_≡_, refl, _∙_}
 use lib.ListN.{length, drop}
 use lib.Dec.{leb}
 use borrow.Author.Tests.{le-leb}
 use native.Mathlib.Omega.{arith}
+use Rattle.lists.proofs.Tests.{by-test}
 use Rattle.refusal.specs.declared.Refusal.{Refusal}
 use Rattle.refusal.specs.declared.Refusal.the-variants.{Room, Size}
 use Rattle.wire.specs.Bytes.{Bytes}
@@ -28,11 +29,7 @@ use Rattle.verdict.proofs.Promised.{asks}
 -- a graph that passes no limit has room for two rounds in 8,192 values, so only its message has to fit
 enough-values : (g : Graph) (b : List ℕ) → fits g ≡ true → roomy g b 8192 ≡ leb (length (writeGraph g)) (length b)
 unfolding roomy
-enough-values g b e = rw (le-leb (g .nodes + g .nodes) 8192 (omega (arith, fits-each g e .nodes-fit))) (go (leb (length (writeGraph g)) (length b)))
-  where
-    go : (t : Bool) → (t && true) ≡ t
-    go true = refl
-    go false = refl
+enough-values g b e = rw (le-leb (g .nodes + g .nodes) 8192 (omega (arith, fits-each g e .nodes-fit))) (and-true _)
 
 module _ (q : Question) (b : List ℕ) where
   abbrev g : Graph
@@ -40,21 +37,11 @@ module _ (q : Question) (b : List ℕ) where
 
   built-is : builtOf g b 8192 ≡ graphBuilt (good q) b
   unfolding builtOf graphBuilt
-  built-is = go (fits g) refl
-    where
-      go : (t : Bool) → fits g ≡ t → cond t (cond (roomy g b 8192) (Built.Graph (length (writeGraph g))) (Built.Refused Room)) (Built.Refused Size)
-          ≡ cond t (cond (leb (length (writeGraph g)) (length b)) (Built.Graph (length (writeGraph g))) (Built.Refused Room)) (Built.Refused Size)
-      go true e = rw (enough-values g b e)
-      go false e = refl
+  built-is = by-test (fits g) (λ e. rw (enough-values g b e)) (λ e. rw e)
 
   room-is : roomOf g b 8192 ≡ graphRoom (good q) b
   unfolding roomOf graphRoom
-  room-is = go (fits g) refl
-    where
-      go : (t : Bool) → fits g ≡ t → cond t (cond (roomy g b 8192) (writeGraph g ++ drop (length (writeGraph g)) b) b) b
-          ≡ cond t (cond (leb (length (writeGraph g)) (length b)) (writeGraph g ++ drop (length (writeGraph g)) b) b) b
-      go true e = rw (enough-values g b e)
-      go false e = refl
+  room-is = by-test (fits g) (λ e. rw (enough-values g b e)) (λ e. rw e)
 
 -- whatever is read
 module _ (m f : List ℕ) (mb : Bytes m) (fb : Bytes f) (b : List ℕ) where

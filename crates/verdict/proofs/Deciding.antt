@@ -55,13 +55,18 @@ module _ (q : Question) (m : model.WellFormed (q .model)) (f : formula.WellForme
   at-root i settled a l =
       yes-exactly (q .model) (q .rows) (proper m) (ordered f) i settled (length (q .rows) - 1) (omega (arith, f .some-row)) a l
 
+  -- the test behind a verdict
+  pub test-when : (i : ℕ) → Settled (graphFor q) i → (a : ℕ) → a < q .model .states
+      → (atMost (rounds (graphFor q) i (rootNode q a)) 0 ≡ true) ↔ Satisfies q a
+  test-when i settled a l =
+      let r = at-root i settled a l in
+      let t = test-zero (rounds (graphFor q) i (rootNode q a)) in
+      (λ e. r .0 (t .0 e), λ s. t .1 (r .1 s))
+
   -- the verdict's yes and no
   pub yes-when : (i : ℕ) → Settled (graphFor q) i → (a : ℕ) → a < q .model .states
       → (verdictOf (atMost (rounds (graphFor q) i (rootNode q a)) 0) ≡ Verdict.Yes) ↔ Satisfies q a
-  yes-when i settled a l =
-      let r = at-root i settled a l in
-      let t = test-zero (rounds (graphFor q) i (rootNode q a)) in
-      (λ e. r .0 (t .0 (is-yes _ e)), λ s. ap verdictOf (t .1 (r .1 s)))
+  yes-when i settled a l = let t = test-when i settled a l in (λ e. t .0 (is-yes _ e), λ s. ap verdictOf (t .1 s))
     where
       is-yes : (b : Bool) → verdictOf b ≡ Verdict.Yes → b ≡ true
       is-yes true e = refl
@@ -70,9 +75,8 @@ module _ (q : Question) (m : model.WellFormed (q .model)) (f : formula.WellForme
   pub no-when : (i : ℕ) → Settled (graphFor q) i → (a : ℕ) → a < q .model .states
       → (verdictOf (atMost (rounds (graphFor q) i (rootNode q a)) 0) ≡ Verdict.No) ↔ (¬ Satisfies q a)
   no-when i settled a l =
-      let r = at-root i settled a l in
-      let x = rounds (graphFor q) i (rootNode q a) in
-      (λ e s. absurd (both (atMost x 0) e (test-zero x .1 (r .1 s))), λ n. by-test (atMost x 0) (λ e. absurd (n (r .0 (test-zero x .0 e)))) (λ e. ap verdictOf e))
+      let t = test-when i settled a l in
+      (λ e s. absurd (both _ e (t .1 s)), λ n. by-test _ (λ e. absurd (n (t .0 e))) (λ e. ap verdictOf e))
     where
       both : (b : Bool) → verdictOf b ≡ Verdict.No → b ≡ true → ⊥
       both true e t = let k : _≡_ {A = ℕ} 0 1 = cc in omega arith

@@ -1,5 +1,5 @@
 -- Laws of the whole question.
---     Reading    the reading of a question, from the answers of the two checks
+--     Reading    the reading of a question, from the answers of the two checks; the messages of one that is read
 --     Fitting    a built graph that passes no limit is well-formed, and its message is read back
 --     Settling   what building and settling gives is what the definitions say
 --     Deciding   yes exactly when the state satisfies the formula by its runs

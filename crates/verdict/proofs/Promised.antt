@@ -1,7 +1,7 @@
 -- What the customer is promised follows from the definitions of the answer and the rooms. Assumes nothing.
 use Prim.Native.Nat.{ℕ, _+_, _-_, _≤_, _<_}
 use mathlib.Core.List.{List}
-use mathlib.Core.Path.{_≡_, refl, ap, subst, _∙_}
+use mathlib.Core.Path.{_≡_, refl, ap, _∙_}
 use lib.ListN.{length}
 use borrow.Author.Tests.{ltb-true}
 use native.Mathlib.Omega.{arith}
@@ -23,24 +23,18 @@ use Rattle.verdict.specs.declared.Settled.the-variants as Settled
 use Rattle.verdict.specs.Question.{Question, readQuestion, readAsked, graphFor, rootNode}
 use Rattle.verdict.specs.Answer.{settledFor, bytesFor, valuesFor, decided, settledOf, answerOf, bytesOf, valuesOf}
 use Rattle.verdict.specs.Promise.{Asks, Leaves, Settles, Spends, Promise, PromiseAll}
+use Rattle.verdict.proofs.Reading.{question-parts}
 use Rattle.verdict.proofs.Fitting.{fits-well, stands}
 use Rattle.verdict.proofs.Deciding.{root-inside, yes-when, no-when, all-when}
 use Rattle.verdict.proofs.Finished.{Ran, Finished, Stopped, Ended, ended, filled-inside}
 
 -- the messages of a question that is read are its writings
 pub asks : (m f : List ℕ) (q : Question) → Bytes m → Bytes f → readQuestion m f ≡ good q → Asks m f q
-unfolding readQuestion
 asks m f q mb fb e =
-    let x = bind-good _ _ e in
-    let y = bind-good _ _ (x .rest) in
-    let model = model.accepted-written m (x .value) mb (x .first) in
-    let rows = formula.accepted-written (x .value .propositions) f (y .value) fb (y .first) in
-    subst (Asks m f) (good-same (y .rest)) (record {
-      model-written = model .0;
-      model-fits = model .1;
-      formula-written = rows .0;
-      formula-fits = rows .1;
-    })
+    let parts = question-parts m f q e in
+    let model = model.accepted-written m (q .model) mb (parts .0) in
+    let rows = formula.accepted-written (q .model .propositions) f (q .rows) fb (parts .1) in
+    record { model-written = model .0; model-fits = model .1; formula-written = rows .0; formula-fits = rows .1 }
 
 -- a question that stands
 module _ (m f : List ℕ) (budget : ℕ) (b v : List ℕ) (q : Question) (asked : Asks m f q) where

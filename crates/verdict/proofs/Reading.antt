@@ -1,4 +1,4 @@
--- The reading of a question, from the answers of the two checks. Assumes nothing.
+-- The reading of a question, from the answers of the two checks; and what a question that is read says of its messages. Assumes nothing.
 use Prim.Native.Nat.{ℕ}
 use mathlib.Core.List.{List}
 use mathlib.Core.Path.{_≡_, refl, ap, _∙_}
@@ -7,7 +7,7 @@ use lib.ListN.{length}
 use Rattle.refusal.specs.declared.Refusal.{Refusal}
 use Rattle.wire.specs.Bytes.{Bytes}
 use Rattle.wire.specs.Read.{Read, good, bad}
-use Rattle.wire.proofs.Reading.{good-then, bad-then}
+use Rattle.wire.proofs.Reading.{good-then, bad-then, bind-good, good-same}
 use Rattle.wire.proofs.Exact.{good-bind}
 use Rattle.model.specs.Model.{Model}
 use Rattle.model.specs.Message.{readModel}
@@ -19,7 +19,7 @@ use Rattle.formula.specs.declared.Checked.the-variants as Formula
 use Rattle.formula.proofs.Answered.{checked-formula, checked-refused}
 use Rattle.build.specs.Held.{heldModel, HoldsModel}
 use Rattle.build.proofs.Holding.{model-held, rows-held}
-use Rattle.verdict.specs.Question.{readQuestion}
+use Rattle.verdict.specs.Question.{Question, readQuestion}
 use Rattle.verdict.specs.Asking.{Held}
 
 -- a message that is checked as a model of these counts
@@ -67,3 +67,13 @@ module _ (m f : List ℕ) {n p t : ℕ} (read : ModelRead m n p t) where
         model = read .holds;
         rows = held .holds;
       }
+
+-- both messages of a question that is read are accepted
+pub question-parts : (m f : List ℕ) (q : Question) → readQuestion m f ≡ good q
+    → (readModel m ≡ good (q .model)) × (readFormula (q .model .propositions) f ≡ good (q .rows))
+unfolding readQuestion
+question-parts m f q e =
+    let x = bind-good _ _ e in
+    let y = bind-good _ _ (x .rest) in
+    let same = good-same (y .rest) in
+    rw (← same) (x .first, y .first)

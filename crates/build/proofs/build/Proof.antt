@@ -2,22 +2,22 @@
 use Prim.Native.Nat.{_+_, _*_, _≤_}
 use mathlib.Core.List.{List}
 use mathlib.Core.Path.{_≡_, refl, sym, ap, _∙_}
-use mathlib.Core.Bool.{Bool, true, false, not}
+use mathlib.Core.Bool.{true, not, Bool·not-not}
 use denote.Ref.{now}
 use native.Mathlib.Nat.{mul-le-mul-left}
 use native.Mathlib.Omega.{arith}
 use lib.ListN.{length}
 use borrow.Author.Needs.{needs}
-use Rattle.lists.proofs.Kept.{keep-length}
 use Rattle.graph.specs.Write.{writeGraph}
 use Rattle.model.specs.Model.{Model}
 use Rattle.formula.specs.declared.Row.{Row}
-use Rattle.reduction.specs.Built.{isUntil, graphOf}
+use Rattle.reduction.specs.Built.{graphOf}
 use Rattle.build.specs.Held.{heldModel, heldRows}
 use Rattle.build.specs.Size.{inLimits}
 use Rattle.build.specs.Built.{fits, roomy}
 use Rattle.build.proofs.Accepted.{states-few, rows-length}
 use Rattle.build.proofs.Parts.{Counted, counts-within, limits-are, covers-few, hypers-are, long-is, bytes-short, values-short, graph-roomy, size-refused, room-refused, writable, graph-built}
+use Rattle.build.proofs.Writing.{untils-few}
 use Rattle.build.proofs.build.Statement.{statement}
 use Rattle.build.proofs.build.Tie as tie
 
@@ -45,7 +45,7 @@ nodes-few : (c : tie.After-total-size) → let s = begun c in (s .args .k + c .b
 nodes-few c =
     let s = begun c in
     let u = c .before .before .before .count-untils in
-    let few : s .args .k + u .result ≤ 128 = omega (arith, u .ensures, keep-length isUntil (rowsIn s), rows-length (now (s .args .f)) (s .args .k), s .pre .1 .rows-fit) in
+    let few : s .args .k + u .result ≤ 128 = omega (arith, u .ensures, untils-few (s .pre .1), s .pre .1 .rows-fit) in
     let all : s .args .n * (s .args .k + u .result) ≤ s .args .n * 128 = mul-le-mul-left (s .args .n) few in
     (few, omega (arith, states-few (s .pre .0)))
 
@@ -74,11 +74,7 @@ too-large-requires c κs = search needs
 
 -- the answer of the test
 tested : (c : tie.After-too-large) → let s = begun (c .before) in fits (graphOf (modelIn s) (rowsIn s)) ≡ not (c .too-large .result)
-tested c = limits-are (counted (c .before)) ∙ turned (c .too-large .ensures)
-  where
-    turned : {t u : Bool} → t ≡ not u → u ≡ not t
-    turned {u = true} e = rw e
-    turned {u = false} e = rw e
+tested c = limits-are (counted (c .before)) ∙ sym (Bool·not-not _) ∙ ap not (sym (c .too-large .ensures))
 
 returns : tie.Need-returns
 returns c = let t = c .before in size-refused _ _ _ (tested t ∙ ap not (c .if1 .taken))

@@ -3,16 +3,18 @@ use Prim.Native.Nat.{ℕ, _+_, _*_, _-_, _≤_}
 use mathlib.Core.Path.{_≡_, refl, sym, ap, _∙_}
 use native.Mathlib.Omega.{arith}
 use lib.ListN.{length}
-use Rattle.wire.proofs.Laid.{Left, all-left, stored, _then_, said}
+use Rattle.lists.specs.Making.{span}
+use Rattle.wire.proofs.Laid.{stored, _then_, said}
 use Rattle.wire.proofs.Laid as laid
 use Rattle.build.specs.Bytes.{coverBytes}
 use Rattle.build.proofs.Nodes.{place-fits}
-use Rattle.build.proofs.Covers.{coversLeft, cover-fits, cover-filled, covers-filled, covers-coded}
+use Rattle.build.proofs.Covers.{coverOf, cover-length, covers-coded}
+use Rattle.build.proofs.Spans.{SpanLeft, span-begun, span-done, span-fits, span-then}
 use Rattle.build.proofs.put_cover_states.Statement.{statement}
 use Rattle.build.proofs.put_cover_states.Tie as tie
 
 abbrev Inv-loop : tie.InvT-loop
-Inv-loop room₀ at n r h code next₀ a₀ room next a = Left room₀ at (coversLeft n r h code 0) room next (coversLeft n r h code a)
+Inv-loop room₀ at n r h code next₀ a₀ room next a = SpanLeft (coverOf n r h code) n room₀ at (span (coverOf n r h code) 0 n) room next a
 
 abbrev μ-loop : tie.MeasureT-loop
 μ-loop room₀ at n r h code next₀ a₀ room next a = n - a
@@ -25,11 +27,11 @@ code-requires : tie.Need-code-requires Inv-loop μ-loop
 code-requires c κs = tt
 
 -- the whole, with the bound as a number
-coded : (c : tie.After-code Inv-loop μ-loop) → let a = c .before .before .args in coverBytes (a .n) (a .r) (a .h) (a .bound) ≡ coversLeft (a .n) (a .r) (a .h) (c .code .result) 0
-coded c = let a = c .before .before .args in covers-coded (a .n) (a .r) (a .h) (a .bound) ∙ ap (λ (code : ℕ). coversLeft (a .n) (a .r) (a .h) code 0) (sym (c .code .ensures))
+coded : (c : tie.After-code Inv-loop μ-loop) → let a = c .before .before .args in coverBytes (a .n) (a .r) (a .h) (a .bound) ≡ span (coverOf (a .n) (a .r) (a .h) (c .code .result)) 0 (a .n)
+coded c = let a = c .before .before .args in covers-coded (a .n) (a .r) (a .h) (a .bound) ∙ ap (λ (code : ℕ). span (coverOf (a .n) (a .r) (a .h) code) 0 (a .n)) (sym (c .code .ensures))
 
 loop-holds : tie.Need-loop-holds Inv-loop μ-loop
-loop-holds c = all-left _ _ _ (omega (arith, c .before .before .pre .1, ap length (coded c)))
+loop-holds c = span-begun _ _ _ _ refl (omega (arith, c .before .before .pre .1, ap length (coded c)))
 
 -- where a turn began
 abbrev begun : tie.In-loop Inv-loop μ-loop → tie.Start Inv-loop μ-loop
@@ -37,7 +39,10 @@ begun c = c .before .before .before .before
 
 -- the next cover edge fits
 fits : (c : tie.In-loop Inv-loop μ-loop) → c .before .loop .next + 8 ≤ length (c .before .loop .room)
-fits c = cover-fits _ _ _ _ (c .before .loop .inv) (c .loop-test .taken)
+fits c =
+    let a = begun c .args in
+    let l = c .before .loop in
+    omega (arith, span-fits (l .inv) (c .loop-test .taken) refl, cover-length (a .n) (a .r) (a .h) (c .before .before .code .result) (l .a))
 
 mul-store : tie.Need-mul-store Inv-loop μ-loop
 mul-store c = omega (arith, row-fits (begun (c .before)))
@@ -86,13 +91,13 @@ loop-again c =
     let source = stored (l .next) 2 (l .a + a .n * a .r) (omega (arith, fits turn)) (first .store .ensures) in
     let bound = stored (l .next + 2) 4 (turn .before .before .code .result) (omega (arith, fits turn, laid.same-length source)) (second .store2 .ensures) in
     let target = stored (l .next + 6) 2 (l .a + a .n * a .h) (omega (arith, fits turn, laid.same-length source, laid.same-length bound)) (third .store3 .ensures) in
-    cover-filled _ _ _ _ (l .inv) (turn .loop-test .taken) (said (said (source then bound) refl refl (omega arith) then target) refl refl (omega arith))
+    span-then (l .inv) (turn .loop-test .taken) refl (said (said (source then bound) refl refl (omega arith) then target) refl refl (omega arith))
 
 same-length : tie.Need-same-length Inv-loop μ-loop
-same-length c = c .before .loop .inv .length-is
+same-length c = c .before .loop .inv .left .length-is
 
 returns : tie.Need-returns Inv-loop μ-loop
-returns c = said (covers-filled _ _ _ _ (c .before .loop .inv) (omega arith)) (coded (c .before .before)) refl refl
+returns c = said (span-done (c .before .loop .inv) (c .loop-test .left)) (coded (c .before .before)) refl refl
 
 pub put-cover-states-spec : {M : Type 1} → statement M
 put-cover-states-spec =

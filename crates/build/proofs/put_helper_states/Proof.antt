@@ -5,25 +5,27 @@ use native.Mathlib.Numerals.{add-one}
 use native.Mathlib.Omega.{arith}
 use lib.ListN.{getD}
 use borrow.Author.Needs.{needs}
-use Rattle.build.specs.Held.{Own}
+use Rattle.build.specs.Held.{heldModel, Own}
+use Rattle.build.specs.Bytes.{helperBytes}
 use Rattle.build.proofs.Accepted.{states-few}
 use Rattle.build.proofs.Ranges.{starts-own}
 use Rattle.build.proofs.Nodes.{place-fits, own-read}
-use Rattle.build.proofs.Helpers.{own-narrow, StatesLeft, helper-all, helper-none, helper-fits, helper-then}
+use Rattle.build.proofs.Helpers.{own-narrow, helperOf, helper-spans, helper-is}
+use Rattle.build.proofs.Spans.{SpanLeft, span-begun, span-done, span-fits, span-then}
 use Rattle.build.proofs.put_helper_states.Statement.{statement}
 use Rattle.build.proofs.put_helper_states.Tie as tie
 
 abbrev Inv-loop : tie.InvT-loop
-Inv-loop room₀ at m n p t table h q l k next₀ a₀ room next a = StatesLeft m n p t h q l k room₀ at room next a
+Inv-loop room₀ at m n p t table h q l k next₀ a₀ room next a =
+    let M = heldModel m n p t in
+    SpanLeft (helperOf M h q l k) n room₀ at (helperBytes M h q l k) room next a
 
 abbrev μ-loop : tie.MeasureT-loop
 μ-loop room₀ at m n p t table h q l k next₀ a₀ room next a = n - a
 
 loop-holds : tie.Need-loop-holds Inv-loop μ-loop
-loop-holds c =
-    let s = c .before .before .before in
-    let a = s .args in
-    helper-all _ _ _ _ (a .h) (a .q) (a .l) (a .k) (now (a .room)) (a .at) (s .pre .1 .1 .1)
+unfolding heldModel
+loop-holds c = let s = c .before .before .before in span-begun _ _ _ _ (helper-spans _ _ _ _ _) (s .pre .1 .1 .1)
 
 -- the state's transitions are those between its entry and the next
 own : (c : tie.In-loop Inv-loop μ-loop) →
@@ -65,7 +67,7 @@ put-helper-requires c κs =
     let fit = s .pre .1 .1 .0 in
     let narrow = own-narrow (s .pre .0) (own turn) (fit .3) in (
       own-read (a .p) (own turn) _ (s .pre .0) (fit .0),
-      ((turn .loop-test .taken, place-fits (a .n) (a .h) (a .l) (fit .0) (fit .1), place-fits (a .n) (a .h) (a .k) (fit .0) (fit .2), narrow), helper-fits (turn .before .loop .inv) (own turn)),
+      ((turn .loop-test .taken, place-fits (a .n) (a .h) (a .l) (fit .0) (fit .1), place-fits (a .n) (a .h) (a .k) (fit .0) (fit .2), narrow), span-fits (turn .before .loop .inv) (turn .loop-test .taken) (helper-is (a .p) (own turn) (a .h) (a .q) (a .l) (a .k))),
     )
 
 add-a : tie.Need-add-a Inv-loop μ-loop
@@ -78,13 +80,14 @@ loop-again : tie.Need-loop-again Inv-loop μ-loop
 loop-again c =
     let put = c .before .before in
     let turn = put .before .before .before .before in
-    helper-then (turn .before .loop .inv) (own turn) (put .put-helper .ensures)
+    let a = turn .before .before .before .before .before .args in
+    span-then (turn .before .loop .inv) (turn .loop-test .taken) (helper-is (a .p) (own turn) (a .h) (a .q) (a .l) (a .k)) (put .put-helper .ensures)
 
 same-length : tie.Need-same-length Inv-loop μ-loop
 same-length c = c .before .loop .inv .left .length-is
 
 returns : tie.Need-returns Inv-loop μ-loop
-returns c = helper-none (c .before .loop .inv) (omega arith)
+returns c = span-done (c .before .loop .inv) (c .loop-test .left)
 
 pub put-helper-states-spec : {M : Type 1} → statement M
 put-helper-states-spec =

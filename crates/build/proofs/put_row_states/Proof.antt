@@ -1,26 +1,25 @@
 -- `build::put_row_states` meets its contract: the hyperedges of the states left make the whole.
-use Prim.Native.Nat.{ℕ, _+_, _*_, _-_, _≤_}
-use mathlib.Core.List.{List}
-use mathlib.Core.Path.{subst}
+use Prim.Native.Nat.{_+_, _*_, _-_}
+use mathlib.Core.Path.{refl}
 use denote.Ref.{now}
 use native.Mathlib.Numerals.{add-one}
 use native.Mathlib.Omega.{arith}
 use lib.ListN.{getD}
 use borrow.Author.Needs.{needs}
-use Rattle.wire.proofs.Laid.{Left, all-left, left-fits, left-then, none-left}
 use Rattle.reduction.specs.Built.{rowEdges}
 use Rattle.build.specs.Held.{heldModel, Own}
 use Rattle.build.specs.Bytes.{hypersBytes, rowBytes}
 use Rattle.build.proofs.Accepted.{states-few}
 use Rattle.build.proofs.Ranges.{starts-own}
-use Rattle.build.proofs.Nodes.{rowLeft, row-all, states-more, states-none}
+use Rattle.build.proofs.Nodes.{row-spans}
+use Rattle.build.proofs.Spans.{SpanLeft, span-begun, span-done, span-fits, span-then}
 use Rattle.build.proofs.put_row_states.Statement.{statement}
 use Rattle.build.proofs.put_row_states.Tie as tie
 
 abbrev Inv-loop : tie.InvT-loop
 Inv-loop room₀ at m n p t table r row next₀ a₀ room next a =
     let M = heldModel m n p t in
-    (a ≤ n) × Left room₀ at (rowBytes M r row) room next (rowLeft M n r row a)
+    SpanLeft (λ c. hypersBytes (c + n * r) (rowEdges M row c)) n room₀ at (rowBytes M r row) room next a
 
 abbrev μ-loop : tie.MeasureT-loop
 μ-loop room₀ at m n p t table r row next₀ a₀ room next a = n - a
@@ -33,23 +32,12 @@ own : (c : tie.In-loop Inv-loop μ-loop) →
     Own (now (a .m)) (a .n) (a .t) i (getD table i 0) (getD table (i + 1) 0 - getD table i 0)
 own c = starts-own (c .before .before .before .before .before .pre .1 .0 .1) (c .before .loop .a) (c .loop-test .taken)
 
--- its hyperedges come next, and the other states' behind them
-abbrev here : tie.In-loop Inv-loop μ-loop → List ℕ
-here c =
-    let a = c .before .before .before .before .before .args in
-    hypersBytes (c .before .loop .a + a .n * a .r) (rowEdges (heldModel (now (a .m)) (a .n) (a .p) (a .t)) (a .row) (c .before .loop .a))
-
-abbrev behind : tie.In-loop Inv-loop μ-loop → List ℕ
-behind c =
-    let a = c .before .before .before .before .before .args in
-    rowLeft (heldModel (now (a .m)) (a .n) (a .p) (a .t)) (a .n) (a .r) (a .row) (c .before .loop .a + 1)
-
 loop-holds : tie.Need-loop-holds Inv-loop μ-loop
 unfolding heldModel
 loop-holds c =
     let s = c .before .before .before in
     let M = heldModel (now (s .args .m)) (s .args .n) (s .args .p) (s .args .t) in
-    (omega arith, subst (Left _ _ _ _ _) (row-all M (s .args .r) (s .args .row)) (all-left _ _ _ (s .pre .1 .1 .1)))
+    span-begun _ _ _ _ (row-spans M (s .args .r) (s .args .row)) (s .pre .1 .1 .1)
 
 cast-i : tie.Need-cast-i Inv-loop μ-loop
 cast-i c = search needs
@@ -78,7 +66,7 @@ put-row-requires : tie.Need-put-row-requires Inv-loop μ-loop
 put-row-requires c κs =
     let turn = c .before .before .before in
     let s = turn .before .before .before .before .before in
-    (s .pre .0, (own turn, (s .pre .1 .1 .0, left-fits (turn .before .loop .inv .1) (here turn) (behind turn) (states-more _ _ _ _ (turn .loop-test .taken)))))
+    (s .pre .0, (own turn, (s .pre .1 .1 .0, span-fits (turn .before .loop .inv) (turn .loop-test .taken) refl)))
 
 add-a : tie.Need-add-a Inv-loop μ-loop
 add-a c = omega arith
@@ -90,13 +78,13 @@ loop-again : tie.Need-loop-again Inv-loop μ-loop
 loop-again c =
     let put = c .before .before in
     let turn = put .before .before .before .before in
-    (omega arith, left-then (turn .before .loop .inv .1) (here turn) (behind turn) (states-more _ _ _ _ (turn .loop-test .taken)) (put .put-row .ensures))
+    span-then (turn .before .loop .inv) (turn .loop-test .taken) refl (put .put-row .ensures)
 
 same-length : tie.Need-same-length Inv-loop μ-loop
-same-length c = c .before .loop .inv .1 .length-is
+same-length c = c .before .loop .inv .left .length-is
 
 returns : tie.Need-returns Inv-loop μ-loop
-returns c = none-left (rw (states-none _ _ _ _ (c .loop-test .left)) at (c .before .loop .inv .1))
+returns c = span-done (c .before .loop .inv) (c .loop-test .left)
 
 pub put-row-states-spec : {M : Type 1} → statement M
 put-row-states-spec =

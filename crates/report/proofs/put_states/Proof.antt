@@ -1,16 +1,13 @@
 -- `report::put_states` meets its contract: the lines of the states left make the whole.
-use Prim.Native.Nat.{ℕ, _+_, _-_, _≤_}
+use Prim.Native.Nat.{ℕ, _+_, _-_}
 use mathlib.Core.List.{List}
-use mathlib.Core.Path.{_≡_, subst}
-use denote.Ref.{now}
+use mathlib.Core.Path.{refl}
 use native.Mathlib.Omega.{arith}
 use lib.Dec.{eqb}
 use lib.ListN.{getD}
 use borrow.Author.Needs.{needs}
-use Rattle.lists.specs.Making.{span}
-use Rattle.wire.proofs.Laid.{Left, all-left, left-fits, left-then, none-left}
+use Rattle.build.proofs.Spans.{SpanLeft, span-begun, span-done, span-fits, span-then}
 use Rattle.report.specs.Lines.{stateLine, statesLines}
-use Rattle.report.proofs.Lines.{span-more, span-none}
 use Rattle.report.proofs.put_states.Statement.{statement}
 use Rattle.report.proofs.put_states.Tie as tie
 
@@ -19,28 +16,14 @@ abbrev lineOf : List ℕ → ℕ → ℕ → List ℕ
 lineOf values first a = stateLine (eqb (getD values (first + a) 0) 0) a
 
 abbrev Inv-loop : tie.InvT-loop
-Inv-loop out₀ at values first n next₀ a₀ out next a =
-    (a ≤ n) × Left out₀ at (statesLines values first n) out next (span (lineOf values first) a (n - a))
+Inv-loop out₀ at values first n next₀ a₀ out next a = SpanLeft (lineOf values first) n out₀ at (statesLines values first n) out next a
 
 abbrev μ-loop : tie.MeasureT-loop
 μ-loop out₀ at values first n next₀ a₀ out next a = n - a
 
--- its line comes next, and the others behind it
-abbrev here : tie.In-loop Inv-loop μ-loop → List ℕ
-here c = let a = c .before .before .before .before .args in lineOf (now (a .values)) (a .first) (c .before .loop .a)
-
-abbrev behind : tie.In-loop Inv-loop μ-loop → List ℕ
-behind c =
-    let a = c .before .before .before .before .args in
-    let i = c .before .loop .a + 1 in
-    span (lineOf (now (a .values)) (a .first)) i (a .n - i)
-
 loop-holds : tie.Need-loop-holds Inv-loop μ-loop
 unfolding statesLines
-loop-holds c =
-    let s = c .before .before in
-    let all : s .args .n - 0 ≡ s .args .n = omega arith in
-    (omega arith, rw all (all-left _ _ _ (s .pre .1)))
+loop-holds c = span-begun _ _ _ _ refl (c .before .before .pre .1)
 
 cast-node : tie.Need-cast-node Inv-loop μ-loop
 cast-node c = omega arith
@@ -57,7 +40,7 @@ shared-slice-read-yes c = omega (arith, c .before .before .before .before .befor
 put-state-requires : tie.Need-put-state-requires Inv-loop μ-loop
 put-state-requires c κs =
     let turn = c .before .before in
-    left-fits (turn .before .loop .inv .1) (here turn) (behind turn) (span-more _ _ _ (turn .loop-test .taken))
+    span-fits (turn .before .loop .inv) (turn .loop-test .taken) refl
 
 add-a : tie.Need-add-a Inv-loop μ-loop
 add-a c = omega arith
@@ -69,13 +52,13 @@ loop-again : tie.Need-loop-again Inv-loop μ-loop
 loop-again c =
     let put = c .before .before in
     let turn = put .before .before .before in
-    (omega arith, left-then (turn .before .loop .inv .1) (here turn) (behind turn) (span-more _ _ _ (turn .loop-test .taken)) (put .put-state .ensures))
+    span-then (turn .before .loop .inv) (turn .loop-test .taken) refl (put .put-state .ensures)
 
 same-length : tie.Need-same-length Inv-loop μ-loop
-same-length c = c .before .loop .inv .1 .length-is
+same-length c = c .before .loop .inv .left .length-is
 
 returns : tie.Need-returns Inv-loop μ-loop
-returns c = none-left (subst (Left _ _ _ _ _) (span-none _ _ _ (c .loop-test .left)) (c .before .loop .inv .1))
+returns c = span-done (c .before .loop .inv) (c .loop-test .left)
 
 pub put-states-spec : {M : Type 1} → statement M
 put-states-spec =
