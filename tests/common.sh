@@ -64,7 +64,7 @@ copy_program() {
 # caller's. Where `limit` is set, for so many seconds at most.
 run_program() {
     (
-        cd "$scratch/run"
+        cd "$scratch/run" || exit
         # shellcheck disable=SC2086
         exec $drop ${limit:+timeout "$limit"} ${emulator:+"$emulator"} "$loader" --library-path "$tools/lib" ./program
     )

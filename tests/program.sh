@@ -108,14 +108,19 @@ echo "$fed cases in pieces, as expected"
 
 # No input at all, in each way in which there can be none, and one without end.
 echo 'refused 2' >"$scratch/refused"
+# refused INPUT STATUS
 refused() {
-    cmp -s "$scratch/refused" "$scratch/wrote" || die "with standard input $1 it wrote: $(head -c 500 "$scratch/wrote")"
+    if [ "$2" -ne 0 ] || ! cmp -s "$scratch/refused" "$scratch/wrote"; then
+        echo "standard input $1: NOT refused 2, but status $2 and: $(head -c 500 "$scratch/wrote")" >&2
+        exit 1
+    fi
 }
-run_program <&- >"$scratch/wrote" 2>&1
-refused closed
+ended=0
+run_program <&- >"$scratch/wrote" 2>&1 || ended=$?
+refused closed "$ended"
 for input in /dev/null / /dev/zero; do
-    run_program <"$input" >"$scratch/wrote" 2>&1
-    refused "$input"
+    run_program <"$input" >"$scratch/wrote" 2>&1 || ended=$?
+    refused "$input" "$ended"
 done
 echo "standard input closed, empty, a folder and endless: refused 2"
 
