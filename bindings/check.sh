@@ -27,9 +27,12 @@ compare() { # NAME WROTE EXPECTED
     say "$1 ran, and wrote what it should"
 }
 
-$gcc -std=c99 -O2 -Wall -Wextra -Wpedantic -Werror -I"$root/include" "$root/examples/c/tour.c" -L"$target/lib" -lotzarvim -o "$out/tour-c" || die "examples/c does not build"
-$run "$out/tour-c" >"$out/tour-c.txt" || die "examples/c ended badly"
-compare examples/c "$out/tour-c.txt" "$root/examples/c/expected.txt"
+for name in tour life; do
+    $gcc -std=c99 -O2 -Wall -Wextra -Wpedantic -Werror -I"$root/include" "$root/examples/c/$name.c" -L"$target/lib" -lotzarvim -o "$out/$name-c" ||
+        die "examples/c/$name.c does not build"
+    $run "$out/$name-c" >"$out/$name-c.txt" || die "examples/c/$name.c ended badly"
+    compare "examples/c/$name.c" "$out/$name-c.txt" "$root/examples/c/$name.txt"
+done
 
 if ! rust_tools; then
     [ "$machine" != x86_64 ] || die "rustc is not on the path"
@@ -37,9 +40,12 @@ if ! rust_tools; then
 fi
 $rustc -O -D warnings -D missing_docs --crate-type rlib --crate-name otzarvim "$root/bindings/rust/src/lib.rs" -L native="$target/lib" -o "$out/libotzarvim.rlib" ||
     die "bindings/rust does not build"
-$rustc -O -D warnings "$root/examples/rust/tour.rs" --extern otzarvim="$out/libotzarvim.rlib" -L native="$target/lib" -o "$out/tour-rust" || die "examples/rust does not build"
-$run_rust "$out/tour-rust" >"$out/tour-rust.txt" || die "examples/rust ended badly"
-compare examples/rust "$out/tour-rust.txt" "$root/examples/rust/expected.txt"
+for name in tour life; do
+    $rustc -O -D warnings "$root/examples/rust/$name.rs" --extern otzarvim="$out/libotzarvim.rlib" -L native="$target/lib" -o "$out/$name-rust" ||
+        die "examples/rust/$name.rs does not build"
+    $run_rust "$out/$name-rust" >"$out/$name-rust.txt" || die "examples/rust/$name.rs ended badly"
+    compare "examples/rust/$name.rs" "$out/$name-rust.txt" "$root/examples/rust/$name.txt"
+done
 
 words=
 for word in $run_rust; do

@@ -6,14 +6,14 @@
  * Every function is proved, and asks nothing of what it is handed but that each pointer and its length
  * name memory that is really there. Any bytes are safe: a message that is not well-formed is refused,
  * and the number says what the first fault is. No function keeps anything between calls, allocates, or
- * writes anywhere but into what it is lent; 16 KiB of stack suffice; two threads may call at once. Memory that is lent to be
- * written must not overlap anything else that the same call is lent. Where a length is 0, its pointer
- * is not used and may be null.
+ * writes anywhere but into what it is lent; 16 KiB of stack suffice; two threads may call at once.
+ * Memory that is lent to be written must not overlap anything else that the same call is lent. Where a
+ * length is 0, its pointer is not used and may be null.
  *
- * Every function returns one of the numbers below. Numbers that are lent for results (counts, rows,
- * count, length) are always written; with a refusal they are 0, but for the count of OTZARVIM_BUDGET.
- * A room is written only with OTZARVIM_OK, and with OTZARVIM_BUDGET: any other answer leaves it as it
- * came.
+ * Every function returns one of the numbers below. Any number but OTZARVIM_OK is a refusal. A refusal
+ * leaves rooms, counts, rows and states as they came; only OTZARVIM_BUDGET writes, and only the rooms.
+ * The count, the length and the verdict are part of the answer and are always written: with a refusal
+ * they are 0, 0 and OTZARVIM_NONE, but for the count and the length of OTZARVIM_BUDGET.
  */
 #ifndef OTZARVIM_H
 #define OTZARVIM_H
@@ -40,6 +40,13 @@ enum {
     OTZARVIM_FORM = 10    /* a formula or label that breaks the rules */
 };
 
+/* The verdict on a state. */
+enum {
+    OTZARVIM_NONE = 0, /* there is no verdict: the call was refused, or the budget is spent */
+    OTZARVIM_YES = 1,  /* the state satisfies the formula */
+    OTZARVIM_NO = 2    /* it does not */
+};
+
 /* The stored value of a node that no finite number bounds. */
 #define OTZARVIM_INFINITE UINT64_MAX
 
@@ -60,6 +67,12 @@ enum {
 
 /* The text of a formula has at most so many bytes. */
 #define OTZARVIM_MOST_TEXT 2048
+
+/* A graph message has at most so many bytes: 14 + 65,535 * 4 + 262,144 * 6 + 4,096 * 8. */
+#define OTZARVIM_MOST_GRAPH 1867786
+
+/* So many numbers hold two rounds of any graph: 2 * 4,096. */
+#define OTZARVIM_MOST_VALUES 8192
 
 /*
  * Checks a graph message (kind 1).
@@ -97,7 +110,7 @@ uint8_t otzarvim_formula_check(const uint8_t *message, size_t message_length, ui
  *
  *   message, message_length   the bytes; only read
  *   budget                    how many rounds at most; n * (c + 1) always suffices, with c cover edges
- *   room, room_length         so many numbers; below 2n is ROOM
+ *   room, room_length         so many numbers; below 2n is ROOM; OTZARVIM_MOST_VALUES always suffice
  *   count                     gets m, the smaller of the budget and the first round that the next repeats
  *
  * With OK and BUDGET the first n numbers of the room hold round m, the next n round m + 1, and the
@@ -120,6 +133,48 @@ uint8_t otzarvim_rounds_solve(const uint8_t *message, size_t message_length, uin
  */
 uint8_t otzarvim_formula_text(const uint8_t *message, size_t message_length, uint32_t p,
                               uint8_t *room, size_t room_length, size_t *length);
+
+/*
+ * Decides whether a state satisfies a formula: checks the model, then the formula with the model's
+ * propositions, builds their graph and runs the rounds on it.
+ *
+ *   model, model_length       the bytes of a model message (kind 2); only read
+ *   formula, formula_length   the bytes of a formula message (kind 3); only read
+ *   state                     which state, counted from 0; one that doesn't exist is NAME
+ *   budget                    how many rounds at most; UINT32_MAX always suffices, and so does n * (c + 1)
+ *                             where the graph has n nodes and c cover edges
+ *   bytes, bytes_length       so many bytes for the graph's message; OTZARVIM_MOST_GRAPH always suffice
+ *   values, values_length     so many numbers for two rounds; OTZARVIM_MOST_VALUES always suffice
+ *   verdict                   gets OTZARVIM_YES or OTZARVIM_NO with OK, else OTZARVIM_NONE
+ *   count                     gets m, the smaller of the budget and the first round that the next repeats
+ *   length                    gets how many bytes the graph's message has
+ *
+ * With OK the verdict is OTZARVIM_YES exactly when the state satisfies the formula by its runs. With OK
+ * and BUDGET the first bytes hold the graph's message, the first n values round m and the next n round
+ * m + 1; the others stay.
+ *
+ * Returns OK or the first that applies of: what otzarvim_model_check returns of the model, what
+ * otzarvim_formula_check returns of the formula, NAME of the state, SIZE, ROOM, BUDGET.
+ */
+uint8_t otzarvim_verdict(const uint8_t *model, size_t model_length, const uint8_t *formula, size_t formula_length,
+                         uint32_t state, uint32_t budget, uint8_t *bytes, size_t bytes_length,
+                         uint64_t *values, size_t values_length, uint8_t *verdict, uint32_t *count, size_t *length);
+
+/*
+ * The same for all states of a model at once; one graph and one run of the rounds answer for all.
+ *
+ *   model, formula, budget, bytes, values, count, length   as for otzarvim_verdict
+ *   states                    gets with OK, in states[0], the place among the values of state 0's number,
+ *                             and in states[1] how many states there are
+ *
+ * With OK state a satisfies the formula exactly when values[states[0] + a] is 0, for a below states[1].
+ * The rooms are left as by otzarvim_verdict.
+ *
+ * Returns what otzarvim_verdict returns of a state that exists.
+ */
+uint8_t otzarvim_settle(const uint8_t *model, size_t model_length, const uint8_t *formula, size_t formula_length,
+                        uint32_t budget, uint8_t *bytes, size_t bytes_length, uint64_t *values, size_t values_length,
+                        uint32_t *count, size_t *length, uint32_t states[2]);
 
 #ifdef __cplusplus
 }

@@ -1,5 +1,5 @@
 /* A tour of the library: the paper's graph G, its model M, and the formula E[p0 U<=2 p1].
- * bindings/check.sh builds and runs it, and compares what it writes with expected.txt. */
+ * bindings/check.sh builds and runs it, and compares what it writes with tour.txt. */
 #include "otzarvim.h"
 
 #include <inttypes.h>

@@ -1,15 +1,15 @@
 //! A proved checker for weighted CTL with upper bounds.
 //!
 //! Messages are bytes: a graph, a model or a formula. Any bytes may be handed in; a message that is not well-formed is refused, and
-//! the [`Refusal`] says what its first fault is. Nothing is allocated but where a `String` or a `Vec` is returned, and a refusal
-//! leaves every lent slice as it came.
+//! the [`Refusal`] says what its first fault is. A refusal leaves every lent slice as it came, and nothing is allocated but by
+//! [`settled`], [`text_of`], [`satisfies`] and [`satisfying`].
 //!
 //! ```
-//! // One node with a hyperedge without targets: its value is 0, after one round.
-//! let graph = [0, 0, 0, 18, 1, 1, 0, 1, 0, 0, 0, 1, 0, 0, 0, 0, 0, 0];
-//! let mut room = [0; 2];
-//! assert_eq!(otzarvim::solve(&graph, 10, &mut room), Ok(otzarvim::Rounds::Settled { count: 1 }));
-//! assert_eq!(room, [0, 0]);
+//! // A state without propositions, and a transition to itself of weight 5.
+//! let model = [0, 0, 0, 25, 1, 2, 0, 1, 0, 0, 0, 0, 1, 0, 0, 0, 0, 0, 0, 0, 0, 0, 5, 0, 0];
+//! let formula = [0, 0, 0, 23, 1, 3, 2, 0, 0, 0, 0, 0, 0, 0, 0, 6, 0, 0, 0, 0, 0, 0, 5]; // EX<=5 true
+//! assert_eq!(otzarvim::satisfies(&model, &formula, 0), Ok(true));
+//! assert_eq!(otzarvim::satisfies(&model, &formula, 1), Err(otzarvim::Refusal::Name));
 //! ```
 
 use std::error::Error;
@@ -37,6 +37,35 @@ mod foreign {
             room_length: usize,
             length: *mut usize,
         ) -> u8;
+        pub fn otzarvim_verdict(
+            model: *const u8,
+            model_length: usize,
+            formula: *const u8,
+            formula_length: usize,
+            state: u32,
+            budget: u32,
+            bytes: *mut u8,
+            bytes_length: usize,
+            values: *mut u64,
+            values_length: usize,
+            verdict: *mut u8,
+            count: *mut u32,
+            length: *mut usize,
+        ) -> u8;
+        pub fn otzarvim_settle(
+            model: *const u8,
+            model_length: usize,
+            formula: *const u8,
+            formula_length: usize,
+            budget: u32,
+            bytes: *mut u8,
+            bytes_length: usize,
+            values: *mut u64,
+            values_length: usize,
+            count: *mut u32,
+            length: *mut usize,
+            states: *mut u32,
+        ) -> u8;
     }
 }
 
@@ -49,7 +78,14 @@ pub const NO_BOUND: u32 = u32::MAX;
 /// So many bytes hold the text of any formula.
 pub const MOST_TEXT: usize = 2048;
 
-/// Why a call is refused. Each case has the number that C sees; that of a spent budget, 1, is [`Rounds::Spent`].
+/// So many bytes hold the message of any graph.
+pub const MOST_GRAPH: usize = 14 + 65_535 * 4 + 262_144 * 6 + 4_096 * 8;
+
+/// So many numbers hold two rounds of any graph.
+pub const MOST_VALUES: usize = 2 * 4_096;
+
+/// Why a call is refused. Each case has the number that C sees; that of a spent budget, 1, is [`Rounds::Spent`], [`Answer::Spent`]
+/// and [`Answers::Spent`].
 #[derive(Clone, Copy, Debug, PartialEq, Eq, Hash)]
 pub enum Refusal {
     /// Too few bytes for the header or a record, a wrong length field, or bytes left over.
@@ -175,6 +211,58 @@ pub enum Rounds {
     Spent {
         /// The budget.
         count: u32,
+    },
+}
+
+/// Whether a state satisfies a formula.
+#[derive(Clone, Copy, Debug, PartialEq, Eq, Hash)]
+pub enum Verdict {
+    /// It does, by its runs.
+    Yes,
+    /// It doesn't.
+    No,
+}
+
+/// How the question about one state ended. The graph's message stands in the first `length` bytes of its room; with n nodes, the
+/// first n values hold round `count`, the next n the round after it.
+#[derive(Clone, Copy, Debug, PartialEq, Eq, Hash)]
+pub enum Answer {
+    /// A round changed nothing: there is a verdict.
+    Decided {
+        /// Whether the state satisfies the formula.
+        verdict: Verdict,
+        /// The first round that the next one repeats.
+        count: u32,
+        /// How many bytes the graph has.
+        length: usize,
+    },
+    /// The budget was spent before that.
+    Spent {
+        /// The budget.
+        count: u32,
+        /// How many bytes the graph has.
+        length: usize,
+    },
+}
+
+/// How the question about all states ended. The rooms are left as with [`Answer`].
+#[derive(Clone, Copy, Debug, PartialEq, Eq, Hash)]
+pub enum Answers<'a> {
+    /// A round changed nothing: there is an answer for each state.
+    Settled {
+        /// A number for each state: it satisfies the formula exactly when its number is 0.
+        states: &'a [u64],
+        /// The first round that the next one repeats.
+        count: u32,
+        /// How many bytes the graph has.
+        length: usize,
+    },
+    /// The budget was spent before that.
+    Spent {
+        /// The budget.
+        count: u32,
+        /// How many bytes the graph has.
+        length: usize,
     },
 }
 
@@ -326,4 +414,180 @@ pub fn text<'a>(message: &[u8], propositions: u32, room: &'a mut [u8]) -> Result
 /// ```
 pub fn text_of(message: &[u8], propositions: u32) -> Result<String, Refusal> {
     text(message, propositions, &mut [0; MOST_TEXT]).map(str::to_owned)
+}
+
+/// Decides whether a state of a model satisfies a formula: checks the model, then the formula with the model's propositions, builds
+/// their graph in `bytes` and runs its rounds in `values`. [`MOST_GRAPH`] bytes and [`MOST_VALUES`] numbers always suffice, and so
+/// does a budget of `u32::MAX`.
+///
+/// ```
+/// use otzarvim::{Answer, Refusal, Verdict};
+///
+/// // State 0 has p0 and goes to itself with weight 3 and to state 1 with weight 2; state 1 has p1 and goes to itself.
+/// let model = [
+///     0, 0, 0, 45, 1, 2, 0, 2, 2, 0, 0, 0, 3, //
+///     0, 0, 0, 1, 0, 0, 0, 2, //
+///     0, 0, 0, 0, 0, 3, 0, 0, //
+///     0, 0, 0, 0, 0, 2, 0, 1, //
+///     0, 1, 0, 0, 0, 0, 0, 1,
+/// ];
+/// // E[p0 U<=2 p1]
+/// let mut formula = [
+///     0, 0, 0, 31, 1, 3, 3, //
+///     2, 0, 0, 0, 0, 0, 0, 0, //
+///     2, 1, 0, 0, 0, 0, 0, 0, //
+///     8, 0, 1, 0, 0, 0, 0, 2,
+/// ];
+/// let (mut bytes, mut values) = ([7; 106], [7; 16]);
+/// assert_eq!(otzarvim::verdict(&model, &formula, 2, 9, &mut bytes, &mut values), Err(Refusal::Name));
+/// assert_eq!(otzarvim::verdict(&model, &formula, 0, 9, &mut bytes[1..], &mut values), Err(Refusal::Room));
+/// assert_eq!((bytes, values), ([7; 106], [7; 16]));
+///
+/// let yes = Answer::Decided { verdict: Verdict::Yes, count: 4, length: 106 };
+/// assert_eq!(otzarvim::verdict(&model, &formula, 0, 9, &mut bytes, &mut values), Ok(yes));
+/// assert_eq!(otzarvim::check_graph(&bytes).map(|graph| graph.nodes), Ok(8));
+///
+/// let spent = Answer::Spent { count: 3, length: 106 };
+/// assert_eq!(otzarvim::verdict(&model, &formula, 0, 3, &mut bytes, &mut values), Ok(spent));
+///
+/// formula[30] = 1; // E[p0 U<=1 p1]
+/// let Ok(Answer::Decided { verdict, .. }) = otzarvim::verdict(&model, &formula, 0, 9, &mut bytes, &mut values) else { panic!() };
+/// assert_eq!(verdict, Verdict::No);
+/// ```
+pub fn verdict(
+    model: &[u8],
+    formula: &[u8],
+    state: u32,
+    budget: u32,
+    bytes: &mut [u8],
+    values: &mut [u64],
+) -> Result<Answer, Refusal> {
+    let (mut verdict, mut count, mut length) = (0, 0, 0);
+    // SAFETY: four slices, of which the two rooms are lent to this function alone, and numbers of its own. The function is proved to
+    // read and write only these.
+    let number = unsafe {
+        foreign::otzarvim_verdict(
+            model.as_ptr(),
+            model.len(),
+            formula.as_ptr(),
+            formula.len(),
+            state,
+            budget,
+            bytes.as_mut_ptr(),
+            bytes.len(),
+            values.as_mut_ptr(),
+            values.len(),
+            &mut verdict,
+            &mut count,
+            &mut length,
+        )
+    };
+    match (number, verdict) {
+        (0, 1) => Ok(Answer::Decided { verdict: Verdict::Yes, count, length }),
+        (0, 2) => Ok(Answer::Decided { verdict: Verdict::No, count, length }),
+        (1, _) => Ok(Answer::Spent { count, length }),
+        (number, _) => Err(Refusal::of(number)),
+    }
+}
+
+/// The same for all states of a model at once: one graph and one run of the rounds answer for all.
+///
+/// ```
+/// use otzarvim::Answers;
+///
+/// let model = [
+///     0, 0, 0, 45, 1, 2, 0, 2, 2, 0, 0, 0, 3, //
+///     0, 0, 0, 1, 0, 0, 0, 2, //
+///     0, 0, 0, 0, 0, 3, 0, 0, //
+///     0, 0, 0, 0, 0, 2, 0, 1, //
+///     0, 1, 0, 0, 0, 0, 0, 1,
+/// ];
+/// let formula = [0, 0, 0, 15, 1, 3, 1, 2, 1, 0, 0, 0, 0, 0, 0]; // p1
+/// let (mut bytes, mut values) = (vec![0; otzarvim::MOST_GRAPH], vec![0; otzarvim::MOST_VALUES]);
+/// let Ok(Answers::Settled { states, count, length }) = otzarvim::settle(&model, &formula, 9, &mut bytes, &mut values) else { panic!() };
+/// assert_eq!((count, length), (1, 18));
+/// assert_eq!(states, [otzarvim::INFINITE, 0]);
+///
+/// let spent = Answers::Spent { count: 0, length: 18 };
+/// assert_eq!(otzarvim::settle(&model, &formula, 0, &mut bytes, &mut values), Ok(spent));
+/// assert_eq!(otzarvim::settle(&model, &[], 9, &mut bytes, &mut values), Err(otzarvim::Refusal::Length));
+/// ```
+pub fn settle<'a>(
+    model: &[u8],
+    formula: &[u8],
+    budget: u32,
+    bytes: &mut [u8],
+    values: &'a mut [u64],
+) -> Result<Answers<'a>, Refusal> {
+    let (mut count, mut length, mut states) = (0, 0, [0; 2]);
+    // SAFETY: as for verdict.
+    let number = unsafe {
+        foreign::otzarvim_settle(
+            model.as_ptr(),
+            model.len(),
+            formula.as_ptr(),
+            formula.len(),
+            budget,
+            bytes.as_mut_ptr(),
+            bytes.len(),
+            values.as_mut_ptr(),
+            values.len(),
+            &mut count,
+            &mut length,
+            states.as_mut_ptr(),
+        )
+    };
+    match number {
+        0 => {
+            let [first, many] = states.map(|number| number as usize);
+            Ok(Answers::Settled { states: &values[first..first + many], count, length })
+        }
+        1 => Ok(Answers::Spent { count, length }),
+        number => Err(Refusal::of(number)),
+    }
+}
+
+/// Whether a state of a model satisfies a formula: lends [`verdict`] rooms and a budget that suffice.
+///
+/// ```
+/// use otzarvim::Refusal;
+///
+/// let model = [0, 0, 0, 25, 1, 2, 0, 1, 0, 0, 0, 0, 1, 0, 0, 0, 0, 0, 0, 0, 0, 0, 5, 0, 0];
+/// let formula = [0, 0, 0, 23, 1, 3, 2, 0, 0, 0, 0, 0, 0, 0, 0, 6, 0, 0, 0, 0, 0, 0, 4]; // EX<=4 true
+/// assert_eq!(otzarvim::satisfies(&model, &formula, 0), Ok(false));
+/// assert_eq!(otzarvim::satisfies(&model, &formula, 1), Err(Refusal::Name));
+/// assert_eq!(otzarvim::satisfies(&model[..24], &formula, 0), Err(Refusal::Length));
+/// ```
+pub fn satisfies(model: &[u8], formula: &[u8], state: u32) -> Result<bool, Refusal> {
+    let (mut bytes, mut values) = rooms();
+    match verdict(model, formula, state, u32::MAX, &mut bytes, &mut values)? {
+        Answer::Decided { verdict, .. } => Ok(verdict == Verdict::Yes),
+        Answer::Spent { .. } => unreachable!("no count of rounds is so large"),
+    }
+}
+
+/// Whether each state of a model satisfies a formula.
+///
+/// ```
+/// // State 0 goes to itself with weight 1, state 1 to state 0 with weight 2.
+/// let model = [
+///     0, 0, 0, 37, 1, 2, 0, 2, 0, 0, 0, 0, 2, //
+///     0, 0, 0, 0, 0, 0, 0, 0, //
+///     0, 0, 0, 0, 0, 1, 0, 0, //
+///     0, 1, 0, 0, 0, 2, 0, 0,
+/// ];
+/// let formula = [0, 0, 0, 23, 1, 3, 2, 0, 0, 0, 0, 0, 0, 0, 0, 6, 0, 0, 0, 0, 0, 0, 1]; // EX<=1 true
+/// assert_eq!(otzarvim::satisfying(&model, &formula), Ok(vec![true, false]));
+/// ```
+pub fn satisfying(model: &[u8], formula: &[u8]) -> Result<Vec<bool>, Refusal> {
+    let (mut bytes, mut values) = rooms();
+    match settle(model, formula, u32::MAX, &mut bytes, &mut values)? {
+        Answers::Settled { states, .. } => Ok(states.iter().map(|&number| number == 0).collect()),
+        Answers::Spent { .. } => unreachable!("no count of rounds is so large"),
+    }
+}
+
+/// Rooms that always suffice.
+fn rooms() -> (Vec<u8>, Vec<u64>) {
+    (vec![0; MOST_GRAPH], vec![0; MOST_VALUES])
 }

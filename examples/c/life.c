@@ -1,0 +1,73 @@
+/* The question of README.md: is every run from a failed guard back in the interpreter within 42 instructions? And within 41?
+ * bindings/check.sh builds and runs it, and compares what it writes with life.txt.
+ *
+ * The bytes are those of
+ *   tools/otz compile examples/formula_life.otz 'A[true U<=42 interpreted]' -o - | od -An -v -tu1 */
+#include "otzarvim.h"
+
+#include <inttypes.h>
+#include <stdio.h>
+
+enum { COLD, HOT, SPECULATED, GUARD_FAILED, INTERPRETED };
+
+static const char *const names[] = {"cold", "hot", "speculated", "guard_failed", "interpreted"};
+
+static const uint8_t model[] = {
+    0, 0, 0, 113, 1, 2, 0, 5, 2, 0, 0, 0, 10,        /* 113 bytes, version 1, kind 2; 5 states, 2 propositions, 10 transitions */
+    0, 0, 0, 0, 0, 0, 0, 0, 0, 0, 0, 1,              /* p0 is compiled, and holds in speculated */
+    0, 0, 0, 0, 0, 0, 0, 2,                          /* p1 is interpreted, and holds there */
+    0, 0, 0, 0, 0, 30, 0, 4,                         /* cold to interpreted, 30 instructions */
+    0, 1, 0, 0, 0, 90, 0, 2,                         /* hot to speculated */
+    0, 1, 0, 0, 0, 25, 0, 4,                         /* hot to interpreted */
+    0, 2, 0, 0, 0, 4, 0, 2,                          /* speculated to itself */
+    0, 2, 0, 0, 0, 7, 0, 3,                          /* speculated to guard_failed */
+    0, 3, 0, 0, 0, 35, 0, 4,                         /* guard_failed to interpreted */
+    0, 3, 0, 0, 0, 12, 0, 0,                         /* guard_failed to cold */
+    0, 4, 0, 0, 0, 20, 0, 4,                         /* interpreted to itself */
+    0, 4, 0, 0, 0, 1, 0, 0,                          /* interpreted to cold */
+    0, 4, 0, 0, 0, 2, 0, 1                           /* interpreted to hot */
+};
+
+static uint8_t formula[] = {
+    0, 0, 0, 31, 1, 3, 3,                            /* 31 bytes, version 1, kind 3; 3 rows */
+    0, 0, 0, 0, 0, 0, 0, 0,                          /* true */
+    2, 1, 0, 0, 0, 0, 0, 0,                          /* p1 */
+    9, 0, 1, 0, 0, 0, 0, 42                          /* A[row 0 U<=42 row 1] */
+};
+
+/* Rooms that suffice for any question. */
+static uint8_t bytes[OTZARVIM_MOST_GRAPH];
+static uint64_t values[OTZARVIM_MOST_VALUES];
+
+static uint8_t ask(uint8_t bound, uint32_t state)
+{
+    uint8_t verdict;
+    uint32_t count;
+    size_t length;
+    formula[sizeof formula - 1] = bound;
+    uint8_t number = otzarvim_verdict(model, sizeof model, formula, sizeof formula, state, UINT32_MAX, bytes, sizeof bytes, values,
+                                      OTZARVIM_MOST_VALUES, &verdict, &count, &length);
+    printf("A[true U<=%u interpreted] from %s: ", bound, names[state]);
+    if (number == OTZARVIM_OK)
+        printf("%s, after %" PRIu32 " rounds on a graph of %zu bytes\n", verdict == OTZARVIM_YES ? "yes" : "no", count, length);
+    else
+        printf("refused %u\n", number);
+    return number;
+}
+
+int main(void)
+{
+    if (ask(42, GUARD_FAILED) || ask(41, GUARD_FAILED))
+        return 1;
+
+    /* All states at once. */
+    uint32_t count, states[2];
+    size_t length;
+    uint8_t number = otzarvim_settle(model, sizeof model, formula, sizeof formula, UINT32_MAX, bytes, sizeof bytes, values,
+                                     OTZARVIM_MOST_VALUES, &count, &length, states);
+    if (number != OTZARVIM_OK)
+        return 1;
+    for (uint32_t a = 0; a < states[1]; a++)
+        printf("%s %s\n", names[a], values[states[0] + a] == 0 ? "yes" : "no");
+    return 0;
+}
