@@ -1,5 +1,5 @@
 # Shared by the scripts beside it, which read it with `.`: where things stand, how the independent
-# program is built, and how `trials` is run.
+# program is built, and how `trials` and `otzarvim` are run.
 
 here=$(cd "$(dirname "$0")" && pwd -P)
 root=$(dirname "$here")
@@ -38,11 +38,11 @@ toolchain() {
     echo "$kit/on/$(uname -m)/toolchain"
 }
 
-# Copies the program out of the repository: target/bin/trials, as `rt check trials` leaves it, or the
-# file that TRIALS names.
-copy_trials() {
-    program=${TRIALS:-$root/target/bin/trials}
-    [ -f "$program" ] || die "there is no $program: build it with rt check trials"
+# copy_program NAME [FILE]: copies a program out of the repository: target/bin/NAME, as `rt check NAME`
+# leaves it, or the file that is given.
+copy_program() {
+    program=${2:-$root/target/bin/$1}
+    [ -f "$program" ] || die "there is no $program: build it with rt check $1"
     mkdir "$scratch/run"
     cp "$program" "$scratch/run/program"
     chmod 711 "$scratch"
@@ -51,19 +51,21 @@ copy_trials() {
     loader=$tools/lib/ld-linux-x86-64.so.2
     emulator=$tools/bin/qemu-x86_64
     [ -x "$emulator" ] || emulator=''
+    for word in $(env | sed -n 's/^\(QEMU_[A-Za-z0-9_]*\)=.*/\1/p'); do unset "$word"; done
     drop=''
     if [ "$(id -u)" = 0 ]; then
         drop='setpriv --reuid=65534 --regid=65534 --clear-groups --no-new-privs'
     fi
+    limit=''
 }
 
-# run_trials INPUT OUTPUT: runs the copy as rt runs programs, under the kit's loader and C library,
-# under its emulator on a machine that isn't x86-64, and as nobody where the caller is root.
-run_trials() {
+# Runs the copy as rt runs programs, under the kit's loader and C library, under its emulator on a
+# machine that isn't x86-64, and as nobody where the caller is root; its input and output are the
+# caller's. Where `limit` is set, for so many seconds at most.
+run_program() {
     (
-        for word in $(env | sed -n 's/^\(QEMU_[A-Za-z0-9_]*\)=.*/\1/p'); do unset "$word"; done
-        cd "$scratch/run"
+        cd "$scratch/run" || exit
         # shellcheck disable=SC2086
-        exec $drop ${emulator:+"$emulator"} "$loader" --library-path "$tools/lib" ./program
-    ) <"$1" >"$2"
+        exec $drop ${limit:+timeout "$limit"} ${emulator:+"$emulator"} "$loader" --library-path "$tools/lib" ./program
+    )
 }

@@ -11,7 +11,7 @@ set -eu
 . "$(dirname "$0")/common.sh"
 
 [ $# -eq 0 ] || die "usage: ends.sh"
-copy_trials
+copy_program trials "${TRIALS-}"
 
 build
 ends=$scratch/ends
@@ -21,7 +21,7 @@ differing=0
 for input in "$ends"/*.stdin; do
     batch=${input%.stdin}
     ended=0
-    run_trials "$input" "$batch.wrote" || ended=$?
+    run_program <"$input" >"$batch.wrote" || ended=$?
     if [ "$ended" -ne 0 ] || ! cmp -s "$batch.stdout" "$batch.wrote"; then
         differing=$((differing + 1))
         mkdir -p "$root/target/ends"

@@ -10,13 +10,13 @@ set -eu
 . "$(dirname "$0")/common.sh"
 
 [ $# -eq 2 ] || [ $# -eq 3 ] || die "usage: long.sh SEED CALLS [LETTERS]"
-copy_trials
+copy_program trials "${TRIALS-}"
 
 build
 "$independent" make "$1" "$2" "$scratch/stdin" "$scratch/stdout" "${3-$letters}"
 began=$(date +%s)
 ended=0
-run_trials "$scratch/stdin" "$scratch/wrote" || ended=$?
+run_program <"$scratch/stdin" >"$scratch/wrote" || ended=$?
 seconds=$(($(date +%s) - began))
 if [ "$ended" -eq 0 ] && cmp -s "$scratch/stdout" "$scratch/wrote"; then
     echo "seed $1: $2 calls, every line as expected, $seconds s"

@@ -1,5 +1,6 @@
 //! The independent test program. It is written from document 01 alone and shares nothing with the
-//! crates: it makes batches of calls for the program `trials` and says what each must answer.
+//! crates: it makes batches of calls for the program `trials` and inputs for the program `otzarvim`,
+//! and says what each must answer.
 
 mod answer;
 mod batch;
@@ -7,6 +8,7 @@ mod build;
 mod bytes;
 mod known;
 mod message;
+mod program;
 mod random;
 mod refusal;
 mod rounds;
@@ -24,6 +26,12 @@ const USAGE: &str = "usage:
       the calls to use, GMFTRV unless given; with a `?` among them, a call that ends the run is last
   independent ends FOLDER
       writes batches that end in a call which is none, as N.stdin and N.stdout with N from 1
+  independent program SEED CASES FOLDER
+      writes CASES inputs for `otzarvim` and what it must write, as N.stdin and N.stdout with N from 1
+  independent output
+      reads an input from standard input and writes what `otzarvim` must write
+  independent show-input
+      reads an input from standard input and shows it, and what `otzarvim` must write
   independent answer
       reads a batch from standard input and writes the lines that `trials` must answer
   independent show LINE
@@ -38,6 +46,9 @@ fn main() -> ExitCode {
         ["make", seed, calls, stdin, stdout] => make(seed, calls, stdin, stdout, answer::LETTERS),
         ["make", seed, calls, stdin, stdout, letters] => make(seed, calls, stdin, stdout, letters),
         ["ends", folder] => ends(folder),
+        ["program", seed, cases, folder] => program(seed, cases, folder),
+        ["output"] => output(),
+        ["show-input"] => show_input(),
         ["answer"] => answer(),
         ["show", line] => show(line),
         ["self-test"] => self_test("1"),
@@ -83,12 +94,28 @@ fn make(seed: &str, calls: &str, stdin: &str, stdout: &str, letters: &str) -> Re
 fn ends(folder: &str) -> Result<(), String> {
     let batches = batch::ends::batches();
     for (index, (input, lines)) in batches.iter().enumerate() {
-        let name = format!("{folder}/{}", index + 1);
-        write(&format!("{name}.stdin"), input)?;
-        write(&format!("{name}.stdout"), lines.as_bytes())?;
+        write_case(folder, index, input, lines)?;
     }
     println!("{} batches", batches.len());
     Ok(())
+}
+
+fn program(seed: &str, cases: &str, folder: &str) -> Result<(), String> {
+    let inputs = batch::inputs::make(decimal(seed)?, decimal(cases)?);
+    let mut refused = 0;
+    for (index, input) in inputs.iter().enumerate() {
+        let expected = program::output(input);
+        refused += usize::from(expected.fault.is_some());
+        write_case(folder, index, input, &expected.lines)?;
+    }
+    println!("{} inputs, {refused} of them to be refused", inputs.len());
+    Ok(())
+}
+
+fn write_case(folder: &str, index: usize, input: &[u8], lines: &str) -> Result<(), String> {
+    let name = format!("{folder}/{}", index + 1);
+    write(&format!("{name}.stdin"), input)?;
+    write(&format!("{name}.stdout"), lines.as_bytes())
 }
 
 fn write(path: &str, bytes: &[u8]) -> Result<(), String> {
@@ -103,11 +130,22 @@ fn read_input() -> Result<Vec<u8>, String> {
     Ok(input)
 }
 
-fn answer() -> Result<(), String> {
-    let lines = answer::answer_batch(&read_input()?);
+fn say(lines: &str) -> Result<(), String> {
     io::stdout()
         .write_all(lines.as_bytes())
         .map_err(|error| error.to_string())
+}
+
+fn answer() -> Result<(), String> {
+    say(&answer::answer_batch(&read_input()?))
+}
+
+fn output() -> Result<(), String> {
+    say(&program::output(&read_input()?).lines)
+}
+
+fn show_input() -> Result<(), String> {
+    say(&program::shown(&read_input()?))
 }
 
 fn show(line: &str) -> Result<(), String> {

@@ -7,6 +7,7 @@ use crate::build;
 use crate::bytes::{self, Bound, Formula, Graph, Model, Row, Runs};
 use crate::known::{self, graph, model};
 use crate::message;
+use crate::program;
 use crate::random::Random;
 use crate::refusal::{Number, RULES};
 use crate::rounds::{self, Value};
@@ -96,6 +97,8 @@ fn known_questions() {
             }
         }
     }
+    let written = program::output(&batch::inputs::t13()).lines;
+    assert_eq!(written, "E[p0 U<=2 p1]\nrounds 4\n0 yes\n1 yes\n");
     report("known questions", known::questions().len());
 }
 
@@ -415,11 +418,13 @@ fn operands_first(rows: &[Row], index: usize, out: &mut Formula) -> usize {
 
 // ---- batches
 
-/// The systematic part breaks every rule in every kind of call that can break it, and each kind of
-/// call also goes well.
+/// The systematic part breaks every rule in every kind of call that can break it, and so do the
+/// program's inputs; each kind of call, and the program, also go well.
 fn every_rule() {
     let calls = batch::systematic();
-    let broken: BTreeSet<(char, &str, &str)> = calls.iter().filter_map(rule_broken).collect();
+    let inputs = batch::inputs::systematic();
+    let mut broken: BTreeSet<(char, &str, &str)> = calls.iter().filter_map(rule_broken).collect();
+    broken.extend(inputs.iter().filter_map(|input| rule_broken_by(input)));
     for (subject, place, letters) in RULES {
         for letter in letters.chars() {
             assert!(
@@ -445,7 +450,13 @@ fn every_rule() {
             letter as char
         );
     }
+    let answered = |input: &&Vec<u8>| program::output(input).fault.is_none();
+    assert!(
+        inputs.iter().filter(answered).count() > inputs.len() / 4,
+        "few inputs are answered"
+    );
     report("systematic calls", calls.len());
+    report("systematic inputs", inputs.len());
     report("rules broken, by letter", broken.len());
 }
 
@@ -453,6 +464,11 @@ fn rule_broken(call: &Call) -> Option<(char, &'static str, &'static str)> {
     answer(call)
         .fault
         .map(|fault| (call.letter as char, fault.subject, fault.place))
+}
+
+fn rule_broken_by(input: &[u8]) -> Option<(char, &'static str, &'static str)> {
+    let fault = program::output(input).fault;
+    fault.map(|fault| ('P', fault.subject, fault.place))
 }
 
 fn batches(seed: u64) {
@@ -489,6 +505,14 @@ fn batches(seed: u64) {
         "nothing follows"
     );
     assert!(batch::make(seed, 9, "?").1.starts_with("? "));
+    let inputs = batch::inputs::systematic().len() + 500;
+    let made = batch::inputs::make(seed, inputs);
+    assert_eq!(made.len(), inputs);
+    assert_eq!(
+        batch::inputs::make(seed, inputs),
+        made,
+        "a seed makes the same inputs"
+    );
     report("calls in a batch", calls);
     report("batches that end early", batch::ends::no_calls().len());
 }

@@ -21,8 +21,8 @@ pub fn write_text(p: u32, formula: &[u8], room: &mut [u8]) -> Result<usize, Faul
 }
 
 /// "Room below 2n is ROOM. Numbers beyond 2n stay."
-fn has_room(nodes: usize, room: &[u64]) -> Result<(), Fault> {
-    CALL.demand(room.len() >= 2 * nodes, Number::Room, "value room")
+fn has_room(nodes: usize, room: usize) -> Result<(), Fault> {
+    CALL.demand(room >= 2 * nodes, Number::Room, "value room")
 }
 
 fn run_in(graph: &Graph, budget: u32, room: &mut [u64]) -> Report {
@@ -42,7 +42,7 @@ pub fn number_of(report: &Report) -> Number {
 
 pub fn run_rounds(message: &[u8], budget: u32, room: &mut [u64]) -> Result<Report, Fault> {
     let graph = bytes::graph(message)?;
-    has_room(graph.nodes, room)?;
+    has_room(graph.nodes, room.len())?;
     Ok(run_in(&graph, budget, room))
 }
 
@@ -62,6 +62,21 @@ pub struct Answer {
     pub length: usize,
 }
 
+/// The graph that is built, and its message: "SIZE, graph room, value room".
+pub fn build_in(
+    model: &Model,
+    rows: &[Row],
+    graph_room: usize,
+    value_room: usize,
+) -> Result<(Graph, Vec<u8>), Fault> {
+    let graph = build::graph(model, rows);
+    build::within_limits(&graph)?;
+    let written = message::graph(&graph).bytes;
+    CALL.demand(written.len() <= graph_room, Number::Room, "graph room")?;
+    has_room(graph.nodes, value_room)?;
+    Ok((graph, written))
+}
+
 /// "After a verdict or BUDGET, the graph stands at the front of its room, the rest untouched, and its
 /// length is the returned length."
 pub fn decide(
@@ -73,15 +88,7 @@ pub fn decide(
     let rows = bytes::formula(model.propositions, question.formula)?;
     let state = question.state as usize;
     CALL.demand(state < model.states(), Number::Name, "asked state")?;
-    let graph = build::graph(&model, &rows);
-    build::within_limits(&graph)?;
-    let written = message::graph(&graph).bytes;
-    CALL.demand(
-        written.len() <= graph_room.len(),
-        Number::Room,
-        "graph room",
-    )?;
-    has_room(graph.nodes, value_room)?;
+    let (graph, written) = build_in(&model, &rows, graph_room.len(), value_room.len())?;
     graph_room[..written.len()].copy_from_slice(&written);
     let report = run_in(&graph, question.budget, value_room);
     let yes = report.settled.then(|| {
@@ -96,7 +103,7 @@ pub fn decide(
 }
 
 /// "The verdict is yes when the root row's node of the state has value 0."
-fn is_yes(model: &Model, rows: &[Row], state: usize, report: &Report) -> bool {
+pub fn is_yes(model: &Model, rows: &[Row], state: usize, report: &Report) -> bool {
     let root = Layout::of(model, rows).node(state, rows.len() - 1);
     report.at[root] == Some(0)
 }

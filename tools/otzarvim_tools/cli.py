@@ -21,7 +21,7 @@ from .names import hint
 from .question import Question, read_question
 from .running import VARIABLE, find_program, run
 
-ANSWERED, REFUSED, WRONG = 0, 1, 2
+ANSWERED, REFUSED, WRONG, STOPPED = 0, 1, 2, 130
 
 
 def _read_bytes(path: str) -> bytes:
@@ -49,7 +49,18 @@ def _question(model: Model, formula: str, raw: bool) -> Question:
     """A formula is given as text, or as @FILE."""
     if formula.startswith("@"):
         return read_question(model, _read_text(formula[1:]), formula[1:], raw)
-    return read_question(model, formula, "formula", raw)
+    try:
+        return read_question(model, formula, "formula", raw)
+    except Mistake as mistake:
+        if os.path.isfile(formula):
+            raise Mistake(mistake.place, f"{mistake.words} (a formula in a file is given as @{formula})", mistake.excerpt) from None
+        raise
+
+
+def _in_order(model: str, formula: Optional[str]) -> None:
+    """Refuses a model and a formula that stand in each other's place."""
+    if formula is not None and model != "-" and not os.path.exists(model) and os.path.isfile(formula):
+        raise Mistake(Place(model), f"there is no such file; the model's file, {formula}, comes before the formula")
 
 
 def _complaints(question: Question) -> Iterator[Complaint]:
@@ -66,10 +77,11 @@ def _bytes(question: Question) -> bytes:
 
 def ask(words: argparse.Namespace) -> int:
     """Compiles a model and a formula, runs the program and says its answer in names."""
+    _in_order(words.model, words.formula)
     model = _model(words.model)
     question = _question(model, words.formula, words.raw)
     if words.state is not None and words.state not in model.states:
-        raise Mistake(Place(model.path), f"there is no state {words.state}{hint(words.state, model.states)}")
+        raise Mistake(Place(model.path), f"there is no state {words.state}{hint(words.state, model.states, model.states)}")
     if not words.raw:
         checks.insist(_complaints(question))
     data = _bytes(question)
@@ -94,6 +106,7 @@ def draw_command(words: argparse.Namespace) -> int:
 
 def compile_command(words: argparse.Namespace) -> int:
     """Writes the message of a model, followed by that of a formula if one is given."""
+    _in_order(words.model, words.formula)
     model = _model(words.model)
     if words.formula is None:
         complaints, build = checks.of_model(model), lambda: compile_model(model)
@@ -172,7 +185,11 @@ def _parser() -> argparse.ArgumentParser:
 
 def main(arguments: Optional[List[str]] = None) -> int:
     """Runs a command and gives its exit status."""
-    words = _parser().parse_args(arguments)
+    parser = _parser()
+    if not (sys.argv[1:] if arguments is None else arguments):
+        parser.print_help(sys.stderr)
+        return WRONG
+    words = parser.parse_args(arguments)
     try:
         status: int = words.act(words)
         sys.stdout.flush()
@@ -180,6 +197,9 @@ def main(arguments: Optional[List[str]] = None) -> int:
     except (Mistake, Complaints) as mistake:
         print(mistake, file=sys.stderr)
         return WRONG
+    except KeyboardInterrupt:
+        print("stopped", file=sys.stderr)
+        return STOPPED
     except BrokenPipeError:
         # the reader of the output has gone; nothing more is to be said to it
         os.dup2(os.open(os.devnull, os.O_WRONLY), sys.stdout.fileno())

@@ -14,6 +14,14 @@ from .names import FORMULA_WORDS, read_number
 from .paper import LARGEST_BOUND, Operator
 
 _TOKEN = re.compile(r"[0-9]+|[A-Za-z_][A-Za-z0-9_]*|<=|[()\[\]&|!]", re.ASCII)
+# Signs from elsewhere, and how they are written here.
+_SIGNS = {
+    **dict.fromkeys("<>=≤", "a bound is written <=3"),
+    **dict.fromkeys("¬~", "a negation is written !idle"),
+    "∧": "written (x & y)",
+    "∨": "written (x | y)",
+    **dict.fromkeys(("->", "→", "⇒"), "x -> y is written (!x | y), where x is a proposition"),
+}
 _DEEPEST = 255  # a row's number is one byte, so nothing deeper can be written
 
 NumberOf = Callable[[str, Place, Optional[str]], int]
@@ -39,8 +47,9 @@ def _tokens(text: str, path: str) -> List[_Token]:
             place = Place(path, number, at + 1)
             match = _TOKEN.match(line, at)
             if match is None:
-                more = " (a bound is written <=3)" if line[at] in "<>=" else ""
-                raise Mistake(place, f"'{line[at]}' has no place in a formula{more}", line)
+                sign = "->" if line.startswith("->", at) else line[at]
+                more = f" ({_SIGNS[sign]})" if sign in _SIGNS else ""
+                raise Mistake(place, f"'{sign}' has no place in a formula{more}", line)
             found.append(_Token(match.group(), place, line))
             at = match.end()
     # the end is told as the place behind the last word
@@ -81,7 +90,7 @@ class _Parser:
         try:
             return read_number(token.word, "bound", LARGEST_BOUND, token.place)
         except Mistake as mistake:
-            raise self.fail(token, mistake.words) from None
+            raise self.fail(token, f"{mistake.words} (for no bound, leave <= out)") from None
 
     def proposition(self, token: _Token) -> int:
         return self.number_of(token.word, token.place, token.excerpt)

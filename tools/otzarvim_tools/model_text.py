@@ -88,7 +88,7 @@ class _Reader:
         if name in known:
             return known.index(name)
         if self.declared:
-            raise Mistake(self.place(line), f"{name} isn't among the propositions listed above{hint(name, known)}")
+            raise Mistake(self.place(line), f"{name} isn't among the propositions listed above{hint(name, known, known)}")
         return self.add_proposition(name, line)
 
     def transition_line(self, text: str, line: int) -> None:

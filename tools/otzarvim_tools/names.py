@@ -25,13 +25,22 @@ _ELSEWHERE = {
     "AF": "AF x is written A[true U x]",
     "EG": "EG can't be said in this language",
     "AG": "AG can't be said in this language",
+    "X": "X is written EX or AX",
+    "F": "F x is written E[true U x] or A[true U x]",
+    "G": "G can't be said in this language",
+    "not": "not x is written !x",
+    "and": "x and y is written (x & y)",
+    "or": "x or y is written (x | y)",
 }
+_LISTED = 12  # so many names are listed where none is near
 
 
 def check_name(word: str, what: str, place: Place) -> None:
     """Refuses a word that can't name a state or a proposition."""
     if not _WORD.fullmatch(word):
-        raise Mistake(place, f"'{word}' can't name {what}: a name has letters, digits and _, and starts with no digit")
+        several = all(_WORD.fullmatch(part) for part in word.split()) and what == "a proposition"
+        more = " (several have commas between them)" if several and word else ""
+        raise Mistake(place, f"'{word}' can't name {what}: a name has letters, digits and _, and starts with no digit{more}")
     if word in RESERVED:
         raise Mistake(place, f"'{word}' is a word of the language and can't name {what}")
 
@@ -66,10 +75,15 @@ def read_number(word: str, what: str, most: int, place: Place) -> int:
     return int(word)
 
 
-def hint(word: str, known: Iterable[str]) -> str:
-    """' (did you mean ..?)', or nothing."""
-    near = difflib.get_close_matches(word, list(known), n=1)
-    return f" (did you mean {near[0]}?)" if near else ""
+def hint(word: str, known: Iterable[str], listed: Iterable[str]) -> str:
+    """' (did you mean ..?)' where a known name is near, whatever its capitals; else what there is."""
+    by_small = {name.lower(): name for name in known}
+    near = difflib.get_close_matches(word.lower(), list(by_small), n=1)
+    if near:
+        return f" (did you mean {by_small[near[0]]}?)"
+    names = list(dict.fromkeys(listed))
+    more = f" and {len(names) - _LISTED} more" if len(names) > _LISTED else ""
+    return f" (there are {', '.join(names[:_LISTED])}{more})" if names else ""
 
 
 class Names:
@@ -103,7 +117,8 @@ class Names:
         words = f"no proposition or state has the name {word}"
         if word in _ELSEWHERE:
             raise Mistake(place, f"{words} ({_ELSEWHERE[word]})", excerpt)
-        raise Mistake(place, words + hint(word, ["true", "false"] + model.propositions + model.states), excerpt)
+        names = model.propositions + model.states
+        raise Mistake(place, words + hint(word, ["true", "false"] + names, names), excerpt)
 
     def name(self, number: int) -> str:
         """The name of a proposition; p and the number for one that the model doesn't have."""

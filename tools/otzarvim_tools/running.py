@@ -3,6 +3,7 @@
 from __future__ import annotations
 
 import os
+import re
 import shutil
 import subprocess
 import sys
@@ -32,14 +33,39 @@ def find_program(option: Optional[str] = None, root: Path = ROOT) -> Path:
 
 
 def build(root: Path) -> None:
-    """Proves and builds the program; what `rt` says is shown only if it fails."""
+    """Proves and builds the program, and says how far it has come. All else that `rt` says is shown only
+    if it fails, without what it said of crates that it proved."""
     if shutil.which("rt") is None:
-        raise Mistake(Place(NAME), f"the program isn't built, and there is no 'rt' on the path to build it with ('rt check {NAME}')")
-    print(f"building the program, once: rt check {NAME}", file=sys.stderr)
-    done = subprocess.run(["rt", "check", NAME], cwd=root, stdout=subprocess.PIPE, stderr=subprocess.STDOUT, text=True)
-    if done.returncode != 0:
-        sys.stderr.write(done.stdout)
-        raise Mistake(Place(NAME), f"'rt check {NAME}' failed with status {done.returncode}")
+        raise Mistake(Place(NAME), f"the program isn't built, and there is no 'rt' on the path to build it with ('rt check {NAME}'): install the Rattle kit, README.md says which")
+    print(f"The checker isn't built yet. It is proved and built now, once; that takes some minutes (rt check {NAME}).", file=sys.stderr, flush=True)
+    total, proved = _crates(root), 0
+    block: List[str] = []  # what it said since its last line of its own, which starts with rt:
+    shown: List[str] = []
+    with subprocess.Popen(["rt", "check", NAME], cwd=root, stdout=subprocess.PIPE, stderr=subprocess.STDOUT, text=True, errors="replace") as rt:
+        for line in rt.stdout or ():
+            block.append(line)
+            if not line.startswith("rt: "):
+                continue
+            found = re.fullmatch(r"rt: (\S+) proved \((.*)\)\n", line)
+            if found:
+                proved += 1
+                print(f"  {proved}{f' of {total}' if total else ''} proved: {found.group(1)} ({found.group(2)})", file=sys.stderr, flush=True)
+            else:
+                shown += block
+            block = []
+    if rt.returncode != 0:
+        sys.stderr.write("".join(shown + block))
+        raise Mistake(Place(NAME), f"'rt check {NAME}' failed with status {rt.returncode}; what it said is above, and in target/log")
+
+
+def _crates(root: Path) -> Optional[int]:
+    """How many crates are proved for the program, by crates.txt: itself and what it uses of the repository."""
+    try:
+        lines = [line.split(":") for line in (root / "crates.txt").read_text().splitlines() if ":" in line and not line.startswith("#")]
+    except OSError:
+        return None
+    uses = {name.strip(): set(used.split()) for name, used in lines}
+    return 1 + len(uses[NAME] & set(uses)) if NAME in uses else None
 
 
 def kit_tools() -> Optional[Path]:

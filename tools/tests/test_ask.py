@@ -2,6 +2,7 @@
 
 import subprocess
 import sys
+from unittest import mock
 
 from otzarvim_tools.answers import Answer, Refused, read_answer
 from otzarvim_tools.paper import REFUSALS
@@ -56,7 +57,35 @@ class Asking(Case):
         self.assertEqual((status, out.splitlines()[0]), (0, "formula  E[true U p1]"))
         bad = self.write("bad.txt", "E[true U\n  x]\n")
         status, _, err = self.otz("ask", self.model, "@" + bad, "--program", FAKE)
-        self.assertEqual((status, err.splitlines()[0]), (2, f"{bad}:2:3: no proposition or state has the name x"))
+        self.assertEqual((status, err.splitlines()[0]), (2, f"{bad}:2:3: no proposition or state has the name x (there are p0, p1, zero, one)"))
+        status, _, err = self.otz("ask", self.model, path, "--program", FAKE)
+        self.assertEqual(status, 2)
+        self.assertIn(f"(a formula in a file is given as @{path})", err)
+
+    def test_a_formula_before_its_model(self):
+        for words in (("ask", "p0", self.model), ("compile", "p0", self.model, "-o", "-")):
+            status, out, err = self.otz(*words)
+            self.assertEqual((status, out, err), (2, "", f"p0: there is no such file; the model's file, {self.model}, comes before the formula\n"))
+
+    def test_a_state_that_is_not_there(self):
+        many = self.write("many.otz", "".join(f"s{i} -> s{i} 0\n" for i in range(15)))
+        for model, state, said in (
+            (self.model, "two", "(there are zero, one)"),
+            (self.model, "ONE", "(did you mean one?)"),
+            (many, "x", "(there are s0, s1, s2, s3, s4, s5, s6, s7, s8, s9, s10, s11 and 3 more)"),
+        ):
+            status, out, err = self.otz("ask", model, "true", "--state", state, "--program", FAKE)
+            self.assertEqual((status, out, err), (2, "", f"{model}: there is no state {state} {said}\n"))
+
+    def test_without_words_all_commands_are_told(self):
+        status, out, err = self.otz()
+        self.assertEqual((status, out), (2, ""))
+        for command in ("ask", "draw", "compile", "show"):
+            self.assertRegex(err, rf"(?m)^ +{command} ")
+
+    def test_stopped_by_the_keyboard(self):
+        with mock.patch("otzarvim_tools.cli.find_program", side_effect=KeyboardInterrupt):
+            self.assertEqual(self.otz("ask", self.model, "p0"), (130, "", "stopped\n"))
 
     def test_refusals_in_words(self):
         self.assertEqual([REFUSALS[number].name for number in range(1, 11)], NAMES)

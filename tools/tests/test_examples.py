@@ -92,6 +92,15 @@ class Pages(Case):
                     shown += 1
             self.assertGreaterEqual(shown, least, page)
 
+    def test_the_first_page(self):
+        text = (ROOT / "README.md").read_text()
+        command = re.search(r"^(tools/otz ask .*?) *(#.*)?$", text, re.M).group(1)
+        ends = re.search(r"ends in `(.*?)`; with (\d+) in place of (\d+) it ends in `(.*?)`", text)
+        last, other, number, last_of_other = ends.groups()
+        self.assertEqual(self.written(command).splitlines()[-1], last)
+        self.assertEqual(command.count(number), 1)
+        self.assertEqual(self.written(command.replace(number, other)).splitlines()[-1], last_of_other)
+
     def test_the_model_on_the_page(self):
         text = (ROOT / "tools/README.md").read_text()
         block = re.search(r"^```\n(propositions .*?)^```$", text, re.M | re.S).group(1)

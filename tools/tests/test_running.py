@@ -57,10 +57,23 @@ class Finding(Surroundings):
         self.assertEqual((self.folder / "called").read_text(), "check otzarvim\n")
         self.assertNotIn("noise", self.quiet.getvalue())
 
+    def test_a_build_says_how_far_it_has_come(self):
+        self.write("crates.txt", "# crates\nlists:\nwire: lists\nother: lists\notzarvim: lists wire io libc\n")
+        self.rt("echo 'rt: lists proved (3 s)'; echo 'fn x: proved'; echo 'rt: wire proved (20 s)'; mkdir -p target/bin; : >target/bin/otzarvim\n")
+        self.find()
+        first, *rest = self.quiet.getvalue().splitlines()
+        self.assertIn("some minutes (rt check otzarvim)", first)
+        self.assertEqual(rest, ["  1 of 3 proved: lists (3 s)", "  2 of 3 proved: wire (20 s)"])
+
     def test_a_failed_build_is_shown(self):
         self.rt("echo out; echo err >&2; exit 3\n")
         self.mistake(self.find, "failed with status 3")
         self.assertIn("out\nerr\n", self.quiet.getvalue())
+
+    def test_of_a_failed_build_only_what_failed_is_shown(self):
+        self.rt("echo fine; echo 'rt: lists proved (3 s)'; echo broken; echo 'rt: wire NOT PROVED (exit 1, 2 s)'; echo good; echo 'rt: value proved (1 s)'; echo 'rt: FAILED: wire'; exit 1\n")
+        self.mistake(self.find, "failed with status 1")
+        self.assertEqual(self.quiet.getvalue().splitlines()[1:], ["  1 proved: lists (3 s)", "  2 proved: value (1 s)", "broken", "rt: wire NOT PROVED (exit 1, 2 s)", "rt: FAILED: wire"])
 
     def test_a_build_without_a_program(self):
         self.rt("exit 0\n")

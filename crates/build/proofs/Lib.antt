@@ -13,7 +13,8 @@
 --     Helpers    the hyperedges of helper nodes, and the loop over rows that lays them in
 --     Covers     the bytes of cover edges, state by state and row by row
 --     Parts      the message of a built graph, part by part, and what the tests before it is written say of it
---     Writing    what the writing of a graph that passes no limit may rely on
+--     Writing    what the writing of a graph that passes no limit may rely on, and the limits one by one
+--     Laws       there is one answer
 pub mod Holding
 pub mod Stride
 pub mod Counting
@@ -29,3 +30,4 @@ pub mod Helpers
 pub mod Covers
 pub mod Parts
 pub mod Writing
+pub mod Laws

@@ -2,6 +2,7 @@
 use Prim.Native.Nat.{ℕ, _+_, _*_, _≤_}
 use mathlib.Core.List.{List, _++_}
 use mathlib.Core.Bool.{Bool, true, _&&_}
+use mathlib.Core.Logic.{_↔_}
 use mathlib.Core.Path.{_≡_, sym, _∙_}
 use native.Mathlib.Nat.{mul-le-mul-left}
 use native.Mathlib.Omega.{arith}
@@ -47,6 +48,20 @@ fits-each g e =
       each-fits = λ {h} m. leb-true _ _ (all-true few (g .hypers) (and-left each covers last) h m);
       covers-fit = leb-true _ _ (and-right each covers last);
     }
+
+-- and the limits say it: SIZE exactly where one is passed
+pub fits-exactly : (g : Graph) → (fits g ≡ true) ↔ Fits g
+unfolding fits
+fits-exactly g = (
+  fits-each g,
+  λ f. rw (
+    le-leb (g .nodes) 4096 (f .nodes-fit),
+    le-leb (length (g .hypers)) 65535 (f .hypers-fit),
+    le-leb (targetsOf (g .hypers)) 262144 (f .targets-fit),
+    true-all (λ (h : Hyper). leb (length (h .targets)) 65535) (g .hypers) (λ h m. le-leb (length (h .targets)) 65535 (f .each-fits m)),
+    le-leb (length (g .covers)) 4096 (f .covers-fit),
+  ),
+)
 
 -- none of its hyperedges is too large, tested on all at once
 fits-most : (g : Graph) → fits g ≡ true → all (λ h. leb (length (h .targets)) 65535) (g .hypers) ≡ true

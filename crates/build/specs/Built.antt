@@ -6,12 +6,22 @@ use mathlib.Core.Bool.{Bool, true, cond, _&&_}
 use lib.ListN.{length, drop}
 use lib.Dec.{leb}
 use Rattle.lists.specs.Lists.{all}
+use Rattle.refusal.specs.Number.{ok, numberOf}
 use Rattle.refusal.specs.declared.Refusal.the-variants.{Size, Room}
 use Rattle.rules.specs.Graph.{Graph}
 use Rattle.graph.specs.WellFormed.{targetsOf}
 use Rattle.graph.specs.Write.{writeGraph}
 use Rattle.build.specs.declared.Built.{Built}
 use Rattle.build.specs.declared.Built.the-variants as Built
+
+-- the paper's number and the returned length of an answer: a refusal has length 0
+abbrev pub builtNumber : Built → ℕ
+builtNumber (Built.Graph n) = ok
+builtNumber (Built.Refused e) = numberOf e
+
+abbrev pub builtLength : Built → ℕ
+builtLength (Built.Graph n) = n
+builtLength (Built.Refused e) = 0
 
 -- the graph passes no limit on n, h, c or targets, all together or of one hyperedge
 unfoldable pub fits : Graph → Bool

@@ -15,7 +15,7 @@ ghost use Rattle.reduction.specs.Built as built;
 ghost use Rattle.build.specs.Held.{transitionsFrom, heldModel, heldRows, HoldsModel, HoldsRows, Starts, Own, Reads, leading};
 ghost use Rattle.build.specs.Size.{inLimits, noSize, addSize, sizeOf, stateEdges, rowsEdges, leafEdges, nextSize, helperSize};
 ghost use Rattle.build.specs.Bytes.{hypersBytes, coversBytes, someNext, everyNext, someSteps, everySteps, nextEdges, helperList, rowBytes, rowsBytes, helperBytes, helpersBytes, coverBytes, coversOf, headerBytes, RowFits, Narrow, HelpersFit};
-ghost use Rattle.build.specs.Built.{builtOf, roomOf, Writable};
+ghost use Rattle.build.specs.Built.{builtNumber, builtLength, builtOf, roomOf, Writable};
 use formula::Quantifier;
 use formula::Row;
 use refusal::Refusal;
@@ -34,6 +34,28 @@ pub struct Size {
 pub enum Built {
     Graph(usize),
     Refused(Refusal),
+}
+
+impl Built {
+    // The number that the paper gives the answer.
+    pub fn number(self) -> u8
+        ensures { λ r. ⌜ r ≡ builtNumber self ⌝ }
+    {
+        match self {
+            Built::Graph(_) => 0,
+            Built::Refused(e) => e.number(),
+        }
+    }
+
+    // The returned length of the graph.
+    pub fn length(self) -> usize
+        ensures { λ r. ⌜ r ≡ builtLength self ⌝ }
+    {
+        match self {
+            Built::Graph(n) => n,
+            Built::Refused(_) => 0,
+        }
+    }
 }
 
 // Whether bit i of a label is set.

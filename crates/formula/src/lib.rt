@@ -3,10 +3,12 @@ ghost use mathlib.Core.Path.{_≡_};
 ghost use Prim.Native.Nat.{ℕ, _+_, _≤_, _<_};
 ghost use mathlib.Core.Bool.{_&&_};
 ghost use mathlib.Core.List.{[], _∷_};
-ghost use lib.Dec.{eqb};
+ghost use lib.Dec.{eqb, ltb};
 ghost use lib.ListN.{length, getD};
 ghost use Rattle.lists.specs.Lists.{_∈_};
+ghost use Rattle.refusal.specs.declared.Refusal.the-variants as fault;
 ghost use Rattle.wire.specs.Layout.{items, Sound};
+ghost use Rattle.wire.specs.Read as read;
 ghost use Rattle.wire.specs.Reader.{one, run};
 ghost use Rattle.wire.specs.Step.{step};
 ghost use Rattle.formula.specs.Rows as rows;
@@ -97,73 +99,62 @@ fn all_zero(a: u32, b: u32, c: u32, d: u32) -> bool
     d == 0
 }
 
-// Whether the fields that the row doesn't use are zero: one that it uses counts as zero.
-fn spare_zero(row: Row, left: u32, right: u32, zero: u32, bound: u32) -> bool
-    ensures { λ r. ⌜ r ≡ rows.spareZero row left right zero bound ⌝ }
+// Whether both operands are below the row's own place.
+fn both_below(left: u32, right: u32, place: u32) -> bool
+    ensures { λ r. ⌜ r ≡ (ltb left place && ltb right place) ⌝ }
 {
-    match row {
-        Row::True | Row::False => all_zero(left, right, zero, bound),
-        Row::Proposition(_) | Row::Negation(_) => all_zero(0, right, zero, bound),
-        Row::And(_, _) | Row::Or(_, _) => all_zero(0, 0, zero, bound),
-        Row::Next(_, _, _) => all_zero(0, right, zero, 0),
-        Row::Until(_, _, _, _) => all_zero(0, 0, zero, 0),
-    }
+    left < place && right < place
 }
 
-// Whether the row's proposition is below p, and its operands are below its own place.
-fn named(row: Row, p: u32, place: u32) -> bool
-    ensures { λ r. ⌜ r ≡ rows.named p place row ⌝ }
+// The row, or its first fault: whether the fields that it doesn't use are zero comes before whether its names exist.
+fn first_fault(spare: bool, named: bool, row: Row) -> Judged
+    ensures { λ r. ⌜ r ≡ answers.judged (read._>>_ (read.demand spare fault.Form) (read._>>_ (read.demand named fault.Name) (read.good row))) ⌝ }
 {
-    match row {
-        Row::True | Row::False => true,
-        Row::Proposition(q) | Row::Negation(q) => q < p,
-        Row::Next(_, l, _) => l < place,
-        Row::And(l, r) | Row::Or(l, r) | Row::Until(_, l, r, _) => l < place && r < place,
-    }
-}
-
-// The row of these fields at a place, or its first fault.
-fn judge(p: u32, place: u32, operator: u32, left: u32, right: u32, zero: u32, bound: u32) -> Judged
-    ensures { λ r. ⌜ r ≡ answers.judged (m.judgeRow p place operator left right zero bound) ⌝ }
-{
-    if 9 < operator {
+    if !spare {
         return Judged::Refused(Refusal::Form);
     }
-    let row = row_of(operator, left, right, bound);
-    if !spare_zero(row, left, right, zero, bound) {
-        return Judged::Refused(Refusal::Form);
-    }
-    if !named(row, p, place) {
+    if !named {
         return Judged::Refused(Refusal::Name);
     }
     Judged::Fine(row)
 }
 
-// One row.
+// The row of these fields at a place, or its first fault; of the fields that should be zero, one that the row uses counts as zero.
+fn judge(p: u32, place: u32, operator: u32, left: u32, right: u32, zero: u32, bound: u32) -> Judged
+    ensures { λ r. ⌜ r ≡ answers.judged (m.judgeRow p place operator left right zero bound) ⌝ }
+{
+    let row = row_of(operator, left, right, bound);
+    match operator {
+        0 | 1 => first_fault(all_zero(left, right, zero, bound), true, row),
+        2 | 3 => first_fault(all_zero(0, right, zero, bound), left < p, row),
+        4 | 5 => first_fault(
+            all_zero(0, 0, zero, bound),
+            both_below(left, right, place),
+            row,
+        ),
+        6 | 7 => first_fault(all_zero(0, right, zero, 0), left < place, row),
+        8 | 9 => first_fault(all_zero(0, 0, zero, 0), both_below(left, right, place), row),
+        _ => Judged::Refused(Refusal::Form),
+    }
+}
+
+// One row: where its last field fits, so do those before it.
 fn one_row(s: &[u8], p: u32, st: State) -> Step
     requires { ⌜ (st .at ≤ length (now s)) × (st .tally ≤ 64) ⌝ }
     ensures { λ r. ⌜ r ≡ step (one (m.rows (now (s .entry)) p) st) ⌝ }
 {
     let at = st.at;
-    let Field::Number(operator) = wire::read(s, at, Width::One) else {
-        return Step::Refused(Refusal::Length);
-    };
-    let left_at = at + 1;
-    let Field::Number(left) = wire::read(s, left_at, Width::One) else {
-        return Step::Refused(Refusal::Length);
-    };
-    let right_at = at + 2;
-    let Field::Number(right) = wire::read(s, right_at, Width::One) else {
-        return Step::Refused(Refusal::Length);
-    };
-    let zero_at = at + 3;
-    let Field::Number(zero) = wire::read(s, zero_at, Width::One) else {
-        return Step::Refused(Refusal::Length);
-    };
     let bound_at = at + 4;
     let Field::Number(bound) = wire::read(s, bound_at, Width::Four) else {
         return Step::Refused(Refusal::Length);
     };
+    let operator = wire::number_at(s, at, Width::One);
+    let left_at = at + 1;
+    let left = wire::number_at(s, left_at, Width::One);
+    let right_at = at + 2;
+    let right = wire::number_at(s, right_at, Width::One);
+    let zero_at = at + 3;
+    let zero = wire::number_at(s, zero_at, Width::One);
     if let Judged::Refused(e) = judge(p, st.tally, operator, left, right, zero, bound) {
         return Step::Refused(e);
     }
@@ -229,28 +220,26 @@ pub fn row_at(s: &[u8], at: usize) -> Row
 }
 
 // One use more of a row.
-fn count_use(counts: [u32; 64], row: u32) -> [u32; 64]
-    requires { ⌜ (row < 64) × (getD counts row 0 < 256) ⌝ }
-    ensures { λ r. ⌜ ((i : ℕ) → getD r i 0 ≡ getD counts i 0 + rows.times i (row ∷ [])) ⌝ }
+fn count_use(counts: &mut [u32], row: u32)
+    requires { ⌜ (row < length (now counts)) × (getD (now counts) row 0 < 256) ⌝ }
+    ensures { λ _. ⌜ ((i : ℕ) → getD (now (counts .exit)) i 0 ≡ getD (now (counts .entry)) i 0 + rows.times i (row ∷ [])) ⌝ }
 {
-    let mut more = counts;
     let k = row as usize;
-    more[k] = more[k] + 1;
-    more
+    counts[k] += 1;
 }
 
 // The uses that a row makes of others.
-fn count_row(counts: [u32; 64], row: Row) -> [u32; 64]
-    requires { ⌜ ((l : ℕ) → l ∈ rows.operands row → l < 64) × ((i : ℕ) → getD counts i 0 < 255) ⌝ }
-    ensures { λ r. ⌜ ((i : ℕ) → getD r i 0 ≡ getD counts i 0 + rows.times i (rows.operands row)) ⌝ }
+fn count_row(counts: &mut [u32], row: Row)
+    requires { ⌜ ((l : ℕ) → l ∈ rows.operands row → l < length (now counts)) × ((i : ℕ) → getD (now counts) i 0 < 255) ⌝ }
+    ensures { λ _. ⌜ ((i : ℕ) → getD (now (counts .exit)) i 0 ≡ getD (now (counts .entry)) i 0 + rows.times i (rows.operands row)) ⌝ }
 {
     match row {
-        Row::True | Row::False | Row::Proposition(_) | Row::Negation(_) => counts,
+        Row::True | Row::False | Row::Proposition(_) | Row::Negation(_) => {}
         Row::Next(_, l, _) => count_use(counts, l),
-        Row::And(l, r) | Row::Or(l, r) | Row::Until(_, l, r, _) => count_use(
-            count_use(counts, l),
-            r,
-        ),
+        Row::And(l, r) | Row::Or(l, r) | Row::Until(_, l, r, _) => {
+            count_use(counts, l);
+            count_use(counts, r);
+        }
     }
 }
 
@@ -260,12 +249,12 @@ fn count_rows(s: &[u8], f: u32) -> [u32; 64]
     requires { ⌜ f ≤ 64 ⌝ }
     ensures { λ r. ⌜ ((i : ℕ) → getD r i 0 ≡ rows.uses i (items (rowLayout (now (s .entry))) f 7)) ⌝ }
 {
-    let mut counts = [0; 64];
+    let mut counts = [0u32; 64];
     let mut at = 7;
     let mut k = f;
     while 0 < k {
-        let more = count_row(counts, row_at(s, at));
-        counts = more;
+        let row = row_at(s, at);
+        count_row(&mut counts, row);
         at += 8;
         k -= 1;
     }

@@ -102,13 +102,11 @@ module _ (s : List ℕ) (n : ℕ) where
         target-named = rw (← same) (ltb-true _ _ (target-named .0));
       }
 
-  -- the state past a good record lies inside the message
-  pub targets-stay : (st next : State) → one (targets s n) st ≡ good next → next .at ≤ length s
-  targets-stay st next e =
-      let r = bind-good _ _ e in
-      let t = target-good st (r .value) (r .first) in
-      omega (arith, value-inside 2 s (st .at + 4) (t .node-there), ap (λ (u : State). u .at) (good-same (r .rest)))
+  -- the state past a good target is 6 bytes on
+  pub targets-move : (st next : State) → one (targets s n) st ≡ good next → next .at ≡ st .at + 6
+  targets-move st next e = ap (λ (u : State). u .at) (sym (good-same (bind-good _ _ e .rest)))
 
+  -- the state past a good hyperedge or cover edge lies inside the message
   pub hypers-stay : (st next : State) → one (hypers s n) st ≡ good next → (next .at ≤ length s) × (next .tally ≤ 262144)
   hypers-stay st next e =
       let r = bind-good _ _ e in

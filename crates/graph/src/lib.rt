@@ -31,19 +31,14 @@ impl Checked {
     }
 }
 
-// One target.
+// One target, whose bytes fit.
 fn target(s: &[u8], n: u32, st: State) -> Step
-    requires { ⌜ st .at ≤ length (now s) ⌝ }
+    requires { ⌜ st .at + 6 ≤ length (now s) ⌝ }
     ensures { λ r. ⌜ r ≡ step (one (m.targets (now (s .entry)) n) st) ⌝ }
 {
     let at = st.at;
-    let Field::Number(_) = wire::read(s, at, Width::Four) else {
-        return Step::Refused(Refusal::Length);
-    };
     let node_at = at + 4;
-    let Field::Number(node) = wire::read(s, node_at, Width::Two) else {
-        return Step::Refused(Refusal::Length);
-    };
+    let node = wire::number_at(s, node_at, Width::Two);
     if n <= node {
         return Step::Refused(Refusal::Name);
     }
@@ -73,19 +68,17 @@ fn targets(s: &[u8], n: u32, k: u32, first: State) -> Step
     Step::Next(st)
 }
 
-// One hyperedge.
+// One hyperedge: where its count fits, so does its source, which stands before it.
 fn hyper(s: &[u8], n: u32, st: State) -> Step
     requires { ⌜ (st .at ≤ length (now s)) × (st .tally ≤ 262144) ⌝ }
     ensures { λ r. ⌜ r ≡ step (one (m.hypers (now (s .entry)) n) st) ⌝ }
 {
     let at = st.at;
-    let Field::Number(source) = wire::read(s, at, Width::Two) else {
-        return Step::Refused(Refusal::Length);
-    };
     let count_at = at + 2;
     let Field::Number(count) = wire::read(s, count_at, Width::Two) else {
         return Step::Refused(Refusal::Length);
     };
+    let source = wire::number_at(s, at, Width::Two);
     if n <= source {
         return Step::Refused(Refusal::Name);
     }
@@ -148,24 +141,18 @@ fn hypers(s: &[u8], n: u32, k: u32, first: State) -> Step
     Step::Next(st)
 }
 
-// One cover edge.
+// One cover edge: where its target fits, so do its source and its bound, which stand before it.
 fn cover(s: &[u8], n: u32, st: State) -> Step
     requires { ⌜ st .at ≤ length (now s) ⌝ }
     ensures { λ r. ⌜ r ≡ step (one (m.covers (now (s .entry)) n) st) ⌝ }
 {
     let at = st.at;
     let prev = st.prev;
-    let Field::Number(source) = wire::read(s, at, Width::Two) else {
-        return Step::Refused(Refusal::Length);
-    };
-    let bound_at = at + 2;
-    let Field::Number(_) = wire::read(s, bound_at, Width::Four) else {
-        return Step::Refused(Refusal::Length);
-    };
     let target_at = at + 6;
     let Field::Number(target) = wire::read(s, target_at, Width::Two) else {
         return Step::Refused(Refusal::Length);
     };
+    let source = wire::number_at(s, at, Width::Two);
     if n <= source {
         return Step::Refused(Refusal::Name);
     }

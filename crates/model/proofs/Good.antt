@@ -1,16 +1,18 @@
 -- What a good reading says: each field is there, each demand is met. Assumes nothing.
 use Prim.Native.Nat.{ℕ, _+_, _*_, _^_, _<_, _≤_}
 use mathlib.Core.List.{List}
-use mathlib.Core.Path.{_≡_, ap, _∙_}
+use mathlib.Core.Path.{_≡_, refl, ap, _∙_}
 use lib.ListN.{length}
 use lib.Dec.{eqb}
 use borrow.Author.Tests.{ltb-true, leb-true, eqb-true}
 use native.Mathlib.Omega.{arith}
 use Rattle.lists.proofs.Tests.{by-test}
-use Rattle.wire.specs.declared.Field.the-variants.{Number}
+use Rattle.refusal.specs.declared.Refusal.the-variants.{Length}
+use Rattle.wire.specs.declared.Field.{Field}
+use Rattle.wire.specs.declared.Field.the-variants.{Number, Short}
 use Rattle.wire.specs.declared.State.{State}
 use Rattle.wire.specs.Field.{fieldAt}
-use Rattle.wire.specs.Read.{good}
+use Rattle.wire.specs.Read.{Read, good, bad, _>>=_, ofField}
 use Rattle.wire.specs.Reader.{one}
 use Rattle.wire.specs.Start.{readStart}
 use Rattle.wire.proofs.Fields.{value-inside}
@@ -23,7 +25,19 @@ unfolding afterFrom
 after-from-most {n} {first} {from} most named =
     by-test (eqb from first) (λ e. rw e (omega (arith, eqb-true))) (λ e. rw e most)
 
+-- three fields whose last is short: an earlier one that is short has the same fault
+last-short : {A : Type 0} (x y : Field) (f : (from weight to : ℕ) → Read A) → (ofField x >>= λ a. ofField y >>= λ b. ofField Short >>= f a b) ≡ bad Length
+unfolding _>>=_ ofField
+last-short (Number a) (Number b) f = refl
+last-short (Number a) Short f = refl
+last-short Short y f = refl
+
 module _ (s : List ℕ) where
+  -- a transition is as long as its `to` says
+  pub transition-short : (n : ℕ) (st : State) → fieldAt 2 s (st .at + 6) ≡ Short → readTransition s n st ≡ bad Length
+  unfolding readTransition
+  transition-short n st e = rw e (last-short _ _ _)
+
   -- what a good label says of the bytes
   pub record LabelAt (p : ℕ) (st : State) (l : ℕ) : Type 0 where
     pub label-there : fieldAt 4 s (st .at) ≡ Number l

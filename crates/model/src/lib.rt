@@ -84,23 +84,17 @@ fn labels(s: &[u8], p: u32, k: u32, first: State) -> Step
     Step::Next(st)
 }
 
-// One transition of a model with n states.
+// One transition of a model with n states: where its last field fits, so do those before it.
 fn transition(s: &[u8], n: u32, st: State) -> Step
     requires { ⌜ (st .at ≤ length (now s)) × (n ≤ 256) × (st .tally ≤ n) ⌝ }
     ensures { λ r. ⌜ r ≡ step (one (m.transitions (now (s .entry)) n) st) ⌝ }
 {
     let at = st.at;
-    let Field::Number(from) = wire::read(s, at, Width::Two) else {
-        return Step::Refused(Refusal::Length);
-    };
-    let weight_at = at + 2;
-    let Field::Number(_) = wire::read(s, weight_at, Width::Four) else {
-        return Step::Refused(Refusal::Length);
-    };
     let to_at = at + 6;
     let Field::Number(to) = wire::read(s, to_at, Width::Two) else {
         return Step::Refused(Refusal::Length);
     };
+    let from = wire::number_at(s, at, Width::Two);
     if n <= from {
         return Step::Refused(Refusal::Name);
     }

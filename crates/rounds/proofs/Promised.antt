@@ -20,14 +20,14 @@ use Rattle.rules.specs.Rounds.{Assignment, rounds}
 use Rattle.rules.specs.Count.{count}
 use Rattle.rules.proofs.Order.{largest-agree}
 use Rattle.rules.proofs.Size.{Light, value-bound, heaviest-light}
-use Rattle.rules.proofs.Count.{count-first, count-le, count-largest, first-unique}
+use Rattle.rules.proofs.Count.{count-first, count-le, count-largest}
 use Rattle.graph.specs.Write.{writeGraph}
 use Rattle.graph.specs.WellFormed.{WellFormed}
 use Rattle.rounds.specs.declared.Outcome.the-variants.{Settled, Spent, Refused}
 use Rattle.rounds.specs.Outcome.{ended, storedValues, filled, outcomeOn, roomOn, outcomeOf, roomOf}
 use Rattle.rounds.specs.Ready.{Storable}
 use Rattle.rounds.specs.Room.{held}
-use Rattle.rounds.specs.Promise.{Accepted, Promise}
+use Rattle.rounds.specs.Promise.{Accepted, Halves, Promise}
 
 -- the stored values one by one
 pub stored-length : (n : ℕ) (x : Assignment) → length (storedValues n x) ≡ n
@@ -80,6 +80,9 @@ module _ (g : Graph) (wf : WellFormed g) (m : ℕ) (b₀ : List ℕ) where
       rw (filled-parts, e) (getD-append-add front back v 0 ∙ stored-at n (rounds g (suc m)) (drop (n + n) b₀) v l) in
       rw behind (meaning-stored (rounds g (suc m) v) (λ k e. rounds-fit g wf (suc m) v k l e))
 
+  pub both-halves : Halves g m (filled g m b₀)
+  both-halves = record { first-half = first-half; second-half = second-half }
+
   -- no finite number in either half is above (n - 1) w
   both-small : (v : ℕ) → v < g .nodes + g .nodes → finite (held (filled g m b₀) v) ≡ true
       → held (filled g m b₀) v ≼ ((g .nodes - 1) * heaviest (g .hypers))
@@ -116,6 +119,7 @@ module _ (s : List ℕ) (budget : ℕ) (b₀ : List ℕ) where
           (record {
             graph = g;
             accepted = accepted-filled s g (count g) b₀ e wf;
+            halves = both-halves g wf (count g) b₀;
             first = count-first g (wf .closed);
             within = within;
             soon = count-le g;
@@ -128,8 +132,9 @@ module _ (s : List ℕ) (budget : ℕ) (b₀ : List ℕ) where
           (record {
             graph = g;
             accepted = accepted-filled s g budget b₀ e wf;
+            halves = both-halves g wf budget b₀;
             spent = refl;
-            later = λ i f. omega (arith, first-unique g (count g) i (count-first g (wf .closed)) f);
+            later = later;
           })
 
   kept-on : (g : Graph) → s ≡ writeGraph g → WellFormed g → Promise s budget b₀ (roomOn g budget b₀) (outcomeOn g budget b₀)

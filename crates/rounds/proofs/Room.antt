@@ -71,11 +71,3 @@ copied-more {n} {i} {b₀} {b} c room h = record {
     at : (v : ℕ) → v < i + 1 → Dec (v ≡ i) → getD (set b i (getD b (n + i) 0)) v 0 ≡ getD b₀ (n + v) 0
     at v hv (yes e) = rw e (getD-set-same b i _ 0 (omega (arith, c .same-length)) ∙ from)
     at v hv (no e) = getD-set-other b i v _ 0 e ∙ c .copied v (omega arith)
-
--- numbers that fit still do where one that fits is stored
-pub set-fits : {m : ℕ} (b : List ℕ) (j k : ℕ) → j < length b → k ≤ m → ((v : ℕ) → getD b v 0 ≤ m) → (v : ℕ) → getD (set b j k) v 0 ≤ m
-set-fits {m} b j k inside h fits v = go (ℕ-discrete v j)
-  where
-    go : Dec (v ≡ j) → getD (set b j k) v 0 ≤ m
-    go (yes e) = rw (e, getD-set-same b j k 0 inside) h
-    go (no e) = rw (getD-set-other b j v k 0 e) (fits v)

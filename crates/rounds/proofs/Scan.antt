@@ -3,7 +3,7 @@ use Prim.Native.Nat.{ℕ, _+_, _*_, _-_, _<_, _≤_, min, max}
 use mathlib.Core.List.{List, _∷_}
 use mathlib.Core.Bool.{Bool, true, false, cond, _||_, _&&_}
 use mathlib.Core.Path.{_≡_, refl, sym, ap, subst}
-use lib.ListN.{length, getD, set}
+use lib.ListN.{length, getD, set, take}
 use lib.Dec.{eqb}
 use borrow.Author.Tests.{eq-eqb, ne-eqb}
 use native.Mathlib.Omega.{arith}
@@ -18,7 +18,7 @@ use Rattle.rules.specs.Graph.{Target, Hyper, Cover}
 use Rattle.rules.specs.Rounds.{Assignment, holds, worst, best, covered}
 use Rattle.value.specs.Coded.{boundOf}
 use Rattle.graph.specs.Layouts.{targetLayout, hyperLayout, coverLayout, HyperOk, CoverOk}
-use Rattle.rounds.specs.Room.{Going, Done}
+use Rattle.rounds.specs.Room.{held, hyperIn, Going, Done}
 use Rattle.rounds.proofs.Room.{going-on, going-set}
 
 -- the greatest so far, and that of the targets left, make the whole
@@ -80,12 +80,12 @@ module _ (x : Assignment) where
 -- a turn takes the next hyperedge in; at the end nothing is left to do
 module _ (s : List ℕ) (n : ℕ) (x : Assignment) (i p : ℕ) {b₀ b : List ℕ} {all : ℕ → ℕ}
     (g : Going n b₀ b (leftHypers x (items (hyperLayout s n) i p)) all) where
-  pub hypers-turn : (k : ℕ) → n + n ≤ length b₀ → 0 < i → HyperOk s n p
-      → k ≡ min (getD b (n + number 2 s p) 0) (stored (worst x (items (targetLayout s n) (number 2 s (p + 2)) (p + 4))))
-      → Going n b₀ (set b (n + number 2 s p) k) (leftHypers x (items (hyperLayout s n) (i - 1) (p + 4 + number 2 s (p + 2) * 6))) all
-  hypers-turn k room h ok e =
+  pub hypers-turn : n + n ≤ length b₀ → 0 < i → HyperOk s n p → held (take n b) ≡ x
+      → Going n b₀ (hyperIn s n p b) (leftHypers x (items (hyperLayout s n) (i - 1) (p + 4 + number 2 s (p + 2) * 6))) all
+  hypers-turn room h ok this =
       let g′ = subst (λ (l : List Hyper). Going n b₀ b (leftHypers x l) all) (items-more (hyperLayout s n) i p h) g in
-      going-set g′ room _ k (ok .named) (best-here x _ _ _ _ _ refl e) (λ v a ne. best-there x _ _ v a (λ q. ne (sym q)))
+      let new = ap (λ (y : Assignment). min (getD b (n + number 2 s p) 0) (stored (worst y (items (targetLayout s n) (number 2 s (p + 2)) (p + 4))))) this in
+      going-set g′ room _ _ (ok .named) (best-here x _ _ _ _ _ refl new) (λ v a ne. best-there x _ _ v a (λ q. ne (sym q)))
 
   pub hypers-end : i ≡ 0 → ((v : ℕ) → getD b v 0 ≤ infinite) → Done n b₀ b all
   unfolding items best stored

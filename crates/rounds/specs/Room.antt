@@ -1,14 +1,23 @@
 -- The room while the rounds go on: n numbers of a round, n of the next, and what stays.
-use Prim.Native.Nat.{ℕ, _+_, _<_}
+use Prim.Native.Nat.{ℕ, _+_, _<_, min}
 use mathlib.Core.List.{List}
 use mathlib.Core.Path.{_≡_}
-use lib.ListN.{length, getD, take, drop}
-use Rattle.value.specs.Stored.{meaning}
-use Rattle.rules.specs.Rounds.{Assignment}
+use lib.ListN.{length, getD, set, take, drop}
+use Rattle.value.specs.Stored.{meaning, stored}
+use Rattle.wire.specs.Bytes.{number}
+use Rattle.wire.specs.Layout.{items}
+use Rattle.rules.specs.Rounds.{Assignment, worst}
+use Rattle.graph.specs.Layouts.{targetLayout}
 
 -- the assignment that stored numbers mean
 abbrev pub held : List ℕ → Assignment
 held b v = meaning (getD b v 0)
+
+-- the room with the hyperedge at a position taken into the n numbers of the next round
+abbrev pub hyperIn : List ℕ → (n at : ℕ) → List ℕ → List ℕ
+hyperIn s n at b =
+    let j = n + number 2 s at in
+    set b j (min (getD b j 0) (stored (worst (held (take n b)) (items (targetLayout s n) (number 2 s (at + 2)) (at + 4)))))
 
 -- b is b₀ but for the n numbers from n on; what is left to do to each of those makes it what it is to be
 pub record Going (n : ℕ) (b₀ b : List ℕ) (left : ℕ → ℕ → ℕ) (all : ℕ → ℕ) : Type 0 where

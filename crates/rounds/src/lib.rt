@@ -3,12 +3,13 @@ ghost use mathlib.Core.Path.{_≡_};
 ghost use mathlib.Core.Bool.{true, false, cond};
 ghost use Prim.Native.Nat.{_+_, _≤_, min};
 ghost use lib.ListN.{length, take, getD};
+ghost use Rattle.wire.specs.Bytes.{number};
 ghost use Rattle.wire.specs.Layout.{items, end, Sound};
 ghost use Rattle.value.specs.Stored.{stored, infinite};
 ghost use Rattle.rules.specs.Rounds as rules;
 ghost use Rattle.graph.specs.Message.{readGraph};
-ghost use Rattle.graph.specs.Layouts.{targetLayout, hyperLayout, coverLayout, decoded, Scannable};
-ghost use Rattle.rounds.specs.Room.{held, Done, Same, Copied};
+ghost use Rattle.graph.specs.Layouts.{targetLayout, hyperLayout, coverLayout, decoded, HyperOk, Scannable};
+ghost use Rattle.rounds.specs.Room.{held, hyperIn, Done, Same, Copied};
 ghost use Rattle.rounds.specs.Ready.{Ready};
 ghost use Rattle.rounds.specs.Outcome.{outcomeNumber, outcomeCount, ended, filled, outcomeOf, roomOf};
 ghost use Rattle.rounds.specs.Promise.{Promise};
@@ -70,7 +71,24 @@ fn worst(s: &[u8], n: usize, x: &[u64], k: u32, at: usize) -> Value
     most
 }
 
+// Takes a hyperedge of k targets at a position into the n values of the next round.
+fn take_hyper(s: &[u8], n: usize, k: u32, at: usize, room: &mut [u64])
+    requires { ⌜ HyperOk (now s) n at ⌝ }
+    requires { ⌜ k ≡ number 2 (now s) (at + 2) ⌝ }
+    requires { ⌜ n + n ≤ length (now room) ⌝ }
+    ensures { λ _. ⌜ now (room .exit) ≡ hyperIn (now (s .entry)) n at (now (room .entry)) ⌝ }
+{
+    let source = wire::number_at(s, at, Width::Two) as usize;
+    let value = worst(s, n, &room[..n], k, at + 4);
+    let j = n + source;
+    let before = room[j];
+    let least = Value(before).least(value);
+    room[j] = least.0;
+}
+
 // Takes k hyperedges at a position into the n values of the next round, and gives the position past them.
+// Where counts repeat, the next position need not wait for the count: the stride stands ready (the call is in both arms, or a
+// compiler would choose between the strides by the count).
 fn take_hypers(s: &[u8], n: usize, k: u32, at: usize, room: &mut [u64]) -> usize
     requires { ⌜ Sound (hyperLayout (now s) n) k at ⌝ }
     requires { ⌜ n + n ≤ length (now room) ⌝ }
@@ -81,16 +99,20 @@ fn take_hypers(s: &[u8], n: usize, k: u32, at: usize, room: &mut [u64]) -> usize
 {
     let mut i = k;
     let mut p = at;
+    let mut last: u32 = 0;
+    let mut stride: usize = 4;
     while 0 < i {
-        let source = wire::number_at(s, p, Width::Two) as usize;
         let count = wire::number_at(s, p + 2, Width::Two);
-        let value = worst(s, n, &room[..n], count, p + 4);
-        let j = n + source;
-        let before = room[j];
-        let least = Value(before).least(value);
-        room[j] = least.0;
-        p = p + 4 + (count as usize) * 6;
         i -= 1;
+        if count == last {
+            take_hyper(s, n, last, p, room);
+            p += stride;
+        } else {
+            take_hyper(s, n, count, p, room);
+            last = count;
+            stride = 4 + (count as usize) * 6;
+            p += stride;
+        }
     }
     p
 }

@@ -1,10 +1,10 @@
 -- A stored number and the value that it means: each operation on values is one on stored numbers. Assumes nothing.
 use mathlib.Core.Path.{_≡_, refl}
-use Prim.Native.Nat.{ℕ, _+_, _≤_, _<_, min, max}
+use Prim.Native.Nat.{ℕ, _+_, _-_, _≤_, _<_, min, max}
 use native.Mathlib.Decide.{ℕ-discrete}
 use native.Mathlib.Omega.{arith}
-use lib.Dec.{leb, ltb}
-use borrow.Author.Tests.{eq-eqb, ne-eqb, lt-leb, lt-ltb, le-ltb}
+use lib.Dec.{leb}
+use borrow.Author.Tests.{eq-eqb, ne-eqb, lt-leb, le-leb}
 use Rattle.value.specs.Value.{Value, fin, inf, plus, greatest, least, atMost, finite}
 use Rattle.value.specs.Stored.{infinite, meaning, stored}
 
@@ -70,8 +70,8 @@ pub least-min : (a b : ℕ) → a ≤ infinite → b ≤ infinite → stored (le
 least-min a b h k = rw (stored-least, stored-meaning a h, stored-meaning b k)
 
 -- a bound, on a stored number
-pub within-number : (k b : ℕ) → b < infinite → atMost (meaning k) b ≡ leb k b
+pub within-number : (k b : ℕ) → b < infinite → leb k b ≡ atMost (meaning k) b
 within-number k b h = by-meaning k (λ p e. rw (e, lt-leb k b (omega arith))) (λ p e. rw e)
 
-pub within-finite : (k : ℕ) → k ≤ infinite → finite (meaning k) ≡ ltb k infinite
-within-finite k h = by-meaning k (λ p e. rw (e, le-ltb k infinite (omega arith))) (λ p e. rw (e, lt-ltb k infinite (omega arith)))
+pub within-finite : (k : ℕ) → k ≤ infinite → leb k (infinite - 1) ≡ finite (meaning k)
+within-finite k h = by-meaning k (λ p e. rw (e, lt-leb k (infinite - 1) (omega arith))) (λ p e. rw (e, le-leb k (infinite - 1) (omega arith)))

@@ -1,8 +1,10 @@
 // The value of a node, and the bound of a cover edge.
 ghost use mathlib.Core.Path.{_≡_};
+ghost use Prim.Native.Nat.{ℕ, _≤_};
+ghost use lib.Dec.{leb};
 ghost use Rattle.value.specs.Value.{plus, greatest, least, meets};
 ghost use Rattle.value.specs.Coded.{boundOf, codeOf};
-ghost use Rattle.value.specs.Stored.{meaning, stored};
+ghost use Rattle.value.specs.Stored.{infinite, meaning, stored};
 
 // How large a value may be: at most a number, or anything finite.
 pub enum Bound {
@@ -28,6 +30,16 @@ impl Bound {
         match self {
             Bound::Within(k) => k,
             Bound::Unbounded => 4294967295,
+        }
+    }
+
+    // The greatest stored number that is within the bound: one comparison tells whether a value is.
+    fn limit(self) -> u64
+        ensures { λ r. ⌜ ((k : ℕ) → k ≤ infinite → leb k r ≡ meets self (meaning k)) ⌝ }
+    {
+        match self {
+            Bound::Within(k) => k as u64,
+            Bound::Unbounded => Value::INFINITE.0 - 1,
         }
     }
 }
@@ -65,9 +77,6 @@ impl Value {
     pub fn within(self, bound: Bound) -> bool
         ensures { λ r. ⌜ r ≡ meets bound (meaning (self .0)) ⌝ }
     {
-        match bound {
-            Bound::Within(k) => self.0 <= k as u64,
-            Bound::Unbounded => self.0 < Value::INFINITE.0,
-        }
+        self.0 <= bound.limit()
     }
 }

@@ -7,6 +7,7 @@
 --     Promised   what the customer is promised follows from the definitions
 --     Building   the graph alone: what is answered, what is left in the room, and what is promised of it
 --     Answering  what is shown of a call, exit by exit
+--     Budget     no reading gives BUDGET, so its number is answered exactly where the count is greater than the budget
 --     Laws       there is one answer, a budget that always settles, budgets that settle agree, and one question that the messages write
 pub mod Reading
 pub mod Fitting
@@ -16,4 +17,5 @@ pub mod Finished
 pub mod Promised
 pub mod Building
 pub mod Answering
+pub mod Budget
 pub mod Laws

@@ -5,20 +5,17 @@ use mathlib.Core.Path.{_≡_, refl, ap, _∙_}
 use lib.ListN.{length}
 use borrow.Author.Tests.{ltb-true}
 use native.Mathlib.Omega.{arith}
-use Rattle.value.proofs.Stored.{meaning-stored}
 use Rattle.wire.specs.Bytes.{Bytes}
 use Rattle.wire.specs.Read.{Read, good, bad}
 use Rattle.wire.proofs.Reading.{bind-good, demand-good, good-same}
 use Rattle.rules.specs.Graph.{Graph}
-use Rattle.rules.specs.Rounds.{rounds, Agree}
 use Rattle.rules.specs.Count.{count}
 use Rattle.rules.proofs.Order.{largest-agree}
-use Rattle.rules.proofs.Count.{count-first, count-le, count-largest, first-unique}
+use Rattle.rules.proofs.Count.{count-first, count-le, count-largest}
 use Rattle.graph.specs.WellFormed.{WellFormed}
 use Rattle.graph.specs.Write.{writeGraph}
 use Rattle.rounds.specs.Outcome.{filled}
-use Rattle.rounds.specs.Room.{held}
-use Rattle.rounds.proofs.Promised.{filled-at, rounds-fit, accepted-filled}
+use Rattle.rounds.proofs.Promised.{both-halves, accepted-filled}
 use Rattle.model.proofs.Exact as model
 use Rattle.formula.proofs.Exact as formula
 use Rattle.verdict.specs.declared.Settled.{Settled}
@@ -39,10 +36,6 @@ asks m f q mb fb e =
     let rows = formula.accepted-written (q .model .propositions) f (q .rows) fb (parts .1) in
     record { model-written = model .0; model-fits = model .1; formula-written = rows .0; formula-fits = rows .1 }
 
--- the first half of a filled room means the round that it holds
-first-half : (g : Graph) (wf : WellFormed g) (m : ℕ) (b : List ℕ) → Agree g (held (filled g m b)) (rounds g m)
-first-half g wf m b v l = rw (filled-at g m b v l) (meaning-stored (rounds g m v) (λ k e. rounds-fit g wf m v k l e))
-
 -- a question that stands
 module _ (m f : List ℕ) (budget : ℕ) (b v : List ℕ) (q : Question) (asked : Asks m f q) where
   abbrev g : Graph
@@ -56,6 +49,7 @@ module _ (m f : List ℕ) (budget : ℕ) (b v : List ℕ) (q : Question) (asked 
   leaves {k} {n} ran = record {
     graph = stands q (asked .model-fits) (asked .formula-fits) (ran .fitting) b (ran .long-is) (ran .bytes-are);
     values = ran .values-are;
+    halves = rw (ran .values-are) (both-halves g (well ran) k v);
     small = rw (ran .values-are) (accepted-filled (writeGraph g) g k v refl (well ran) .small);
   }
 
@@ -66,7 +60,7 @@ module _ (m f : List ℕ) (budget : ℕ) (b v : List ℕ) (q : Question) (asked 
         first = rw (done .count-is) (count-first g (wf .closed));
         within = done .within;
         soon = rw (done .count-is) (count-le g);
-        largest = rw (done .ran .values-are, done .count-is) (largest-agree g (wf .closed) (count-largest g (wf .closed)) (first-half g wf (count g) v));
+        largest = rw (done .ran .values-are, done .count-is) (largest-agree g (wf .closed) (count-largest g (wf .closed)) (both-halves g wf (count g) v .first-half));
       }
 
   spends : {k n : ℕ} → Stopped q budget b v k n → Spends m f budget b v (bytesFor q b v) (valuesFor q budget b v) k n
@@ -74,7 +68,7 @@ module _ (m f : List ℕ) (budget : ℕ) (b v : List ℕ) (q : Question) (asked 
     question = q;
     asked = asked;
     spent = stop .spent;
-    later = λ i f. omega (arith, stop .later, first-unique g (count g) i (count-first g (well (stop .ran) .closed)) f);
+    later = stop .later;
     leaves = leaves (rw (stop .spent) at (stop .ran));
   }
 

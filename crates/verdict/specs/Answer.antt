@@ -60,15 +60,6 @@ settledLength (Settled.Done m n first states) = n
 settledLength (Settled.Spent m n) = n
 settledLength (Settled.Refused e) = 0
 
--- and of a graph alone
-abbrev pub builtNumber : Built → ℕ
-builtNumber (Built.Graph n) = ok
-builtNumber (Built.Refused e) = numberOf e
-
-abbrev pub builtLength : Built → ℕ
-builtLength (Built.Graph n) = n
-builtLength (Built.Refused e) = 0
-
 -- a question that stands: SIZE, then the two rooms, and only then BUDGET
 unfoldable pub settledFor : Question → (budget : ℕ) → (bytes values : List ℕ) → Settled
 settledFor q budget b v =

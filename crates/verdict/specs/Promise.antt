@@ -9,11 +9,12 @@ use Rattle.value.specs.Value.{finite, _≼_}
 use Rattle.wire.specs.Read.{good}
 use Rattle.rules.specs.Graph.{heaviest}
 use Rattle.rules.specs.Rounds.{Largest}
-use Rattle.rules.specs.Count.{enough, First}
+use Rattle.rules.specs.Count.{count, enough, First}
 use Rattle.graph.specs.Message.{readGraph}
 use Rattle.graph.specs.Write.{writeGraph}
 use Rattle.rounds.specs.Outcome.{filled}
 use Rattle.rounds.specs.Room.{held}
+use Rattle.rounds.specs.Promise.{Halves}
 use Rattle.model.specs.Write.{writeModel}
 use Rattle.model.specs.WellFormed as model
 use Rattle.formula.specs.Formula.{rootOf}
@@ -56,6 +57,7 @@ pub record Leaves (q : Question) (m : ℕ) (b v b′ v′ : List ℕ) (n : ℕ) 
   pub graph : Stands q b b′ n
   -- the values are round m and round m + 1, the rest as it came
   pub values : v′ ≡ filled (graphFor q) m v
+  pub halves : Halves (graphFor q) m v′
   -- no finite value of the two is above the heaviest weight times one less than the nodes
   pub small : (x : ℕ) → x < graphFor q .nodes + graphFor q .nodes → finite (held v′ x) ≡ true
       → held v′ x ≼ ((graphFor q .nodes - 1) * heaviest (graphFor q .hypers))
@@ -113,8 +115,8 @@ pub record Spends (m f : List ℕ) (budget : ℕ) (b v b′ v′ : List ℕ) (k 
   pub asked : Asks m f question
   -- the budget is the reported count
   pub spent : k ≡ budget
-  -- the count of the graph is above it
-  pub later : (i : ℕ) → First (graphFor question) i → budget < i
+  -- the count of the graph, its first unchanged round (`count-first`), is above it
+  pub later : budget < count (graphFor question)
   -- the graph and the last two rounds stand in the rooms
   pub leaves : Leaves question budget b v b′ v′ n
 

@@ -70,23 +70,23 @@ fn cover(random: &mut Random, nodes: usize) -> Cover {
 /// untils hold on them.
 pub fn model(random: &mut Random, most: usize) -> Model {
     let states = random.between(1, most);
+    model_of(random, states, |random, _| random.pick(&[1, 1, 1, 2, 2, 3]))
+}
+
+/// A model of so many states; `degree` says how many transitions leave each.
+fn model_of(
+    random: &mut Random,
+    states: usize,
+    degree: impl Fn(&mut Random, usize) -> usize,
+) -> Model {
     let propositions = random.pick(&[0, 1, 2, 2, 2, 3, 3, 4, 32]);
     let forward = random.once_in(2);
     let mask = ((1u64 << propositions) - 1) as u32;
     let labels = (0..states).map(|_| random.next() as u32 & mask).collect();
     let mut transitions = vec![];
     for from in 0..states {
-        for _ in 0..random.pick(&[1, 1, 1, 2, 2, 3]) {
-            let to = if forward {
-                random.between((from + 1).min(states - 1), states - 1)
-            } else {
-                random.below(states)
-            };
-            transitions.push(Transition {
-                from,
-                weight: weight(random),
-                to,
-            });
+        for _ in 0..degree(random, from) {
+            transitions.push(transition(random, states, from, forward));
         }
     }
     Model {
@@ -94,6 +94,28 @@ pub fn model(random: &mut Random, most: usize) -> Model {
         labels,
         transitions,
     }
+}
+
+fn transition(random: &mut Random, states: usize, from: usize, forward: bool) -> Transition {
+    let to = if forward {
+        random.between((from + 1).min(states - 1), states - 1)
+    } else {
+        random.below(states)
+    };
+    Transition {
+        from,
+        weight: weight(random),
+        to,
+    }
+}
+
+/// A model of exactly so many states and transitions; there are no fewer transitions than states.
+pub fn crowd(random: &mut Random, states: usize, transitions: usize) -> Model {
+    let mut degrees = vec![1; states];
+    for _ in states..transitions {
+        degrees[random.below(states)] += 1;
+    }
+    model_of(random, states, |_, from| degrees[from])
 }
 
 /// A formula of exactly so many rows over so many propositions. Its rows stand in some order in

@@ -5,10 +5,12 @@ pub mod ends;
 mod formulas;
 pub mod generate;
 mod graphs;
+pub mod inputs;
 mod models;
 mod sweep;
 mod verdicts;
 mod wild;
+mod wild_inputs;
 
 use crate::answer::{answer_batch, Call};
 use crate::random::Random;

@@ -377,7 +377,7 @@ fn asked_in_full_rooms(model: &Model, rows: &Formula) -> Call {
 
 /// One state with so many transitions to itself, of weights 0, 1, 2 and so on: bound k lets k + 1 of
 /// them pass.
-fn loops(transitions: usize) -> Model {
+pub fn loops(transitions: usize) -> Model {
     let steps: Vec<(usize, u32, usize)> = (0..transitions)
         .map(|weight| (0, weight as u32, 0))
         .collect();
@@ -385,7 +385,7 @@ fn loops(transitions: usize) -> Model {
 }
 
 /// A tower of EX or AX rows whose bounds let so many transitions pass.
-fn passing(runs: Runs, counts: &[usize]) -> Formula {
+pub fn passing(runs: Runs, counts: &[usize]) -> Formula {
     let mut rows = vec![Row::True];
     for count in counts {
         rows.push(Row::Next(runs, Some(*count as u32 - 1), rows.len() - 1));
@@ -466,7 +466,7 @@ fn sizes() -> Vec<Call> {
 }
 
 /// So many nested untils with so many unary rows on top.
-fn with_unary(untils: usize, unary: usize) -> Formula {
+pub fn with_unary(untils: usize, unary: usize) -> Formula {
     let mut rows = nested(Runs::Some, None, untils, true);
     for _ in 0..unary {
         rows.push(Row::Next(Runs::All, None, rows.len() - 1));

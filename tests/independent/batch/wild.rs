@@ -195,7 +195,8 @@ fn rounds_call(random: &mut Random) -> Call {
     Call::rounds(budget(random, count), room, &message)
 }
 
-fn verdict_call(random: &mut Random) -> Call {
+/// A model and a formula over its propositions, each damaged now and then.
+pub fn two_messages(random: &mut Random) -> (Vec<u8>, Vec<u8>) {
     let parts = if large(random) {
         random.between(1, 3)
     } else {
@@ -204,10 +205,14 @@ fn verdict_call(random: &mut Random) -> Call {
     let model = model(random, parts & 1 != 0);
     let p = model.value(model.fields[4]);
     let formula = formula(random, p, parts & 2 != 0);
-    let (model, formula) = (
+    (
         maybe_damaged(random, &model, 9),
         maybe_damaged(random, &formula, 9),
-    );
+    )
+}
+
+fn verdict_call(random: &mut Random) -> Call {
+    let (model, formula) = two_messages(random);
     let (length, values, count) = verdicts::needs(&model, &formula).map_or((90, 20, 3), |needs| {
         (needs.length, needs.values, needs.count)
     });

@@ -1,67 +1,110 @@
--- `formula::judge` meets its contract: each `return` is the judgement under the tests that led there.
-use mathlib.Core.Path.{sym}
+-- `formula::judge` meets its contract: each arm is the judgement of its operators.
+use mathlib.Core.Path.{sym, ap, _∙_}
 use borrow.Author.Needs.{needs}
-use borrow.Author.Tests.{lt-leb, le-leb, not-true, not-false}
-use Rattle.lists.proofs.Tests.{by}
-use Rattle.wire.proofs.Reading.{reading}
-use Rattle.formula.specs.Message.{judgeRow}
 use Rattle.formula.specs.Answers.{judged}
+use Rattle.formula.proofs.Judging.{judge-constant, judge-proposition, judge-both, judge-next, judge-until, judge-unknown}
 use Rattle.formula.proofs.judge.Statement.{statement}
 use Rattle.formula.proofs.judge.Tie as tie
-
-returns : tie.Need-returns
-unfolding judgeRow judged
-returns c = simp (reading, lt-leb _ _ (c .if1 .taken))
 
 row-of-requires : tie.Need-row-of-requires
 row-of-requires c κs = search needs
 
-spare-zero-requires : tie.Need-spare-zero-requires
-spare-zero-requires c κs = search needs
+all-zero-requires : tie.Need-all-zero-requires
+all-zero-requires c κs = search needs
+
+first-fault-requires : tie.Need-first-fault-requires
+first-fault-requires c κs = search needs
+
+all-zero-requires-2 : tie.Need-all-zero-requires-2
+all-zero-requires-2 c κs = search needs
+
+first-fault-requires-2 : tie.Need-first-fault-requires-2
+first-fault-requires-2 c κs = search needs
+
+all-zero-requires-3 : tie.Need-all-zero-requires-3
+all-zero-requires-3 c κs = search needs
+
+both-below-requires : tie.Need-both-below-requires
+both-below-requires c κs = search needs
+
+first-fault-requires-3 : tie.Need-first-fault-requires-3
+first-fault-requires-3 c κs = search needs
+
+all-zero-requires-4 : tie.Need-all-zero-requires-4
+all-zero-requires-4 c κs = search needs
+
+first-fault-requires-4 : tie.Need-first-fault-requires-4
+first-fault-requires-4 c κs = search needs
+
+all-zero-requires-5 : tie.Need-all-zero-requires-5
+all-zero-requires-5 c κs = search needs
+
+both-below-requires-2 : tie.Need-both-below-requires-2
+both-below-requires-2 c κs = search needs
+
+first-fault-requires-5 : tie.Need-first-fault-requires-5
+first-fault-requires-5 c κs = search needs
+
+returns : tie.Need-returns
+returns c =
+    let z = c .before in
+    let t = z .before in
+    c .first-fault .ensures ∙ rw (z .all-zero .ensures, t .before .row-of .ensures) (ap judged (sym (judge-constant _ _ _ _ _ _ _ (t .if1 .taken))))
 
 returns-2 : tie.Need-returns-2
-unfolding judgeRow judged
 returns-2 c =
-    let s = c .before in
-    simp (reading, le-leb _ _ (s .before .before .if1 .left), sym (s .before .row-of .ensures), by (s .spare-zero .ensures) (not-true _ (c .if2 .taken)))
-
-named-requires : tie.Need-named-requires
-named-requires c κs = search needs
+    let z = c .before in
+    let t = z .before in
+    let e = t .before in
+    c .first-fault2 .ensures ∙ rw (z .all-zero2 .ensures, e .before .row-of .ensures) (ap judged (sym (judge-proposition _ _ _ _ _ _ _ (e .if1 .left) (t .if2 .taken))))
 
 returns-3 : tie.Need-returns-3
-unfolding judgeRow judged
 returns-3 c =
     let n = c .before in
-    let s = n .before .before in
-    simp (
-      reading,
-      le-leb _ _ (s .before .before .if1 .left),
-      sym (s .before .row-of .ensures),
-      by (s .spare-zero .ensures) (not-false _ (n .before .if2 .left)),
-      by (n .named .ensures) (not-true _ (c .if3 .taken)),
-    )
+    let z = n .before in
+    let t = z .before in
+    let e = t .before in
+    c .first-fault3 .ensures ∙ rw (z .all-zero3 .ensures, n .both-below .ensures, e .before .before .row-of .ensures) (ap judged (sym (judge-both _ _ _ _ _ _ _ (e .if2 .left) (t .if3 .taken))))
 
 returns-4 : tie.Need-returns-4
-unfolding judgeRow judged
 returns-4 c =
+    let z = c .before in
+    let t = z .before in
+    let e = t .before in
+    c .first-fault4 .ensures ∙ rw (z .all-zero4 .ensures, e .before .before .before .row-of .ensures) (ap judged (sym (judge-next _ _ _ _ _ _ _ (e .if3 .left) (t .if4 .taken))))
+
+returns-5 : tie.Need-returns-5
+returns-5 c =
     let n = c .before in
-    let s = n .before .before in
-    simp (
-      reading,
-      le-leb _ _ (s .before .before .if1 .left),
-      sym (s .before .row-of .ensures),
-      by (s .spare-zero .ensures) (not-false _ (n .before .if2 .left)),
-      by (n .named .ensures) (not-false _ (c .if3 .left)),
-    )
+    let z = n .before in
+    let t = z .before in
+    let e = t .before in
+    c .first-fault5 .ensures ∙ rw (z .all-zero5 .ensures, n .both-below2 .ensures, e .before .before .before .before .row-of .ensures) (ap judged (sym (judge-until _ _ _ _ _ _ _ (e .if4 .left) (t .if5 .taken))))
+
+returns-6 : tie.Need-returns-6
+unfolding judged
+returns-6 c = ap judged (sym (judge-unknown _ _ _ _ _ _ _ (c .if5 .left)))
 
 pub judge-spec : {M : Type 1} → statement M
 judge-spec =
     tie.close
     (tie.spec
-    returns
     row-of-requires
-    spare-zero-requires
+    all-zero-requires
+    first-fault-requires
+    all-zero-requires-2
+    first-fault-requires-2
+    all-zero-requires-3
+    both-below-requires
+    first-fault-requires-3
+    all-zero-requires-4
+    first-fault-requires-4
+    all-zero-requires-5
+    both-below-requires-2
+    first-fault-requires-5
+    returns
     returns-2
-    named-requires
     returns-3
-    returns-4)
+    returns-4
+    returns-5
+    returns-6)

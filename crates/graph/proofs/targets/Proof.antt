@@ -1,5 +1,5 @@
--- `graph::targets` meets its contract: the run of the i targets that are left is the whole run.
-use Prim.Native.Nat.{_≤_}
+-- `graph::targets` meets its contract: the i targets that are left fit, and their run is the whole run.
+use Prim.Native.Nat.{_+_, _*_, _≤_}
 use mathlib.Core.Path.{_≡_, refl}
 use lib.ListN.{length}
 use borrow.Author.Needs.{needs}
@@ -9,12 +9,12 @@ use Rattle.wire.specs.Reader.{run}
 use Rattle.graph.specs.Message as m
 use Rattle.wire.specs.Step.{step}
 use Rattle.wire.proofs.Turns.{step-next, turn-next, turn-refused, turn-none}
-use Rattle.graph.proofs.Good.{targets-stay}
+use Rattle.graph.proofs.Good.{targets-move}
 use Rattle.graph.proofs.targets.Statement.{statement}
 use Rattle.graph.proofs.targets.Tie as tie
 
 abbrev Inv-loop : tie.InvT-loop
-Inv-loop s n k st₀ i₀ st i = (st .at ≤ length s) × (step (run (m.targets s n) i st) ≡ step (run (m.targets s n) k st₀))
+Inv-loop s n k st₀ i₀ st i = (st .at + i * 6 ≤ length s) × (step (run (m.targets s n) i st) ≡ step (run (m.targets s n) k st₀))
 
 abbrev μ-loop : tie.MeasureT-loop
 μ-loop s n k st₀ i₀ st i = i
@@ -44,7 +44,7 @@ loop-again : tie.Need-loop-again Inv-loop μ-loop
 loop-again c =
     let t = c .before .before .before in
     let is = c .before .read .given .1 in (
-      targets-stay _ _ _ _ (step-next _ (by (t .target .ensures) is)),
+      omega (arith, targets-move _ _ _ _ (step-next _ (by (t .target .ensures) is))),
       turn-next _ _ _ _ (t .before .before .loop .inv .1) (omega arith) (t .target .ensures) is,
     )
 

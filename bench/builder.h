@@ -1,0 +1,128 @@
+/* The builder of the graph of a model and a formula, and the verdict. OPEN makes a model ready to be read; LABEL, FROM, WEIGHT and
+ * TO read it: from its bytes in (b), from arrays in (d). Nothing is checked. */
+
+static inline void put_two(u8 *p, u32 v)
+{
+    u16 w = __builtin_bswap16((u16)v);
+    __builtin_memcpy(p, &w, 2);
+}
+
+static inline void put_four(u8 *p, u32 v)
+{
+    u32 w = __builtin_bswap32(v);
+    __builtin_memcpy(p, &w, 4);
+}
+
+u64 PASTE(P, build)(const u8 *model, u64 model_length, const u8 *formula, u64 formula_length, u8 *graph)
+{
+    (void)formula_length;
+    u32 s = two(model + 6), f = formula[6], u = 0, h = 0;
+    u32 steps = four(model + 9), first[257], t = 0;
+    (void)model_length;
+    OPEN(model, s, steps);
+    for (u32 a = 0; a < s; a++) {
+        first[a] = t;
+        while (t < steps && FROM(t) == a)
+            t++;
+    }
+    first[s] = steps;
+
+    u8 *out = graph + 14;
+    for (u32 r = 0; r < f; r++) {
+        const u8 *row = formula + 7 + 8 * r;
+        u32 op = row[0], left = row[1], right = row[2], bound = four(row + 4);
+        u += op >= 8;
+        for (u32 a = 0; a < s; a++) {
+            u32 node = a + s * r;
+            switch (op) {
+            case 1:
+                break;
+            case 2:
+            case 3:
+                if (((LABEL(a) >> left) & 1) == op - 2)
+                    break;
+                /* fallthrough */
+            case 0:
+                put_two(out, node), put_two(out + 2, 0), out += 4, h++;
+                break;
+            case 4:
+                put_two(out, node), put_two(out + 2, 2);
+                put_four(out + 4, 0), put_two(out + 8, a + s * left);
+                put_four(out + 10, 0), put_two(out + 14, a + s * right);
+                out += 16, h++;
+                break;
+            case 5:
+                put_two(out, node), put_two(out + 2, 1), put_four(out + 4, 0), put_two(out + 8, a + s * left);
+                put_two(out + 10, node), put_two(out + 12, 1), put_four(out + 14, 0), put_two(out + 18, a + s * right);
+                out += 20, h += 2;
+                break;
+            case 6:
+                for (t = first[a]; t < first[a + 1]; t++)
+                    if (WEIGHT(t) <= bound) {
+                        put_two(out, node), put_two(out + 2, 1), put_four(out + 4, 0), put_two(out + 8, TO(t) + s * left);
+                        out += 10, h++;
+                    }
+                break;
+            case 7: {
+                u8 *head = out;
+                u32 k = 0;
+                out += 4;
+                for (t = first[a]; t < first[a + 1]; t++)
+                    if (WEIGHT(t) <= bound) {
+                        put_four(out, 0), put_two(out + 4, TO(t) + s * left);
+                        out += 6, k++;
+                    }
+                put_two(head, node), put_two(head + 2, k), h++;
+                break;
+            }
+            }
+        }
+    }
+    for (u32 r = 0, j = 0; r < f; r++) {
+        const u8 *row = formula + 7 + 8 * r;
+        u32 op = row[0], left = row[1], right = row[2];
+        if (op < 8)
+            continue;
+        u32 helper = s * (f + j++);
+        for (u32 a = 0; a < s; a++) {
+            put_two(out, a + helper), put_two(out + 2, 1), put_four(out + 4, 0), put_two(out + 8, a + s * right);
+            out += 10, h++;
+            if (op == 8) {
+                for (t = first[a]; t < first[a + 1]; t++) {
+                    put_two(out, a + helper), put_two(out + 2, 2), put_four(out + 4, 0), put_two(out + 8, a + s * left);
+                    put_four(out + 10, WEIGHT(t)), put_two(out + 14, TO(t) + helper);
+                    out += 16, h++;
+                }
+            } else {
+                put_two(out, a + helper), put_two(out + 2, 1 + first[a + 1] - first[a]);
+                put_four(out + 4, 0), put_two(out + 8, a + s * left);
+                out += 10, h++;
+                for (t = first[a]; t < first[a + 1]; t++) {
+                    put_four(out, WEIGHT(t)), put_two(out + 4, TO(t) + helper);
+                    out += 6;
+                }
+            }
+        }
+    }
+    for (u32 r = 0, j = 0; r < f; r++) {
+        const u8 *row = formula + 7 + 8 * r;
+        if (row[0] < 8)
+            continue;
+        u32 helper = s * (f + j++);
+        for (u32 a = 0; a < s; a++, out += 8)
+            put_two(out, a + s * r), __builtin_memcpy(out + 2, row + 4, 4), put_two(out + 6, a + helper);
+    }
+    u64 size = (u64)(out - graph);
+    put_four(graph, (u32)size), graph[4] = 1, graph[5] = 1;
+    put_two(graph + 6, s * (f + u)), put_four(graph + 8, h), put_two(graph + 12, s * u);
+    return size;
+}
+
+u32 PASTE(P, verdict)(const u8 *model, u64 model_length, const u8 *formula, u64 formula_length, u32 state, u32 budget,
+                      u8 *graph, u64 *room, u32 *count, u32 *yes)
+{
+    u64 size = PASTE(P, build)(model, model_length, formula, formula_length, graph);
+    u32 number = PASTE(P, rounds)(graph, size, budget, room, count);
+    *yes = number == 0 && room[state + two(model + 6) * (formula[6] - 1u)] == 0;
+    return number;
+}

@@ -1,0 +1,426 @@
+/* Measures the library (a) beside plain C (b), plain Rust (c) and C that decodes first (d), in one run, on the same inputs; all
+ * answers are compared, so that no version is fast by being wrong. A workload is a row of the table at the end. */
+#include "otzarvim.h"
+#include "plain.h"
+
+#include <stdio.h>
+#include <stdlib.h>
+#include <string.h>
+#include <time.h>
+
+DECLARE(gcc_)
+DECLARE(clang_)
+DECLARE(rust_)
+DECLARE(dgcc_)
+DECLARE(dclang_)
+
+/* ---- inputs */
+
+enum { MESSAGE = 4 << 20, ROOM = 2 * 4096 };
+
+struct input {
+    uint8_t *message, *formula; /* a graph; or a model and a formula; or a formula alone in message */
+    uint64_t length, formula_length;
+    uint32_t budget, propositions, state;
+};
+
+static uint8_t *at; /* where the next field goes */
+
+static void put(uint32_t v, int width)
+{
+    while (width--)
+        *at++ = (uint8_t)(v >> (8 * width));
+}
+
+static uint32_t seed;
+
+static uint32_t draw(uint32_t below)
+{
+    seed = seed * 1664525u + 1013904223u;
+    return (uint32_t)(((uint64_t)(seed >> 8) * below) >> 24);
+}
+
+static void start(uint8_t *message, uint8_t kind)
+{
+    at = message + 4;
+    put(1, 1);
+    put(kind, 1);
+}
+
+static uint64_t finish(uint8_t *message)
+{
+    uint64_t length = (uint64_t)(at - message);
+    at = message;
+    put((uint32_t)length, 4);
+    return length;
+}
+
+static void graph_start(struct input *in, uint32_t n, uint32_t h, uint32_t c)
+{
+    start(in->message, 1);
+    put(n, 2), put(h, 4), put(c, 2);
+}
+
+/* Node i has one hyperedge, to i + 1, and the last has one without targets: as many rounds as nodes. */
+static void chain(struct input *in, uint32_t n)
+{
+    graph_start(in, n, n, 0);
+    for (uint32_t i = 0; i + 1 < n; i++)
+        put(i, 2), put(1, 2), put(i % 7, 4), put(i + 1, 2);
+    put(n - 1, 2), put(0, 2);
+    in->length = finish(in->message);
+    in->budget = n;
+}
+
+/* The same with cover edges without bound. */
+static void covers(struct input *in, uint32_t n)
+{
+    graph_start(in, n, 1, n - 1);
+    put(n - 1, 2), put(0, 2);
+    for (uint32_t i = 0; i + 1 < n; i++)
+        put(i, 2), put(i % 2 ? UINT32_MAX : i, 4), put(i + 1, 2);
+    in->length = finish(in->message);
+    in->budget = n;
+}
+
+/* 16 hyperedges to a node but one, 4 targets to a hyperedge, of nodes a little further on; as many cover edges as nodes. */
+static void full(struct input *in, uint32_t n, uint32_t reach)
+{
+    uint32_t h = 16 * n - 1;
+    graph_start(in, n, h, n);
+    for (uint32_t k = 0; k < h; k++) {
+        uint32_t source = k / 16, left = n - 1 - source;
+        if (left == 0) {
+            put(source, 2), put(0, 2);
+            continue;
+        }
+        uint32_t targets = k + 1 < 16 && n > 1 ? 5 : 4; /* the last node's hyperedges have none: their targets go to the first */
+        put(source, 2), put(targets, 2);
+        for (uint32_t j = 0; j < targets; j++)
+            put(draw(1000), 4), put(source + 1 + draw(left < reach ? left : reach), 2);
+    }
+    for (uint32_t i = 0; i < n; i++)
+        put(i, 2), put(draw(3), 4), put(draw(n), 2);
+    in->length = finish(in->message);
+}
+
+/* Far targets: few rounds. */
+static void wide(struct input *in, uint32_t n)
+{
+    seed = 1;
+    full(in, n, n);
+    in->budget = 1u << 20;
+}
+
+/* Near targets: many rounds, of which the budget allows 48. */
+static void ladder(struct input *in, uint32_t n)
+{
+    seed = 2;
+    full(in, n, 4);
+    in->budget = 48;
+}
+
+static void model(struct input *in, uint32_t s, uint32_t t)
+{
+    start(in->message, 2);
+    put(s, 2), put(32, 1), put(t, 4);
+    seed = 3;
+    for (uint32_t i = 0; i < s; i++)
+        put(draw(1u << 24) * 256 + draw(256), 4);
+    for (uint32_t i = 0; i < t; i++)
+        put((uint32_t)((uint64_t)i * s / t), 2), put(draw(100), 4), put(draw(s), 2);
+    in->length = finish(in->message);
+}
+
+static void models(struct input *in, uint32_t t)
+{
+    model(in, 256, t);
+}
+
+static uint32_t rows;
+
+static void row(uint32_t operator, uint32_t left, uint32_t right, uint32_t bound)
+{
+    put(operator, 1), put(left, 1), put(right, 1), put(0, 1), put(bound, 4);
+    rows++;
+}
+
+/* A comb of untils, nexts and, or. */
+static void formulas(struct input *in, uint32_t f)
+{
+    start(in->message, 3);
+    put(f, 1);
+    rows = 0;
+    row(2, 0, 0, 0);
+    while (rows + 2 <= f) {
+        uint32_t operator = 4 + rows % 6, left = rows - 1;
+        if (operator == 6 || operator == 7) {
+            row(operator, left, 0, rows);
+            continue;
+        }
+        row(2 + rows % 2, rows % 32, 0, 0);
+        row(operator, left, rows - 1, operator < 6 ? 0 : UINT32_MAX);
+    }
+    if (rows < f)
+        row(6, rows - 1, 0, 7);
+    in->length = finish(in->message);
+    in->propositions = 32;
+}
+
+/* A model, and A[AX<=50 p0 U<=500 A[p1 U p2]], whose graph has three targets to a transition. */
+static void question(struct input *in, uint32_t t)
+{
+    model(in, 256, t);
+    start(in->formula, 3);
+    put(6, 1);
+    row(2, 0, 0, 0), row(7, 0, 0, 50), row(2, 1, 0, 0), row(2, 2, 0, 0), row(9, 2, 3, UINT32_MAX), row(9, 1, 4, 500);
+    in->formula_length = finish(in->formula);
+    in->budget = 1u << 20;
+    in->propositions = 32;
+    in->state = 7;
+}
+
+/* ---- answers */
+
+struct answer {
+    uint32_t number, count, yes;
+    uint64_t length;
+    uint64_t *room;
+    uint8_t *graph;
+};
+
+static uint32_t counts[3];
+
+enum { A, B_GCC, B_CLANG, C, D_GCC, D_CLANG, VERSIONS };
+
+#define VERSIONED(call)                     \
+    switch (v) {                            \
+    case B_GCC: { call(gcc_) } break;       \
+    case B_CLANG: { call(clang_) } break;   \
+    case C: { call(rust_) } break;          \
+    case D_GCC: { call(dgcc_) } break;      \
+    case D_CLANG: { call(dclang_) } break;  \
+    }
+
+static void run_rounds(int v, const struct input *in, struct answer *out)
+{
+    if (v == A)
+        out->number = otzarvim_rounds_solve(in->message, in->length, in->budget, out->room, ROOM, &out->count);
+#define CALL(p) out->number = PASTE(p, rounds)(in->message, in->length, in->budget, out->room, &out->count);
+    VERSIONED(CALL)
+#undef CALL
+}
+
+static void run_graph(int v, const struct input *in, struct answer *out)
+{
+    if (v == A)
+        out->number = otzarvim_graph_check(in->message, in->length, counts);
+#define CALL(p) out->number = PASTE(p, graph_check)(in->message, in->length);
+    VERSIONED(CALL)
+#undef CALL
+}
+
+static void run_model(int v, const struct input *in, struct answer *out)
+{
+    if (v == A)
+        out->number = otzarvim_model_check(in->message, in->length, counts);
+#define CALL(p) out->number = PASTE(p, model_check)(in->message, in->length);
+    VERSIONED(CALL)
+#undef CALL
+}
+
+static void run_formula(int v, const struct input *in, struct answer *out)
+{
+    if (v == A)
+        out->number = otzarvim_formula_check(in->message, in->length, in->propositions, counts);
+#define CALL(p) out->number = PASTE(p, formula_check)(in->message, in->length, in->propositions);
+    VERSIONED(CALL)
+#undef CALL
+}
+
+/* The library's builder and verdict are called here when they land; until then their rows have no (a). */
+static void run_build(int v, const struct input *in, struct answer *out)
+{
+#define CALL(p) out->length = PASTE(p, build)(in->message, in->length, in->formula, in->formula_length, out->graph);
+    VERSIONED(CALL)
+#undef CALL
+}
+
+static void run_verdict(int v, const struct input *in, struct answer *out)
+{
+#define CALL(p)                                                                                                          \
+    out->number = PASTE(p, verdict)(in->message, in->length, in->formula, in->formula_length, in->state, in->budget,     \
+                                    out->graph, out->room, &out->count, &out->yes);
+    VERSIONED(CALL)
+#undef CALL
+}
+
+/* ---- the table */
+
+static const struct workload {
+    const char *name;
+    const char *unit;                        /* what the size counts */
+    uint32_t most;                           /* the largest size; the others are a half, a quarter and an eighth */
+    void (*make)(struct input *, uint32_t);
+    void (*run)(int version, const struct input *, struct answer *);
+    int landed;                              /* the library has it */
+    int check;                               /* it answers for messages with a fault too */
+} table[] = {
+    {"rounds: a chain", "nodes", 4096, chain, run_rounds, 1, 0},
+    {"rounds: cover edges", "nodes", 4096, covers, run_rounds, 1, 0},
+    {"rounds: wide", "nodes", 4096, wide, run_rounds, 1, 0},
+    {"rounds: a ladder, 48 rounds", "nodes", 4096, ladder, run_rounds, 1, 0},
+    {"check of a graph", "nodes", 4096, wide, run_graph, 1, 1},
+    {"check of a model", "transitions", 65535, models, run_model, 1, 1},
+    {"check of a formula", "rows", 64, formulas, run_formula, 1, 1},
+    {"the graph of a model", "transitions", 65535, question, run_build, 0, 0},
+    {"a verdict", "transitions", 65535, question, run_verdict, 0, 0},
+};
+
+/* ---- measuring */
+
+static double seconds(void)
+{
+    struct timespec t;
+    clock_gettime(CLOCK_PROCESS_CPUTIME_ID, &t);
+    return (double)t.tv_sec + (double)t.tv_nsec * 1e-9;
+}
+
+static struct input in;
+static struct answer answers[VERSIONS];
+
+/* Runs every version once, and compares. */
+static void compare(const struct workload *w)
+{
+    int first = w->landed ? A : B_GCC;
+    for (int v = first; v < VERSIONS; v++) {
+        memset(answers[v].room, 0xa5, ROOM * sizeof(uint64_t));
+        memset(answers[v].graph, 0xa5, MESSAGE);
+        answers[v].number = answers[v].count = answers[v].yes = 0;
+        answers[v].length = 0;
+        w->run(v, &in, &answers[v]);
+        const struct answer *x = &answers[first], *y = &answers[v];
+        if (x->number != y->number || x->count != y->count || x->yes != y->yes || x->length != y->length ||
+            memcmp(x->room, y->room, ROOM * sizeof(uint64_t)) || memcmp(x->graph, y->graph, MESSAGE)) {
+            fprintf(stderr, "%s: version %d answers something else: %u %u %u %llu, and not %u %u %u %llu\n", w->name, v, y->number,
+                    y->count, y->yes, (unsigned long long)y->length, x->number, x->count, x->yes, (unsigned long long)x->length);
+            exit(1);
+        }
+    }
+}
+
+/* Spoils a small message in a thousand ways, one byte at a time, and compares the first faults that the library, (b) and (c) find.
+ * (d) decodes before it checks, and may find another one first. */
+static long spoil(const struct workload *w)
+{
+    long refused = 0;
+    w->make(&in, w->most / 64 > 8 ? w->most / 64 : 8);
+    for (uint32_t i = 0; i < 1000; i++) {
+        uint8_t *byte = in.message + (i % 2 ? draw((uint32_t)in.length) : draw(16)), kept = *byte;
+        *byte = (uint8_t)(i % 3 ? draw(256) : kept + 1u);
+        for (int v = A; v <= C; v++) {
+            answers[v].number = 99;
+            w->run(v, &in, &answers[v]);
+            if (answers[v].number != answers[A].number) {
+                fprintf(stderr, "%s: version %d finds fault %u, and not %u, where byte %ld is %u\n", w->name, v, answers[v].number,
+                        answers[A].number, (long)(byte - in.message), *byte);
+                exit(1);
+            }
+        }
+        refused += answers[A].number != 0;
+        *byte = kept;
+    }
+    return refused;
+}
+
+/* The least time of a call of each version, in some turns; a turn of a version takes about the time given. */
+static void measure(const struct workload *w, double turn, int turns, double *best)
+{
+    long calls[VERSIONS];
+    for (int v = 0; v < VERSIONS; v++)
+        best[v] = 0, calls[v] = 1;
+    for (int i = 0; i < turns; i++)
+        for (int v = w->landed ? A : B_GCC; v < VERSIONS; v++) {
+            double from = seconds(), spent;
+            for (long k = 0; k < calls[v]; k++)
+                w->run(v, &in, &answers[v]);
+            spent = seconds() - from;
+            double each = spent / (double)calls[v];
+            if (best[v] == 0 || each < best[v])
+                best[v] = each;
+            if (spent < turn / 2)
+                calls[v] = each > 0 ? 1 + (long)(turn / each) : calls[v] * 2;
+        }
+}
+
+static double better(double x, double y)
+{
+    return x < y ? x : y;
+}
+
+static void ratio(int landed, double x, double y)
+{
+    if (landed)
+        printf(" %.2f |", x / y);
+    else
+        printf(" |");
+}
+
+int main(int argc, char **argv)
+{
+    double turn = argc > 1 ? atof(argv[1]) : 0.02;
+    int turns = argc > 2 ? atoi(argv[2]) : 7;
+    const char *only = argc > 3 ? argv[3] : "";
+    in.message = malloc(MESSAGE);
+    in.formula = malloc(1024);
+    for (int v = 0; v < VERSIONS; v++) {
+        answers[v].room = malloc(ROOM * sizeof(uint64_t));
+        answers[v].graph = malloc(MESSAGE);
+    }
+    printf("| workload | size | bytes | rounds | (a) µs | (b) µs | (c) µs | (d) µs | a/b | a/c | a/d | growth of a, b, d |\n");
+    printf("|---|---|---|---|---|---|---|---|---|---|---|---|\n");
+    char above[4096] = "";
+    long refused = 0;
+    for (size_t i = 0; i < sizeof table / sizeof *table; i++) {
+        const struct workload *w = &table[i];
+        if (!strstr(w->name, only))
+            continue;
+        memset(&in.length, 0, sizeof in - offsetof(struct input, length));
+        if (w->check)
+            refused += spoil(w);
+        double last[3] = {0, 0, 0};
+        for (uint32_t part = 8; part >= 1; part /= 2) {
+            uint32_t size = (w->most + part - 1) / part;
+            memset(&in.length, 0, sizeof in - offsetof(struct input, length));
+            w->make(&in, size);
+            compare(w);
+            double best[VERSIONS];
+            measure(w, turn, turns, best);
+            double b = better(best[B_GCC], best[B_CLANG]), d = better(best[D_GCC], best[D_CLANG]);
+            printf("| %s | %u %s | %llu | %u |", part == 8 ? w->name : "", size, w->unit, (unsigned long long)in.length,
+                   answers[B_GCC].count);
+            if (w->landed)
+                printf(" %.2f |", best[A] * 1e6);
+            else
+                printf(" not yet |");
+            printf(" %.2f (%s) | %.2f | %.2f (%s) |", b * 1e6, best[B_GCC] < best[B_CLANG] ? "gcc" : "clang", best[C] * 1e6, d * 1e6,
+                   best[D_GCC] < best[D_CLANG] ? "gcc" : "clang");
+            ratio(w->landed, best[A], b);
+            ratio(w->landed, best[A], best[C]);
+            ratio(w->landed, best[A], d);
+            if (last[1] == 0)
+                printf(" |\n");
+            else if (w->landed)
+                printf(" %.2f, %.2f, %.2f |\n", best[A] / last[0], b / last[1], d / last[2]);
+            else
+                printf(" -, %.2f, %.2f |\n", b / last[1], d / last[2]);
+            last[0] = best[A], last[1] = b, last[2] = d;
+            fflush(stdout);
+            if (part == 1 && w->landed && (best[A] > b || best[A] > best[C] || best[A] > 1.2 * d))
+                snprintf(above + strlen(above), sizeof above - strlen(above), "%s%s", *above ? "; " : "", w->name);
+        }
+    }
+    printf("\nAll versions gave the same answers; (a), (b) and (c) also on %ld messages with a fault. At the largest size, above 1.00 for a/b or a/c or above 1.20 for a/d: %s.\n",
+           refused, *above ? above : "none");
+    return 0;
+}

@@ -1,0 +1,26 @@
+/* What the plain versions offer, each under the prefix of the file and compiler that it comes from. Types are spelled without
+ * any header, so that a compiler that comes alone can build them. */
+#ifndef PLAIN_H
+#define PLAIN_H
+
+typedef __UINT8_TYPE__ u8;
+typedef __UINT16_TYPE__ u16;
+typedef __UINT32_TYPE__ u32;
+typedef __UINT64_TYPE__ u64;
+
+#define INFINITE (~(u64)0)
+
+#define PASTE_(a, b) a##b
+#define PASTE(a, b) PASTE_(a, b)
+
+/* The same shape for every version. The checks return the paper's number. Rounds, builder and verdict take accepted messages. */
+#define DECLARE(p)                                                                                                       \
+    u32 PASTE(p, graph_check)(const u8 *s, u64 length);                                                                  \
+    u32 PASTE(p, model_check)(const u8 *s, u64 length);                                                                  \
+    u32 PASTE(p, formula_check)(const u8 *s, u64 length, u32 propositions);                                              \
+    u32 PASTE(p, rounds)(const u8 *s, u64 length, u32 budget, u64 *room, u32 *count);                                    \
+    u64 PASTE(p, build)(const u8 *model, u64 model_length, const u8 *formula, u64 formula_length, u8 *graph);            \
+    u32 PASTE(p, verdict)(const u8 *model, u64 model_length, const u8 *formula, u64 formula_length, u32 state, u32 budget, \
+                          u8 *graph, u64 *room, u32 *count, u32 *yes);
+
+#endif

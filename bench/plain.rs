@@ -1,0 +1,446 @@
+//! (c): the same as plain.c in Rust: plain loops over the message bytes, written for speed. The checks answer as the paper says
+//! and read safely; the rounds, the builder and the verdict take messages that were accepted, and check nothing.
+#![no_std]
+
+use core::slice::from_raw_parts;
+
+#[panic_handler]
+fn panic(_: &core::panic::PanicInfo) -> ! {
+    loop {}
+}
+
+const INFINITE: u64 = u64::MAX;
+
+#[inline(always)]
+unsafe fn two(p: *const u8) -> u32 {
+    u16::from_be((p as *const u16).read_unaligned()) as u32
+}
+
+#[inline(always)]
+unsafe fn four(p: *const u8) -> u32 {
+    u32::from_be((p as *const u32).read_unaligned())
+}
+
+#[inline(always)]
+unsafe fn put_two(p: &mut *mut u8, v: u32) {
+    (*p as *mut u16).write_unaligned((v as u16).to_be());
+    *p = p.add(2);
+}
+
+#[inline(always)]
+unsafe fn put_four(p: &mut *mut u8, v: u32) {
+    (*p as *mut u32).write_unaligned(v.to_be());
+    *p = p.add(4);
+}
+
+fn number2(s: &[u8]) -> u32 {
+    u16::from_be_bytes([s[0], s[1]]) as u32
+}
+
+fn number4(s: &[u8]) -> u32 {
+    u32::from_be_bytes([s[0], s[1], s[2], s[3]])
+}
+
+/// The number of the first fault of a message's start, or 0.
+fn start(s: &[u8], header: usize, kind: u8) -> u32 {
+    if s.len() < header || number4(s) as usize != s.len() {
+        2
+    } else if s[4] != 1 || s[5] != kind {
+        3
+    } else {
+        0
+    }
+}
+
+fn graph_check(s: &[u8]) -> u32 {
+    let fault = start(s, 14, 1);
+    if fault != 0 {
+        return fault;
+    }
+    let (n, h, c) = (number2(&s[6..8]), number4(&s[8..12]), number2(&s[12..14]));
+    if n < 1 || n > 4096 || h > 65535 || c > 4096 {
+        return 4;
+    }
+    let mut rest = &s[14..];
+    let (mut before, mut total) = (0, 0);
+    for _ in 0..h {
+        if rest.len() < 4 {
+            return 2;
+        }
+        let (source, count) = (number2(&rest[..2]), number2(&rest[2..4]));
+        rest = &rest[4..];
+        if source >= n {
+            return 6;
+        }
+        if source < before {
+            return 5;
+        }
+        before = source;
+        total += count;
+        if total > 262144 {
+            return 4;
+        }
+        let bytes = count as usize * 6;
+        if rest.len() < bytes {
+            return 2;
+        }
+        let (targets, after) = rest.split_at(bytes);
+        for target in targets.chunks_exact(6) {
+            if number2(&target[4..6]) >= n {
+                return 6;
+            }
+        }
+        rest = after;
+    }
+    before = 0;
+    for _ in 0..c {
+        if rest.len() < 8 {
+            return 2;
+        }
+        let (source, target) = (number2(&rest[..2]), number2(&rest[6..8]));
+        if source >= n {
+            return 6;
+        }
+        if source < before {
+            return 5;
+        }
+        if target >= n {
+            return 6;
+        }
+        before = source;
+        rest = &rest[8..];
+    }
+    if rest.is_empty() {
+        0
+    } else {
+        2
+    }
+}
+
+fn model_check(s: &[u8]) -> u32 {
+    let fault = start(s, 13, 2);
+    if fault != 0 {
+        return fault;
+    }
+    let (n, propositions, t) = (number2(&s[6..8]), s[8], number4(&s[9..13]));
+    if n < 1 || n > 256 || propositions > 32 || t > 65535 {
+        return 4;
+    }
+    let middle = 13 + 4 * n as usize;
+    if s.len() != middle + 8 * t as usize {
+        return 2;
+    }
+    let limit = 1u64 << propositions;
+    for label in s[13..middle].chunks_exact(4) {
+        if number4(label) as u64 >= limit {
+            return 10;
+        }
+    }
+    let (mut before, mut first) = (0, 0);
+    for transition in s[middle..].chunks_exact(8) {
+        let (from, to) = (number2(&transition[..2]), number2(&transition[6..8]));
+        if from >= n {
+            return 6;
+        }
+        if from < before {
+            return 5;
+        }
+        if to >= n {
+            return 6;
+        }
+        before = from;
+        first += (from == first) as u32;
+    }
+    if first < n {
+        7
+    } else {
+        0
+    }
+}
+
+fn formula_check(s: &[u8], propositions: u32) -> u32 {
+    if propositions > 32 {
+        return 4;
+    }
+    let fault = start(s, 7, 3);
+    if fault != 0 {
+        return fault;
+    }
+    let f = s[6] as usize;
+    if f < 1 || f > 64 {
+        return 4;
+    }
+    if s.len() != 7 + 8 * f {
+        return 2;
+    }
+    let mut uses = [0u8; 64];
+    for (i, row) in s[7..].chunks_exact(8).enumerate() {
+        let (operator, left, right, bound) = (row[0], row[1] as usize, row[2] as usize, number4(&row[4..8]));
+        if operator > 9 || row[3] != 0 {
+            return 10;
+        }
+        match operator {
+            0 | 1 => {
+                if left != 0 || right != 0 || bound != 0 {
+                    return 10;
+                }
+            }
+            2 | 3 => {
+                if right != 0 || bound != 0 {
+                    return 10;
+                }
+                if left as u32 >= propositions {
+                    return 6;
+                }
+            }
+            6 | 7 => {
+                if right != 0 {
+                    return 10;
+                }
+                if left >= i {
+                    return 6;
+                }
+                uses[left & 63] += 1;
+            }
+            _ => {
+                if operator < 6 && bound != 0 {
+                    return 10;
+                }
+                if left >= i || right >= i {
+                    return 6;
+                }
+                uses[left & 63] += 1;
+                uses[right & 63] += 1;
+            }
+        }
+    }
+    for &k in &uses[..f - 1] {
+        if k != 1 {
+            return 10;
+        }
+    }
+    0
+}
+
+#[no_mangle]
+pub unsafe extern "C" fn rust_graph_check(s: *const u8, length: u64) -> u32 {
+    graph_check(from_raw_parts(s, length as usize))
+}
+
+#[no_mangle]
+pub unsafe extern "C" fn rust_model_check(s: *const u8, length: u64) -> u32 {
+    model_check(from_raw_parts(s, length as usize))
+}
+
+#[no_mangle]
+pub unsafe extern "C" fn rust_formula_check(s: *const u8, length: u64, propositions: u32) -> u32 {
+    formula_check(from_raw_parts(s, length as usize), propositions)
+}
+
+#[no_mangle]
+pub unsafe extern "C" fn rust_rounds(s: *const u8, _length: u64, budget: u32, room: *mut u64, count: *mut u32) -> u32 {
+    let (n, h, c) = (two(s.add(6)) as usize, four(s.add(8)), two(s.add(12)));
+    let (mut x, mut y) = (room, room.add(n));
+    for v in 0..n {
+        *x.add(v) = INFINITE;
+    }
+    let mut i = 0;
+    loop {
+        for v in 0..n {
+            *y.add(v) = INFINITE;
+        }
+        let mut p = s.add(14);
+        for _ in 0..h {
+            let (source, targets) = (two(p) as usize, two(p.add(2)) as usize);
+            let mut worst = 0u64;
+            p = p.add(4);
+            let end = p.add(targets * 6);
+            while p < end {
+                let sum = (*x.add(two(p.add(4)) as usize)).saturating_add(four(p) as u64);
+                worst = worst.max(sum);
+                p = p.add(6);
+            }
+            *y.add(source) = worst.min(*y.add(source));
+        }
+        for _ in 0..c {
+            let bound = four(p.add(2));
+            let value = *x.add(two(p.add(6)) as usize);
+            if if bound == u32::MAX { value != INFINITE } else { value <= bound as u64 } {
+                *y.add(two(p) as usize) = 0;
+            }
+            p = p.add(8);
+        }
+        let settled = from_raw_parts(x, n) == from_raw_parts(y, n);
+        if settled || i == budget {
+            if x != room {
+                core::ptr::swap_nonoverlapping(room, room.add(n), n);
+            }
+            *count = i;
+            return !settled as u32;
+        }
+        core::mem::swap(&mut x, &mut y);
+        i += 1;
+    }
+}
+
+#[no_mangle]
+pub unsafe extern "C" fn rust_build(model: *const u8, model_length: u64, formula: *const u8, _formula_length: u64, graph: *mut u8) -> u64 {
+    let (s, f) = (two(model.add(6)), *formula.add(6) as u32);
+    let labels = model.add(13);
+    let last = model.add(model_length as usize);
+    let mut t = labels.add(4 * s as usize);
+    let mut first = [t; 257];
+    for a in 0..s {
+        *first.get_unchecked_mut(a as usize) = t;
+        while t < last && two(t) == a {
+            t = t.add(8);
+        }
+    }
+    *first.get_unchecked_mut(s as usize) = last;
+    let steps = |a: u32| (*first.get_unchecked(a as usize), *first.get_unchecked(a as usize + 1));
+
+    let (mut u, mut h) = (0, 0);
+    let mut out = graph.add(14);
+    for r in 0..f {
+        let row = formula.add(7 + 8 * r as usize);
+        let (operator, left, right, bound) = (*row, *row.add(1) as u32, *row.add(2) as u32, four(row.add(4)));
+        u += (operator >= 8) as u32;
+        for a in 0..s {
+            let node = a + s * r;
+            let (mut t, end) = steps(a);
+            match operator {
+                0 | 2 | 3 => {
+                    let bit = four(labels.add(4 * a as usize)) >> (left & 31) & 1;
+                    if operator == 0 || bit != operator as u32 - 2 {
+                        put_two(&mut out, node);
+                        put_two(&mut out, 0);
+                        h += 1;
+                    }
+                }
+                4 => {
+                    put_two(&mut out, node);
+                    put_two(&mut out, 2);
+                    put_four(&mut out, 0);
+                    put_two(&mut out, a + s * left);
+                    put_four(&mut out, 0);
+                    put_two(&mut out, a + s * right);
+                    h += 1;
+                }
+                5 => {
+                    for operand in [left, right] {
+                        put_two(&mut out, node);
+                        put_two(&mut out, 1);
+                        put_four(&mut out, 0);
+                        put_two(&mut out, a + s * operand);
+                        h += 1;
+                    }
+                }
+                6 => {
+                    while t < end {
+                        if four(t.add(2)) <= bound {
+                            put_two(&mut out, node);
+                            put_two(&mut out, 1);
+                            put_four(&mut out, 0);
+                            put_two(&mut out, two(t.add(6)) + s * left);
+                            h += 1;
+                        }
+                        t = t.add(8);
+                    }
+                }
+                7 => {
+                    let mut head = out;
+                    let mut k = 0;
+                    out = out.add(4);
+                    while t < end {
+                        if four(t.add(2)) <= bound {
+                            put_four(&mut out, 0);
+                            put_two(&mut out, two(t.add(6)) + s * left);
+                            k += 1;
+                        }
+                        t = t.add(8);
+                    }
+                    put_two(&mut head, node);
+                    put_two(&mut head, k);
+                    h += 1;
+                }
+                _ => {}
+            }
+        }
+    }
+    let mut helper = s * f;
+    for r in 0..f {
+        let row = formula.add(7 + 8 * r as usize);
+        let (operator, left, right) = (*row, *row.add(1) as u32, *row.add(2) as u32);
+        if operator < 8 {
+            continue;
+        }
+        for a in 0..s {
+            let (mut t, end) = steps(a);
+            put_two(&mut out, a + helper);
+            put_two(&mut out, 1);
+            put_four(&mut out, 0);
+            put_two(&mut out, a + s * right);
+            h += 1;
+            if operator == 9 {
+                put_two(&mut out, a + helper);
+                put_two(&mut out, 1 + (end.offset_from(t) / 8) as u32);
+                put_four(&mut out, 0);
+                put_two(&mut out, a + s * left);
+                h += 1;
+            }
+            while t < end {
+                if operator == 8 {
+                    put_two(&mut out, a + helper);
+                    put_two(&mut out, 2);
+                    put_four(&mut out, 0);
+                    put_two(&mut out, a + s * left);
+                    h += 1;
+                }
+                put_four(&mut out, four(t.add(2)));
+                put_two(&mut out, two(t.add(6)) + helper);
+                t = t.add(8);
+            }
+        }
+        helper += s;
+    }
+    helper = s * f;
+    for r in 0..f {
+        let row = formula.add(7 + 8 * r as usize);
+        if *row >= 8 {
+            for a in 0..s {
+                put_two(&mut out, a + s * r);
+                put_four(&mut out, four(row.add(4)));
+                put_two(&mut out, a + helper);
+            }
+            helper += s;
+        }
+    }
+    let size = out.offset_from(graph) as u64;
+    out = graph;
+    put_four(&mut out, size as u32);
+    put_two(&mut out, 0x0101);
+    put_two(&mut out, s * (f + u));
+    put_four(&mut out, h);
+    put_two(&mut out, s * u);
+    size
+}
+
+#[no_mangle]
+pub unsafe extern "C" fn rust_verdict(
+    model: *const u8,
+    model_length: u64,
+    formula: *const u8,
+    formula_length: u64,
+    state: u32,
+    budget: u32,
+    graph: *mut u8,
+    room: *mut u64,
+    count: *mut u32,
+    yes: *mut u32,
+) -> u32 {
+    let size = rust_build(model, model_length, formula, formula_length, graph);
+    let number = rust_rounds(graph, size, budget, room, count);
+    let root = state + two(model.add(6)) * (*formula.add(6) as u32 - 1);
+    *yes = (number == 0 && *room.add(root as usize) == 0) as u32;
+    number
+}

@@ -1,0 +1,131 @@
+/* How much stack each exported function touches: it is run on a stack of its own that was painted before, on the inputs that need
+ * the most, and the lowest byte that changed is looked for. What an empty function touches there is taken off. */
+#include "otzarvim.h"
+
+#include <stdio.h>
+#include <stdlib.h>
+#include <string.h>
+#include <ucontext.h>
+
+enum { STACK = 1 << 18, PAINT = 0xa5 };
+
+static _Alignas(64) uint8_t stack[STACK];
+static ucontext_t home, away;
+
+/* Runs a function on the painted stack; returns how many bytes of it changed, from the top to the lowest. */
+static size_t touched(void (*f)(void))
+{
+    memset(stack, PAINT, STACK);
+    getcontext(&away);
+    away.uc_stack.ss_sp = stack;
+    away.uc_stack.ss_size = STACK;
+    away.uc_link = &home;
+    makecontext(&away, f, 0);
+    swapcontext(&home, &away);
+    size_t low = 0;
+    while (low < STACK && stack[low] == PAINT)
+        low++;
+    if (low == 0) {
+        fprintf(stderr, "the stack is too small\n");
+        exit(1);
+    }
+    return STACK - low;
+}
+
+static uint8_t graph[1 << 20], model[1 << 20], formula[1024], *at, text[4096];
+static size_t graph_length, model_length, formula_length, length;
+static uint64_t room[2 * 4096];
+static uint32_t counts[3], count;
+static uint8_t number;
+
+static void put(uint32_t v, int width)
+{
+    while (width--)
+        *at++ = (uint8_t)(v >> (8 * width));
+}
+
+static size_t finish(uint8_t *message)
+{
+    size_t size = (size_t)(at - message);
+    at = message;
+    put((uint32_t)size, 4);
+    return size;
+}
+
+/* A chain of nodes with cover edges, a model with every count at its limit, and 64 rows, each an operand of the next, with bounds of ten digits. */
+static void inputs(void)
+{
+    at = graph + 4;
+    put(1, 1), put(1, 1), put(4096, 2), put(4096, 4), put(4096, 2);
+    for (uint32_t i = 0; i < 4096; i++)
+        put(i, 2), put(1, 2), put(i, 4), put((i + 1) % 4096, 2);
+    for (uint32_t i = 0; i < 4096; i++)
+        put(i, 2), put(i, 4), put(i, 2);
+    graph_length = finish(graph);
+    at = model + 4;
+    put(1, 1), put(2, 1), put(256, 2), put(32, 1), put(65535, 4);
+    for (uint32_t i = 0; i < 256; i++)
+        put(i, 4);
+    for (uint32_t i = 0; i < 65535; i++)
+        put(i / 256, 2), put(i, 4), put(i % 256, 2);
+    model_length = finish(model);
+    at = formula + 4;
+    put(1, 1), put(3, 1), put(64, 1);
+    put(2, 1), put(31, 1), put(0, 2), put(0, 4);
+    for (uint32_t i = 1; i < 64; i++)
+        put(6 + i % 2, 1), put(i - 1, 1), put(0, 2), put(4294967294u, 4);
+    formula_length = finish(formula);
+}
+
+static void nothing(void)
+{
+}
+
+static void graph_check(void)
+{
+    number = otzarvim_graph_check(graph, graph_length, counts);
+}
+
+static void model_check(void)
+{
+    number = otzarvim_model_check(model, model_length, counts);
+}
+
+static void formula_check(void)
+{
+    number = otzarvim_formula_check(formula, formula_length, 32, &count);
+}
+
+static void rounds_solve(void)
+{
+    number = otzarvim_rounds_solve(graph, graph_length, 5, room, 2 * 4096, &count);
+}
+
+static void formula_text(void)
+{
+    number = otzarvim_formula_text(formula, formula_length, 32, text, sizeof text, &length);
+}
+
+static const struct {
+    const char *name;
+    void (*run)(void);
+} table[] = {
+    {"otzarvim_graph_check", graph_check},
+    {"otzarvim_model_check", model_check},
+    {"otzarvim_formula_check", formula_check},
+    {"otzarvim_rounds_solve", rounds_solve},
+    {"otzarvim_formula_text", formula_text},
+};
+
+int main(void)
+{
+    inputs();
+    size_t empty = touched(nothing);
+    printf("| function | answer | bytes of stack |\n|---|---|---|\n");
+    for (size_t i = 0; i < sizeof table / sizeof *table; i++) {
+        table[i].run(); /* the linker binds memset and memcpy at their first call, which takes stack too */
+        size_t all = touched(table[i].run);
+        printf("| `%s` | %u | %zu |\n", table[i].name, number, all - empty);
+    }
+    return 0;
+}

@@ -1,0 +1,329 @@
+//! A proved checker for weighted CTL with upper bounds.
+//!
+//! Messages are bytes: a graph, a model or a formula. Any bytes may be handed in; a message that is not well-formed is refused, and
+//! the [`Refusal`] says what its first fault is. Nothing is allocated but where a `String` or a `Vec` is returned, and a refusal
+//! leaves every lent slice as it came.
+//!
+//! ```
+//! // One node with a hyperedge without targets: its value is 0, after one round.
+//! let graph = [0, 0, 0, 18, 1, 1, 0, 1, 0, 0, 0, 1, 0, 0, 0, 0, 0, 0];
+//! let mut room = [0; 2];
+//! assert_eq!(otzarvim::solve(&graph, 10, &mut room), Ok(otzarvim::Rounds::Settled { count: 1 }));
+//! assert_eq!(room, [0, 0]);
+//! ```
+
+use std::error::Error;
+use std::fmt;
+
+mod foreign {
+    #[link(name = "otzarvim", kind = "static")]
+    extern "C" {
+        pub fn otzarvim_graph_check(message: *const u8, message_length: usize, counts: *mut u32) -> u8;
+        pub fn otzarvim_model_check(message: *const u8, message_length: usize, counts: *mut u32) -> u8;
+        pub fn otzarvim_formula_check(message: *const u8, message_length: usize, p: u32, rows: *mut u32) -> u8;
+        pub fn otzarvim_rounds_solve(
+            message: *const u8,
+            message_length: usize,
+            budget: u32,
+            room: *mut u64,
+            room_length: usize,
+            count: *mut u32,
+        ) -> u8;
+        pub fn otzarvim_formula_text(
+            message: *const u8,
+            message_length: usize,
+            p: u32,
+            room: *mut u8,
+            room_length: usize,
+            length: *mut usize,
+        ) -> u8;
+    }
+}
+
+/// The stored value of a node that no finite number bounds.
+pub const INFINITE: u64 = u64::MAX;
+
+/// The bound, in a message, that means no bound.
+pub const NO_BOUND: u32 = u32::MAX;
+
+/// So many bytes hold the text of any formula.
+pub const MOST_TEXT: usize = 2048;
+
+/// Why a call is refused. Each case has the number that C sees; that of a spent budget, 1, is [`Rounds::Spent`].
+#[derive(Clone, Copy, Debug, PartialEq, Eq, Hash)]
+pub enum Refusal {
+    /// Too few bytes for the header or a record, a wrong length field, or bytes left over.
+    Length,
+    /// A wrong version or kind byte.
+    Version,
+    /// A count outside its limits, or more than 32 propositions.
+    Limit,
+    /// A source below the one before it in the same list.
+    Order,
+    /// A node, state, proposition or operand that doesn't exist.
+    Name,
+    /// A state with no transition.
+    Dead,
+    /// The graph to be built would pass a limit.
+    Size,
+    /// A lent room is too small.
+    Room,
+    /// A formula or label that breaks the rules.
+    Form,
+}
+
+impl Refusal {
+    const ALL: [Refusal; 9] = [
+        Refusal::Length,
+        Refusal::Version,
+        Refusal::Limit,
+        Refusal::Order,
+        Refusal::Name,
+        Refusal::Dead,
+        Refusal::Size,
+        Refusal::Room,
+        Refusal::Form,
+    ];
+
+    /// The number of the refusal.
+    ///
+    /// ```
+    /// assert_eq!(otzarvim::Refusal::Length.number(), 2);
+    /// assert_eq!(otzarvim::Refusal::Form.number(), 10);
+    /// ```
+    pub fn number(self) -> u8 {
+        self as u8 + 2
+    }
+
+    /// The refusal with a number.
+    ///
+    /// ```
+    /// assert_eq!(otzarvim::Refusal::from_number(9), Some(otzarvim::Refusal::Room));
+    /// assert_eq!(otzarvim::Refusal::from_number(1), None);
+    /// ```
+    pub fn from_number(number: u8) -> Option<Refusal> {
+        Refusal::ALL.into_iter().find(|refusal| refusal.number() == number)
+    }
+
+    /// The refusal of a number that a function of the library returned, which is proved to be one of the paper's.
+    fn of(number: u8) -> Refusal {
+        Refusal::from_number(number).unwrap_or_else(|| unreachable!("the library returned {number}"))
+    }
+}
+
+impl fmt::Display for Refusal {
+    fn fmt(&self, f: &mut fmt::Formatter) -> fmt::Result {
+        f.write_str(match self {
+            Refusal::Length => "too few bytes, a wrong length field, or bytes left over",
+            Refusal::Version => "a wrong version or kind byte",
+            Refusal::Limit => "a count outside its limits",
+            Refusal::Order => "a source below the one before it",
+            Refusal::Name => "a node, state, proposition or operand that doesn't exist",
+            Refusal::Dead => "a state with no transition",
+            Refusal::Size => "the graph to be built would pass a limit",
+            Refusal::Room => "a lent room is too small",
+            Refusal::Form => "a formula or label that breaks the rules",
+        })
+    }
+}
+
+impl Error for Refusal {}
+
+/// The counts of an accepted graph message.
+#[derive(Clone, Copy, Debug, PartialEq, Eq, Hash)]
+pub struct Graph {
+    /// How many nodes; a room for values has twice as many numbers.
+    pub nodes: u32,
+    /// How many hyperedges.
+    pub hyperedges: u32,
+    /// How many cover edges.
+    pub covers: u32,
+}
+
+impl Graph {
+    /// A budget with which the rounds always settle.
+    ///
+    /// ```
+    /// let graph = otzarvim::Graph { nodes: 4, hyperedges: 4, covers: 1 };
+    /// assert_eq!(graph.enough(), 8);
+    /// ```
+    pub fn enough(self) -> u32 {
+        self.nodes.saturating_mul(self.covers.saturating_add(1))
+    }
+}
+
+/// The counts of an accepted model message.
+#[derive(Clone, Copy, Debug, PartialEq, Eq, Hash)]
+pub struct Model {
+    /// How many states.
+    pub states: u32,
+    /// How many propositions.
+    pub propositions: u32,
+    /// How many transitions.
+    pub transitions: u32,
+}
+
+/// How the rounds on a graph ended. The first n numbers of the room hold round `count`, the next n the round after it.
+#[derive(Clone, Copy, Debug, PartialEq, Eq, Hash)]
+pub enum Rounds {
+    /// A round changed nothing: the values are settled, the largest that obey the graph's rules.
+    Settled {
+        /// The first round that the next one repeats.
+        count: u32,
+    },
+    /// The budget was spent before that.
+    Spent {
+        /// The budget.
+        count: u32,
+    },
+}
+
+/// Checks a graph message.
+///
+/// ```
+/// use otzarvim::{Graph, Refusal};
+///
+/// let graph = [0, 0, 0, 18, 1, 1, 0, 1, 0, 0, 0, 1, 0, 0, 0, 0, 0, 0];
+/// assert_eq!(otzarvim::check_graph(&graph), Ok(Graph { nodes: 1, hyperedges: 1, covers: 0 }));
+/// assert_eq!(otzarvim::check_graph(&graph[..17]), Err(Refusal::Length));
+/// assert_eq!(otzarvim::check_graph(&[]), Err(Refusal::Length));
+/// ```
+pub fn check_graph(message: &[u8]) -> Result<Graph, Refusal> {
+    let mut counts = [0; 3];
+    // SAFETY: the message is a slice, and there is room for three counts. The function is proved to read and write only these.
+    match unsafe { foreign::otzarvim_graph_check(message.as_ptr(), message.len(), counts.as_mut_ptr()) } {
+        0 => {
+            let [nodes, hyperedges, covers] = counts;
+            Ok(Graph { nodes, hyperedges, covers })
+        }
+        number => Err(Refusal::of(number)),
+    }
+}
+
+/// Checks a model message.
+///
+/// ```
+/// use otzarvim::{Model, Refusal};
+///
+/// // A state without propositions, and a transition to itself of weight 5.
+/// let mut model = [0, 0, 0, 25, 1, 2, 0, 1, 0, 0, 0, 0, 1, 0, 0, 0, 0, 0, 0, 0, 0, 0, 5, 0, 0];
+/// assert_eq!(otzarvim::check_model(&model), Ok(Model { states: 1, propositions: 0, transitions: 1 }));
+/// model[24] = 1;
+/// assert_eq!(otzarvim::check_model(&model), Err(Refusal::Name));
+/// ```
+pub fn check_model(message: &[u8]) -> Result<Model, Refusal> {
+    let mut counts = [0; 3];
+    // SAFETY: as for check_graph.
+    match unsafe { foreign::otzarvim_model_check(message.as_ptr(), message.len(), counts.as_mut_ptr()) } {
+        0 => {
+            let [states, propositions, transitions] = counts;
+            Ok(Model { states, propositions, transitions })
+        }
+        number => Err(Refusal::of(number)),
+    }
+}
+
+/// Checks a formula message, whose propositions must be below a number of them; returns how many rows it has.
+///
+/// ```
+/// use otzarvim::Refusal;
+///
+/// let formula = [0, 0, 0, 15, 1, 3, 1, 2, 7, 0, 0, 0, 0, 0, 0]; // p7
+/// assert_eq!(otzarvim::check_formula(&formula, 8), Ok(1));
+/// assert_eq!(otzarvim::check_formula(&formula, 7), Err(Refusal::Name));
+/// assert_eq!(otzarvim::check_formula(&formula, 33), Err(Refusal::Limit));
+/// ```
+pub fn check_formula(message: &[u8], propositions: u32) -> Result<u32, Refusal> {
+    let mut rows = 0;
+    // SAFETY: the message is a slice, and rows is a number of its own. The function is proved to read and write only these.
+    match unsafe { foreign::otzarvim_formula_check(message.as_ptr(), message.len(), propositions, &mut rows) } {
+        0 => Ok(rows),
+        number => Err(Refusal::of(number)),
+    }
+}
+
+/// Runs the rounds on a graph message of n nodes, until one changes nothing or the budget is spent. The room must have 2n numbers;
+/// those beyond stay.
+///
+/// ```
+/// use otzarvim::{Refusal, Rounds, INFINITE};
+///
+/// let graph = [0, 0, 0, 18, 1, 1, 0, 1, 0, 0, 0, 1, 0, 0, 0, 0, 0, 0];
+/// let mut room = [7; 3];
+/// assert_eq!(otzarvim::solve(&graph, 1, &mut room[..1]), Err(Refusal::Room));
+/// assert_eq!(room, [7, 7, 7]);
+/// assert_eq!(otzarvim::solve(&graph, 0, &mut room), Ok(Rounds::Spent { count: 0 }));
+/// assert_eq!(room, [INFINITE, 0, 7]);
+/// assert_eq!(otzarvim::solve(&graph, 1, &mut room), Ok(Rounds::Settled { count: 1 }));
+/// assert_eq!(room, [0, 0, 7]);
+/// ```
+pub fn solve(message: &[u8], budget: u32, room: &mut [u64]) -> Result<Rounds, Refusal> {
+    let mut count = 0;
+    // SAFETY: two slices, of which the room is lent to this function alone, and a number of its own. The function is proved to read
+    // and write only these.
+    let number = unsafe {
+        foreign::otzarvim_rounds_solve(message.as_ptr(), message.len(), budget, room.as_mut_ptr(), room.len(), &mut count)
+    };
+    match number {
+        0 => Ok(Rounds::Settled { count }),
+        1 => Ok(Rounds::Spent { count }),
+        number => Err(Refusal::of(number)),
+    }
+}
+
+/// The settled values of a graph message, `None` for infinity: checks it, and lends [`solve`] a room and a budget that suffice.
+///
+/// ```
+/// // Node 0 has a hyperedge to node 1 of weight 4294967295; node 1 one without targets; node 2 none.
+/// let graph = [
+///     0, 0, 0, 28, 1, 1, 0, 3, 0, 0, 0, 2, 0, 0, //
+///     0, 0, 0, 1, 255, 255, 255, 255, 0, 1, 0, 1, 0, 0,
+/// ];
+/// assert_eq!(otzarvim::settled(&graph), Ok(vec![Some(4294967295), Some(0), None]));
+/// ```
+pub fn settled(message: &[u8]) -> Result<Vec<Option<u64>>, Refusal> {
+    let graph = check_graph(message)?;
+    let nodes = graph.nodes as usize;
+    let mut room = vec![0; 2 * nodes];
+    solve(message, graph.enough(), &mut room)?;
+    Ok(room[..nodes].iter().map(|&stored| (stored != INFINITE).then_some(stored)).collect())
+}
+
+/// Writes the text of a formula message, whose propositions must be below a number of them, to the front of a room; [`MOST_TEXT`]
+/// bytes always suffice, and those past the text stay.
+///
+/// ```
+/// use otzarvim::Refusal;
+///
+/// let formula = [0, 0, 0, 15, 1, 3, 1, 3, 7, 0, 0, 0, 0, 0, 0];
+/// let mut room = [0; 3];
+/// assert_eq!(otzarvim::text(&formula, 32, &mut room[..2]), Err(Refusal::Room));
+/// assert_eq!(otzarvim::text(&formula, 32, &mut room), Ok("!p7"));
+/// ```
+pub fn text<'a>(message: &[u8], propositions: u32, room: &'a mut [u8]) -> Result<&'a str, Refusal> {
+    let mut length = 0;
+    // SAFETY: as for solve.
+    let number = unsafe {
+        foreign::otzarvim_formula_text(message.as_ptr(), message.len(), propositions, room.as_mut_ptr(), room.len(), &mut length)
+    };
+    match number {
+        0 => Ok(std::str::from_utf8(&room[..length]).expect("the library writes ASCII")),
+        number => Err(Refusal::of(number)),
+    }
+}
+
+/// The text of a formula message, as [`text`] writes it.
+///
+/// ```
+/// // p0, p1, E[row 0 U<=2 row 1]
+/// let formula = [
+///     0, 0, 0, 31, 1, 3, 3, //
+///     2, 0, 0, 0, 0, 0, 0, 0, //
+///     2, 1, 0, 0, 0, 0, 0, 0, //
+///     8, 0, 1, 0, 0, 0, 0, 2,
+/// ];
+/// assert_eq!(otzarvim::text_of(&formula, 2).as_deref(), Ok("E[p0 U<=2 p1]"));
+/// ```
+pub fn text_of(message: &[u8], propositions: u32) -> Result<String, Refusal> {
+    text(message, propositions, &mut [0; MOST_TEXT]).map(str::to_owned)
+}

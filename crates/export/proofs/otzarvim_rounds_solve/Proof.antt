@@ -1,0 +1,27 @@
+-- `export::otzarvim_rounds_solve` meets its contract: the number and the count of how the rounds ended.
+use mathlib.Core.Path.{ap, _∙_}
+use borrow.Author.Needs.{needs}
+use Rattle.rounds.specs.Outcome.{outcomeNumber, outcomeCount}
+use Rattle.export.proofs.otzarvim_rounds_solve.Statement.{statement}
+use Rattle.export.proofs.otzarvim_rounds_solve.Tie as tie
+
+solve-requires : tie.Need-solve-requires
+solve-requires c κs = search needs
+
+count-requires : tie.Need-count-requires
+count-requires c κs = search needs
+
+number-requires : tie.Need-number-requires
+number-requires c κs = search needs
+
+same-length : tie.Need-same-length
+same-length c = search needs
+
+returns : tie.Need-returns
+returns c =
+    let solved = c .before .before .before .before .solve .ensures in
+    (c .number .ensures ∙ ap outcomeNumber (solved .0), (solved .1 .0, c .before .count .ensures ∙ ap outcomeCount (solved .0)))
+
+pub otzarvim-rounds-solve-spec : {M : Type 1} → statement M
+otzarvim-rounds-solve-spec =
+    tie.close (tie.spec solve-requires count-requires number-requires same-length returns)

@@ -1,0 +1,65 @@
+-- `export::otzarvim_verdict` meets its contract: each part of the answer, and both rooms.
+use mathlib.Core.Path.{ap, _∙_}
+use borrow.Author.Needs.{needs}
+use Rattle.verdict.specs.Answer.{answerNumber, answerVerdict, answerCount, answerLength}
+use Rattle.export.specs.Verdicts.{verdictNumber}
+use Rattle.export.proofs.otzarvim_verdict.Statement.{statement}
+use Rattle.export.proofs.otzarvim_verdict.Tie as tie
+
+decide-requires : tie.Need-decide-requires
+decide-requires c κs = search needs
+
+verdict-requires : tie.Need-verdict-requires
+verdict-requires c κs = search needs
+
+verdict-number-requires : tie.Need-verdict-number-requires
+verdict-number-requires c κs = search needs
+
+count-requires : tie.Need-count-requires
+count-requires c κs = search needs
+
+length-requires : tie.Need-length-requires
+length-requires c κs = search needs
+
+number-requires : tie.Need-number-requires
+number-requires c κs = search needs
+
+same-length : tie.Need-same-length
+same-length c = search needs
+
+same-length-2 : tie.Need-same-length-2
+same-length-2 c = search needs
+
+returns : tie.Need-returns
+returns c =
+    let length = c .before in
+    let count = length .before in
+    let number = count .before in
+    let verdict = number .before in
+    let answer = verdict .before .before .before .before .before .decide .ensures in (
+      c .number .ensures ∙ ap answerNumber (answer .0),
+      (
+        answer .1 .0,
+        (
+          answer .1 .1 .0,
+          (
+            number .verdict-number .ensures ∙ ap verdictNumber (verdict .verdict .ensures ∙ ap answerVerdict (answer .0)),
+            (count .count .ensures ∙ ap answerCount (answer .0), length .length .ensures ∙ ap answerLength (answer .0)),
+          ),
+        ),
+      ),
+    )
+
+pub otzarvim-verdict-spec : {M : Type 1} → statement M
+otzarvim-verdict-spec =
+    tie.close
+    (tie.spec
+    decide-requires
+    verdict-requires
+    verdict-number-requires
+    count-requires
+    length-requires
+    number-requires
+    same-length
+    same-length-2
+    returns)

@@ -1,0 +1,182 @@
+// The library for programs in C and Rust (include/otzarvim.h): numbers and slices in, the paper's number out, further results
+// in numbers that the caller lends. No function has a `requires`: any bytes and any lengths will do.
+ghost use mathlib.Core.Path.{_≡_};
+ghost use Rattle.graph.specs.Message.{readGraph};
+ghost use Rattle.graph.specs.Answers as g;
+ghost use Rattle.model.specs.Message.{readModel};
+ghost use Rattle.model.specs.Answers as m;
+ghost use Rattle.formula.specs.Message.{readFormula};
+ghost use Rattle.formula.specs.Answers as f;
+ghost use Rattle.rounds.specs.Outcome as rounds;
+ghost use Rattle.text.specs.Written as text;
+ghost use Rattle.verdict.specs.Question.{readQuestion, readAsked};
+ghost use Rattle.verdict.specs.Answer as v;
+ghost use Rattle.export.specs.Counts.{graphCounts, modelCounts, formulaCount};
+ghost use Rattle.export.specs.Verdicts.{verdictNumber, asked, settled, settledStates};
+use refusal::Refusal;
+use verdict::Settled;
+use verdict::Verdict;
+
+// Checks a graph message; lends back its nodes, hyperedges and cover edges.
+#[no_mangle]
+pub extern "C" fn otzarvim_graph_check(message: &[u8], counts: &mut [u32; 3]) -> u8
+    ensures { λ r. ⌜ r ≡ g.checkedNumber (g.checked (readGraph (now (message .entry)))) ⌝ }
+    ensures { λ _. ⌜ now (counts .exit) ≡ graphCounts (g.checked (readGraph (now (message .entry)))) (now (counts .entry)) ⌝ }
+{
+    match graph::check(message) {
+        graph::Checked::Graph(n, h, c) => {
+            *counts = [n, h, c];
+            0
+        }
+        graph::Checked::Refused(e) => e.number(),
+    }
+}
+
+// Checks a model message; lends back its states, propositions and transitions.
+#[no_mangle]
+pub extern "C" fn otzarvim_model_check(message: &[u8], counts: &mut [u32; 3]) -> u8
+    ensures { λ r. ⌜ r ≡ m.checkedNumber (m.checked (readModel (now (message .entry)))) ⌝ }
+    ensures { λ _. ⌜ now (counts .exit) ≡ modelCounts (m.checked (readModel (now (message .entry)))) (now (counts .entry)) ⌝ }
+{
+    match model::check(message) {
+        model::Checked::Model(s, p, t) => {
+            *counts = [s, p, t];
+            0
+        }
+        model::Checked::Refused(e) => e.number(),
+    }
+}
+
+// Checks a formula message whose propositions are below p; lends back its rows.
+#[no_mangle]
+pub extern "C" fn otzarvim_formula_check(message: &[u8], p: u32, rows: &mut u32) -> u8
+    ensures { λ r. ⌜ r ≡ f.checkedNumber (f.checked (readFormula p (now (message .entry)))) ⌝ }
+    ensures { λ _. ⌜ now (rows .exit) ≡ formulaCount (f.checked (readFormula p (now (message .entry)))) (now (rows .entry)) ⌝ }
+{
+    match formula::check(message, p) {
+        formula::Checked::Formula(count) => {
+            *rows = count;
+            0
+        }
+        formula::Checked::Refused(e) => e.number(),
+    }
+}
+
+// Runs the rounds on a graph message; lends back the count of rounds.
+#[no_mangle]
+pub extern "C" fn otzarvim_rounds_solve(
+    message: &[u8],
+    budget: u32,
+    room: &mut [u64],
+    count: &mut u32,
+) -> u8
+    ensures { λ r. ⌜ r ≡ rounds.outcomeNumber (rounds.outcomeOf (readGraph (now (message .entry))) budget (now (room .entry))) ⌝ }
+    ensures { λ _. ⌜ now (room .exit) ≡ rounds.roomOf (readGraph (now (message .entry))) budget (now (room .entry)) ⌝ }
+    ensures { λ _. ⌜ now (count .exit) ≡ rounds.outcomeCount (rounds.outcomeOf (readGraph (now (message .entry))) budget (now (room .entry))) ⌝ }
+{
+    let outcome = rounds::solve(message, budget, room);
+    *count = outcome.count();
+    outcome.number()
+}
+
+// Writes the text of a formula message whose propositions are below p; lends back its length.
+#[no_mangle]
+pub extern "C" fn otzarvim_formula_text(
+    message: &[u8],
+    p: u32,
+    room: &mut [u8],
+    length: &mut usize,
+) -> u8
+    ensures { λ r. ⌜ r ≡ text.writtenNumber (text.writtenOf (readFormula p (now (message .entry))) (now (room .entry))) ⌝ }
+    ensures { λ _. ⌜ now (room .exit) ≡ text.roomOf (readFormula p (now (message .entry))) (now (room .entry)) ⌝ }
+    ensures { λ _. ⌜ now (length .exit) ≡ text.writtenLength (text.writtenOf (readFormula p (now (message .entry))) (now (room .entry))) ⌝ }
+{
+    let written = text::text(message, p, room);
+    *length = written.length();
+    written.number()
+}
+
+// The number of a verdict.
+fn verdict_number(verdict: Verdict) -> u8
+    ensures { λ r. ⌜ r ≡ verdictNumber verdict ⌝ }
+{
+    match verdict {
+        Verdict::None => 0,
+        Verdict::Yes => 1,
+        Verdict::No => 2,
+    }
+}
+
+// The verdict on a state; lends back the verdict's number, the count of rounds and the length of the graph.
+#[no_mangle]
+pub extern "C" fn otzarvim_verdict(
+    model: &[u8],
+    formula: &[u8],
+    state: u32,
+    budget: u32,
+    bytes: &mut [u8],
+    values: &mut [u64],
+    verdict: &mut u8,
+    count: &mut u32,
+    length: &mut usize,
+) -> u8
+    ensures { λ r. ⌜ r ≡ v.answerNumber (asked (now (model .entry)) (now (formula .entry)) state budget (now (bytes .entry)) (now (values .entry))) ⌝ }
+    ensures { λ _. ⌜ now (bytes .exit) ≡ v.bytesOf (readAsked (now (model .entry)) (now (formula .entry)) state) (now (bytes .entry)) (now (values .entry)) ⌝ }
+    ensures { λ _. ⌜ now (values .exit) ≡ v.valuesOf (readAsked (now (model .entry)) (now (formula .entry)) state) budget (now (bytes .entry))
+        (now (values .entry)) ⌝ }
+    ensures { λ _. ⌜ now (verdict .exit) ≡ verdictNumber (v.answerVerdict (asked (now (model .entry)) (now (formula .entry)) state budget
+        (now (bytes .entry)) (now (values .entry)))) ⌝ }
+    ensures { λ _. ⌜ now (count .exit) ≡ v.answerCount (asked (now (model .entry)) (now (formula .entry)) state budget (now (bytes .entry))
+        (now (values .entry))) ⌝ }
+    ensures { λ _. ⌜ now (length .exit) ≡ v.answerLength (asked (now (model .entry)) (now (formula .entry)) state budget (now (bytes .entry))
+        (now (values .entry))) ⌝ }
+{
+    let answer = verdict::decide(model, formula, state, budget, bytes, values);
+    *verdict = verdict_number(answer.verdict());
+    *count = answer.count();
+    *length = answer.length();
+    answer.number()
+}
+
+// All states at once; lends back the count of rounds, the length of the graph, the place of state 0's number and how many states there are, where it settled.
+#[no_mangle]
+pub extern "C" fn otzarvim_settle(
+    model: &[u8],
+    formula: &[u8],
+    budget: u32,
+    bytes: &mut [u8],
+    values: &mut [u64],
+    count: &mut u32,
+    length: &mut usize,
+    states: &mut [u32; 2],
+) -> u8
+    ensures { λ r. ⌜ r ≡ v.settledNumber (settled (now (model .entry)) (now (formula .entry)) budget (now (bytes .entry)) (now (values .entry))) ⌝ }
+    ensures { λ _. ⌜ now (bytes .exit) ≡ v.bytesOf (readQuestion (now (model .entry)) (now (formula .entry))) (now (bytes .entry)) (now (values .entry)) ⌝ }
+    ensures { λ _. ⌜ now (values .exit) ≡ v.valuesOf (readQuestion (now (model .entry)) (now (formula .entry))) budget (now (bytes .entry))
+        (now (values .entry)) ⌝ }
+    ensures { λ _. ⌜ now (count .exit) ≡ v.settledCount (settled (now (model .entry)) (now (formula .entry)) budget (now (bytes .entry))
+        (now (values .entry))) ⌝ }
+    ensures { λ _. ⌜ now (length .exit) ≡ v.settledLength (settled (now (model .entry)) (now (formula .entry)) budget (now (bytes .entry))
+        (now (values .entry))) ⌝ }
+    ensures { λ _. ⌜ now (states .exit) ≡ settledStates (settled (now (model .entry)) (now (formula .entry)) budget (now (bytes .entry))
+        (now (values .entry))) (now (states .entry)) ⌝ }
+{
+    match verdict::settle(model, formula, budget, bytes, values) {
+        Settled::Done(rounds, long, first, many) => {
+            *count = rounds;
+            *length = long;
+            *states = [first, many];
+            0
+        }
+        Settled::Spent(rounds, long) => {
+            *count = rounds;
+            *length = long;
+            Refusal::Budget.number()
+        }
+        Settled::Refused(e) => {
+            *count = 0;
+            *length = 0;
+            e.number()
+        }
+    }
+}

@@ -1,0 +1,128 @@
+/*
+ * Otzarvim: a proved checker for weighted CTL with upper bounds.
+ *
+ * Link with libotzarvim.a (bindings/check.sh makes it, for x86-64 Linux).
+ *
+ * Every function is proved, and asks nothing of what it is handed but that each pointer and its length
+ * name memory that is really there. Any bytes are safe: a message that is not well-formed is refused,
+ * and the number says what the first fault is. No function keeps anything between calls, allocates, or
+ * writes anywhere but into what it is lent; 16 KiB of stack suffice; two threads may call at once. Memory that is lent to be
+ * written must not overlap anything else that the same call is lent. Where a length is 0, its pointer
+ * is not used and may be null.
+ *
+ * Every function returns one of the numbers below. Numbers that are lent for results (counts, rows,
+ * count, length) are always written; with a refusal they are 0, but for the count of OTZARVIM_BUDGET.
+ * A room is written only with OTZARVIM_OK, and with OTZARVIM_BUDGET: any other answer leaves it as it
+ * came.
+ */
+#ifndef OTZARVIM_H
+#define OTZARVIM_H
+
+#include <stddef.h>
+#include <stdint.h>
+
+#ifdef __cplusplus
+extern "C" {
+#endif
+
+/* The numbers that every function returns. */
+enum {
+    OTZARVIM_OK = 0,      /* no other number applies */
+    OTZARVIM_BUDGET = 1,  /* the count of rounds is greater than the budget */
+    OTZARVIM_LENGTH = 2,  /* too few bytes, a wrong length field, or bytes left over */
+    OTZARVIM_VERSION = 3, /* wrong version or kind byte */
+    OTZARVIM_LIMIT = 4,   /* a count outside its limits, or a p above OTZARVIM_MOST_PROPOSITIONS */
+    OTZARVIM_ORDER = 5,   /* a source (or from) below the one before it in the same list */
+    OTZARVIM_NAME = 6,    /* a node, state, proposition or operand that doesn't exist */
+    OTZARVIM_DEAD = 7,    /* a state with no transition */
+    OTZARVIM_SIZE = 8,    /* the graph to be built would pass a limit */
+    OTZARVIM_ROOM = 9,    /* a lent room is too small */
+    OTZARVIM_FORM = 10    /* a formula or label that breaks the rules */
+};
+
+/* The stored value of a node that no finite number bounds. */
+#define OTZARVIM_INFINITE UINT64_MAX
+
+/* The bound, in a message, that means no bound. */
+#define OTZARVIM_NO_BOUND UINT32_MAX
+
+/* The limits on counts. */
+enum {
+    OTZARVIM_MOST_NODES = 4096,
+    OTZARVIM_MOST_HYPEREDGES = 65535,
+    OTZARVIM_MOST_TARGETS = 262144, /* of all hyperedges together; 65,535 of one */
+    OTZARVIM_MOST_COVERS = 4096,
+    OTZARVIM_MOST_STATES = 256,
+    OTZARVIM_MOST_PROPOSITIONS = 32,
+    OTZARVIM_MOST_TRANSITIONS = 65535,
+    OTZARVIM_MOST_ROWS = 64
+};
+
+/* The text of a formula has at most so many bytes. */
+#define OTZARVIM_MOST_TEXT 2048
+
+/*
+ * Checks a graph message (kind 1).
+ *
+ *   message, message_length   the bytes; only read
+ *   counts                    gets the nodes, the hyperedges and the cover edges
+ *
+ * Returns OK, LENGTH, VERSION, LIMIT, ORDER or NAME: the first fault in the message's own order.
+ */
+uint8_t otzarvim_graph_check(const uint8_t *message, size_t message_length, uint32_t counts[3]);
+
+/*
+ * Checks a model message (kind 2).
+ *
+ *   message, message_length   the bytes; only read
+ *   counts                    gets the states, the propositions and the transitions
+ *
+ * Returns OK, LENGTH, VERSION, LIMIT, FORM, ORDER, NAME or DEAD: the first fault in the message's own order.
+ */
+uint8_t otzarvim_model_check(const uint8_t *message, size_t message_length, uint32_t counts[3]);
+
+/*
+ * Checks a formula message (kind 3) whose propositions must be below p.
+ *
+ *   message, message_length   the bytes; only read
+ *   p                         how many propositions there are; above 32 is LIMIT, before any byte is read
+ *   rows                      gets the rows
+ *
+ * Returns OK, LENGTH, VERSION, LIMIT, NAME or FORM: the first fault in the message's own order.
+ */
+uint8_t otzarvim_formula_check(const uint8_t *message, size_t message_length, uint32_t p, uint32_t *rows);
+
+/*
+ * Runs the rounds on a graph message of n nodes, until a round changes nothing or the budget is spent.
+ *
+ *   message, message_length   the bytes; only read
+ *   budget                    how many rounds at most; n * (c + 1) always suffices, with c cover edges
+ *   room, room_length         so many numbers; below 2n is ROOM
+ *   count                     gets m, the smaller of the budget and the first round that the next repeats
+ *
+ * With OK and BUDGET the first n numbers of the room hold round m, the next n round m + 1, and the
+ * others stay. With OK both are the settled values: the largest that obey the graph's rules.
+ *
+ * Returns OK, BUDGET, ROOM, or what otzarvim_graph_check returns of the message.
+ */
+uint8_t otzarvim_rounds_solve(const uint8_t *message, size_t message_length, uint32_t budget,
+                              uint64_t *room, size_t room_length, uint32_t *count);
+
+/*
+ * Writes the text of a formula message whose propositions must be below p, as E[p0 U<=2 p1].
+ *
+ *   message, message_length   the bytes; only read
+ *   p                         as for otzarvim_formula_check
+ *   room, room_length         so many bytes; OTZARVIM_MOST_TEXT always suffices; no 0 is added at the end
+ *   length                    gets how many bytes were written
+ *
+ * Returns OK, ROOM, or what otzarvim_formula_check returns of the message.
+ */
+uint8_t otzarvim_formula_text(const uint8_t *message, size_t message_length, uint32_t p,
+                              uint8_t *room, size_t room_length, size_t *length);
+
+#ifdef __cplusplus
+}
+#endif
+
+#endif
