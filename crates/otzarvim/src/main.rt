@@ -6,10 +6,8 @@ use libc::STDOUT_FILENO;
 // One byte more than the longest input is read, so that a longer one shows.
 fn main() {
     let mut input = [0u8; 8193];
-    let mut bytes = [0u8; 65536];
-    let mut values = [0u64; 8192];
     let mut out = [0u8; 8192];
     let got = io::read_full(STDIN_FILENO, &mut input);
-    let len = report::report(&input[..got], &mut bytes, &mut values, &mut out);
+    let len = report::program(&input[..got], &mut out);
     io::write_all(STDOUT_FILENO, &out[..len]);
 }

@@ -2,7 +2,7 @@
 use Prim.Native.Nat.{ℕ}
 use mathlib.Core.List.{List, _++_}
 use mathlib.Core.Bool.{cond}
-use lib.ListN.{length, take, drop}
+use lib.ListN.{length, take, drop, replicate}
 use lib.Dec.{leb}
 use Rattle.lists.specs.Making.{span}
 use Rattle.refusal.specs.declared.Refusal.the-variants.{Length, Budget}
@@ -71,3 +71,10 @@ reportBytes x b v o = cond (leb 8192 (length o)) (bytesOf x b v) b
 
 unfoldable pub reportValues : Read Question → (bytes values out : List ℕ) → List ℕ
 reportValues x b v o = cond (leb 8192 (length o)) (leftOf x b v) v
+
+-- the rooms of the program: 65,536 bytes and 8,192 numbers, all zero
+unfoldable pub zeroBytes : List ℕ
+zeroBytes = replicate 65536 0
+
+unfoldable pub zeroValues : List ℕ
+zeroValues = replicate 8192 0

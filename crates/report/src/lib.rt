@@ -8,7 +8,7 @@ ghost use Rattle.verdict.specs.Question.{readQuestion};
 ghost use Rattle.verdict.specs.Answer.{bytesOf};
 ghost use Rattle.report.specs.Lines.{refusedLine, roundsLine, stateLine, statesLines, textIn, endedLines};
 ghost use Rattle.formula.specs.Message.{readFormula};
-ghost use Rattle.report.specs.Output.{readCut, cutOf, readInput, outputOf, leftOf, reportLength, reportOut, reportBytes, reportValues};
+ghost use Rattle.report.specs.Output.{readCut, cutOf, readInput, outputOf, leftOf, reportLength, reportOut, reportBytes, reportValues, zeroBytes, zeroValues};
 use refusal::Refusal;
 use verdict::Settled;
 use wire::Field;
@@ -145,4 +145,15 @@ pub fn report(input: &[u8], bytes: &mut [u8], values: &mut [u64], out: &mut [u8]
         Cut::Refused(e) => put_refused(out, e),
         Cut::At(k) => answer(&input[..k], &input[k..], bytes, values, out),
     }
+}
+
+// The same with rooms of the program's own: 65,536 bytes and 8,192 numbers, all zero.
+pub fn program(input: &[u8], out: &mut [u8]) -> usize
+    ensures { λ r. ⌜ r ≡ reportLength (readInput (now (input .entry))) zeroBytes zeroValues (now (out .entry)) ⌝ }
+    ensures { λ _. ⌜ now (out .exit) ≡ reportOut (readInput (now (input .entry))) zeroBytes zeroValues (now (out .entry)) ⌝ }
+    ensures { λ r. ⌜ Counts r (now (out .exit)) ⌝ }
+{
+    let mut bytes = [0u8; 65536];
+    let mut values = [0u64; 8192];
+    report(input, &mut bytes, &mut values, out)
 }
