@@ -1,5 +1,5 @@
 -- The edges of a node of an accepted model, from its state's transitions, and what a builder of them may rely on. Assumes nothing.
-use Prim.Native.Nat.{ℕ, suc, _+_, _*_, _-_, _<_, _≤_}
+use Prim.Native.Nat.{ℕ, suc, _+_, _*_, _<_, _≤_}
 use mathlib.Core.List.{List, [], _∷_, _++_, map, map-map}
 use mathlib.Core.Path.{_≡_, refl, ap, _∙_}
 use native.Mathlib.Nat.{mul-le-mul-left, mul-suc}
@@ -12,9 +12,7 @@ use Rattle.lists.proofs.Making.{∈-keep}
 use Rattle.lists.proofs.Kept.{keep-map}
 use Rattle.value.specs.declared.Bound.{Bound}
 use Rattle.value.specs.Value.{inside}
-use Rattle.wire.specs.Layout.{items}
 use Rattle.wire.specs.Write.{writeAll}
-use Rattle.wire.proofs.Layouts.{items-more}
 use Rattle.rules.specs.Graph.{Target}
 use Rattle.graph.specs.Write.{writeHyper}
 use Rattle.model.specs.Model.{Model, Transition}
@@ -105,10 +103,3 @@ module _ {f : List ℕ} {k p : ℕ} (h : HoldsRows f k p) where
   row-fits n r fits l =
       let below : n * suc r ≤ n * k = mul-le-mul-left n l in
       record { node = omega (arith, rw mul-suc at below); operands = h .well-formed .earlier r (row-placed r l) }
-
-  -- a loop over rows: the one at a position, and those behind it
-  pub rows-left : (r : ℕ) → r < k → items (rowLayout f) (k - r) (7 + r * 8) ≡ rowAt f (7 + r * 8) ∷ items (rowLayout f) (k - (r + 1)) (7 + (r + 1) * 8)
-  rows-left r l =
-      let left : k - r - 1 ≡ k - (r + 1) = omega arith in
-      let next : 7 + r * 8 + 8 ≡ 7 + (r + 1) * 8 = omega arith in
-      items-more (rowLayout f) (k - r) (7 + r * 8) (omega arith) ∙ rw (left, next)

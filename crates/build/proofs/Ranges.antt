@@ -14,10 +14,10 @@ use Rattle.lists.specs.Order.{RisingFrom}
 use Rattle.lists.proofs.Tests.{by-test}
 use Rattle.wire.specs.Bytes.{number}
 use Rattle.wire.specs.Layout.{items}
-use Rattle.wire.proofs.Layouts.{items-more, items-length}
+use Rattle.wire.proofs.Layouts.{items-length}
 use Rattle.model.specs.Model.{Transition}
 use Rattle.build.specs.Held.{transitionLayout, transitionsFrom, leading, Starts, Own}
-use Rattle.build.proofs.Stride.{items-take, items-drop}
+use Rattle.build.proofs.Stride.{items-take, items-drop, items-left}
 
 -- the transitions of a state
 abbrev pub of : ℕ → List Transition → List Transition
@@ -80,10 +80,7 @@ leading-other a c (u ∷ us) h =
 
 module _ (m : List ℕ) (n t a i : ℕ) (h : i < t) where
   here : transitionsFrom m n i (t - i) ≡ transitionLayout m .item (13 + n * 4 + i * 8) ∷ transitionsFrom m n (i + 1) (t - (i + 1))
-  here =
-      let left : t - i - 1 ≡ t - (i + 1) = omega arith in
-      let next : 13 + n * 4 + i * 8 + 8 ≡ 13 + n * 4 + (i + 1) * 8 = omega arith in
-      items-more (transitionLayout m) (t - i) (13 + n * 4 + i * 8) (omega arith) ∙ rw (left, next)
+  here = items-left (transitionLayout m) 8 (λ at. refl) (13 + n * 4) t i h
 
   -- one more that leaves state a, and one that doesn't
   pub leading-more : number 2 m (13 + n * 4 + i * 8) ≡ a → leading a (transitionsFrom m n i (t - i)) ≡ 1 + leading a (transitionsFrom m n (i + 1) (t - (i + 1)))

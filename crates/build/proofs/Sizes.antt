@@ -25,6 +25,7 @@ use Rattle.build.specs.declared.Size.{Size}
 use Rattle.build.specs.Size.{noSize, addSize, sizeOf, stateEdges, rowsEdges, leafEdges, nextSize, stepSize, helperSize}
 use Rattle.build.specs.Bytes.{Narrow}
 use Rattle.build.proofs.Spans.{span-more}
+use Rattle.build.proofs.Untils.{other-row, by-row}
 
 -- ---- sums of sizes
 
@@ -125,19 +126,16 @@ next-size M Every l b a = let n = length-map (near M b a) (λ (t : Target). to 0
 -- a helper, from the number of transitions; where it stands does not matter
 pub helper-size : (M : Model) (row : Row) (h a : ℕ) → sizeOf (helperEdges M row h a) ≡ helperSize row (length (out M a))
 unfolding sizeOf
-helper-size M True h a = refl
-helper-size M False h a = refl
-helper-size M (Proposition i) h a = refl
-helper-size M (Negation i) h a = refl
-helper-size M (And l r) h a = refl
-helper-size M (Or l r) h a = refl
-helper-size M (Next q l b) h a = refl
-helper-size M (Until Some l r b) h a =
-    let n = length (out M a) in
-    let most : max 1 (cond (ltb n 1) 0 2) ≡ cond (ltb n 1) 1 2 = by-test (ltb n 1) (λ e. rw e) (λ e. rw e) in
-    ap (addSize (record { hypers = 1; targets = 1; most = 1 })) (size-map _ 2 (λ t. refl) (out M a)) ∙ same refl (omega arith) most
-helper-size M (Until Every l r b) h a =
-    let n = length-map (out M a) (λ (t : Target). to (t .weight) (t .node + M .states * h)) in same refl (omega arith) (omega arith)
+helper-size M row h a = by-row (λ row. sizeOf (helperEdges M row h a) ≡ helperSize row n) until (λ row e. ap sizeOf (other-row row _ [] e) ∙ sym (other-row row _ noSize e)) row
+  where
+    n : ℕ
+    n = length (out M a)
+
+    until : (q : Quantifier) (l r : ℕ) (b : Bound) → sizeOf (helperEdges M (Until q l r b) h a) ≡ stepSize q n
+    until Some l r b =
+        let most : max 1 (cond (ltb n 1) 0 2) ≡ cond (ltb n 1) 1 2 = by-test (ltb n 1) (λ e. rw e) (λ e. rw e) in
+        ap (addSize (record { hypers = 1; targets = 1; most = 1 })) (size-map _ 2 (λ t. refl) (out M a)) ∙ same refl (omega arith) most
+    until Every l r b = let k = length-map (out M a) (λ (t : Target). to (t .weight) (t .node + M .states * h)) in same refl (omega arith) (omega arith)
 
 -- both together, from the two
 pub state-size : (M : Model) (row : Row) (a : ℕ) {many : ℕ} {own helper : Size} → length (out M a) ≡ many → own ≡ sizeOf (rowEdges M row a) → helper ≡ helperSize row many
@@ -192,14 +190,8 @@ module _ (M : Model) (few : length (M .transitions) ≤ 65535) where
   step-small Every a = omega (arith, out-few a)
 
   helper-small : (row : Row) (a : ℕ) → Small 131071 (helperSize row (length (out M a)))
-  helper-small True a = omega arith
-  helper-small False a = omega arith
-  helper-small (Proposition i) a = omega arith
-  helper-small (Negation i) a = omega arith
-  helper-small (And l r) a = omega arith
-  helper-small (Or l r) a = omega arith
-  helper-small (Next q l b) a = omega arith
-  helper-small (Until q l r b) a = step-small q a
+  helper-small row a =
+      by-row (λ row. Small 131071 (helperSize row (length (out M a)))) (λ q l r b. step-small q a) (λ row e. rw (other-row row (λ q l r b. stepSize q (length (out M a))) noSize e) (omega arith)) row
 
   state-small : (row : Row) (a : ℕ) → Small 262144 (sizeOf (stateEdges M row a))
   state-small row a = let here = row-small row a in let helper = helper-small row a in rw (state-size M row a refl refl refl) (omega arith)
@@ -266,15 +258,11 @@ few-narrow M rows {row} few small m a l =
     let k = ∈-keep isUntil rows m in
     let part = part-state M rows (k .0) a l in
     let is = state-size M row a refl refl refl in
-    until-few row (k .1) (rw is at part)
+    by-row (λ row. isUntil row ≡ true → Within row → length (out M a) < 65535) until-few (λ row e t p. clash t e) row (k .1) (rw is at part)
   where
-    until-few : (row : Row) → isUntil row ≡ true → addSize (sizeOf (rowEdges M row a)) (helperSize row (length (out M a))) ⊑ sizeOf (rowsEdges M rows) → length (out M a) < 65535
-    until-few True e p = clash e refl
-    until-few False e p = clash e refl
-    until-few (Proposition i) e p = clash e refl
-    until-few (Negation i) e p = clash e refl
-    until-few (And l r) e p = clash e refl
-    until-few (Or l r) e p = clash e refl
-    until-few (Next q l b) e p = clash e refl
-    until-few (Until Some l r b) e p = omega (arith, p .hypers, few)
-    until-few (Until Every l r b) e p = omega (arith, p .most, small)
+    Within : Row → Type 0
+    Within row = addSize (sizeOf (rowEdges M row a)) (helperSize row (length (out M a))) ⊑ sizeOf (rowsEdges M rows)
+
+    until-few : (q : Quantifier) (l r : ℕ) (b : Bound) → true ≡ true → Within (Until q l r b) → length (out M a) < 65535
+    until-few Some l r b e p = omega (arith, p .hypers, few)
+    until-few Every l r b e p = omega (arith, p .most, small)

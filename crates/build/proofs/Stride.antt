@@ -1,13 +1,13 @@
--- Records of one width by position: one by its index, the first so many and the rest. Assumes nothing.
+-- Records of one width by position: one by its index, the first so many and the rest, the turns of a loop that counts up. Assumes nothing.
 use Prim.Native.Nat.{ℕ, zero, suc, _+_, _*_, _-_, _<_, _≤_}
-use mathlib.Core.List.{_++_}
+use mathlib.Core.List.{_∷_, _++_}
 use mathlib.Core.Option.{some}
 use mathlib.Core.Path.{_≡_, ap, _∙_}
 use native.Mathlib.Nat.{not-suc-le-zero, suc-add, zero-add}
 use native.Mathlib.Omega.{arith}
 use lib.ListN.{getD, getElem?, take, drop}
 use lib.Seq.{take-at, drop-at}
-use Rattle.wire.proofs.Layouts.{items-length}
+use Rattle.wire.proofs.Layouts.{items-more, items-length}
 use Rattle.wire.specs.Layout.{Layout, items}
 
 -- each record is w long
@@ -45,3 +45,10 @@ module _ {A : Type 0} (L : Layout A) (w : ℕ) (wide : (at : ℕ) → L .next at
   items-drop i k at h =
       let parts : k ≡ i + (k - i) = omega arith in
       ap (λ (j : ℕ). drop i (items L j at)) parts ∙ ap (drop i) (items-append i (k - i) at) ∙ drop-at (items L i at) _ i (items-length L i at)
+
+  -- a loop that counts up: the one at its place, and those behind it
+  pub items-left : (base k i : ℕ) → i < k → items L (k - i) (base + i * w) ≡ L .item (base + i * w) ∷ items L (k - (i + 1)) (base + (i + 1) * w)
+  items-left base k i h =
+      let left : k - i - 1 ≡ k - (i + 1) = omega arith in
+      let there : base + i * w + w ≡ base + (i + 1) * w = omega arith in
+      items-more L (k - i) (base + i * w) (omega arith) ∙ rw (wide, left, there)

@@ -23,20 +23,6 @@ other-row (Or l r) f x e = refl
 other-row (Next q l b) f x e = refl
 other-row (Until q l r b) f x e = clash refl e
 
--- the tags of the others, and what a match knows in their arm
-abbrev pub others : List ℕ
-others = 0 ∷ 1 ∷ 2 ∷ 3 ∷ 4 ∷ 5 ∷ 6 ∷ []
-
-pub other-tag : (row : Row) → OneOf others (tagOf (declared enum) row) → isUntil row ≡ false
-other-tag True e = refl
-other-tag False e = refl
-other-tag (Proposition i) e = refl
-other-tag (Negation i) e = refl
-other-tag (And l r) e = refl
-other-tag (Or l r) e = refl
-other-tag (Next q l b) e = refl
-other-tag (Until q l r b) e = absurd (miss others 7 tt e)
-
 -- by whether a row is an until
 pub by-row : (C : Row → Type 0) → ((q : Quantifier) (l r : ℕ) (b : Bound) → C (Until q l r b)) → ((row : Row) → isUntil row ≡ false → C row) → (row : Row) → C row
 by-row C until other True = other True refl
@@ -47,3 +33,10 @@ by-row C until other (And l r) = other (And l r) refl
 by-row C until other (Or l r) = other (Or l r) refl
 by-row C until other (Next q l b) = other (Next q l b) refl
 by-row C until other (Until q l r b) = until q l r b
+
+-- the tags of the others, and what a match knows in their arm
+abbrev pub others : List ℕ
+others = 0 ∷ 1 ∷ 2 ∷ 3 ∷ 4 ∷ 5 ∷ 6 ∷ []
+
+pub other-tag : (row : Row) → OneOf others (tagOf (declared enum) row) → isUntil row ≡ false
+other-tag = by-row (λ row. OneOf others (tagOf (declared enum) row) → isUntil row ≡ false) (λ q l r b o. absurd (miss others 7 tt o)) (λ row e o. e)

@@ -19,11 +19,10 @@ use Rattle.graph.specs.WellFormed.{targetsOf}
 use Rattle.graph.specs.Write.{writeHyper, writeCover, writeBody, writeGraph}
 use Rattle.model.specs.Model.{Model}
 use Rattle.formula.specs.declared.Row.{Row}
-use Rattle.formula.specs.declared.Row.the-variants.{True, False, Proposition, Negation, And, Or, Next, Until}
 use Rattle.reduction.specs.Built.{rowEdges, helperEdges, isUntil, untils, rowCovers, layout, hyper, cover, Limit, graphOf}
 use Rattle.build.specs.declared.Size.{Size}
 use Rattle.build.specs.Size.{noSize, addSize, sizeOf, stateEdges, rowsEdges}
-use Rattle.build.proofs.Untils.{other-row}
+use Rattle.build.proofs.Untils.{other-row, by-row}
 use Rattle.build.proofs.Sizes.{none-add, add-swap, size-append, size-span, size-spans, helper-size}
 use Rattle.build.proofs.Edges.{hyper-length}
 use Rattle.build.proofs.Spans.{span-length, span-empty}
@@ -134,14 +133,9 @@ covers-length s f each r (row ∷ rows) =
     (by-test (isUntil row) (λ e. rw e (simp mul-suc (omega arith))) (λ e. rw e (omega arith)))
 
 row-covers : (M : Model) (rows : List Row) (row : Row) (r a : ℕ) → length (rowCovers M rows row r a) ≡ cond (isUntil row) 1 0
-row-covers M rows True r a = refl
-row-covers M rows False r a = refl
-row-covers M rows (Proposition i) r a = refl
-row-covers M rows (Negation i) r a = refl
-row-covers M rows (And l k) r a = refl
-row-covers M rows (Or l k) r a = refl
-row-covers M rows (Next q l b) r a = refl
-row-covers M rows (Until q l k b) r a = refl
+row-covers M rows row r a =
+    by-row (λ row. length (rowCovers M rows row r a) ≡ cond (isUntil row) 1 0) (λ q l k b. refl)
+    (λ row e. ap length (other-row row _ [] e) ∙ ap (λ (t : Bool). cond t 1 0) (sym e)) row
 
 pub covers-of-graph : (M : Model) (rows : List Row) → length (graphOf M rows .covers) ≡ M .states * length (untils rows)
 unfolding graphOf

@@ -1,4 +1,4 @@
--- Sums over lists put together, and over a number's bytes.
+-- Sums over lists put together, and over a number's bytes. Assumes nothing.
 use mathlib.Core.Path.{_≡_, refl}
 use mathlib.Core.List.{List, [], _∷_, _++_}
 use Prim.Native.Nat.{ℕ, zero, suc, _+_, _-_, _/_, _%_, _<_}

@@ -1,4 +1,4 @@
--- Filling a room from the front by a function of the place.
+-- Filling a room from the front by a function of the place. Assumes nothing.
 use Prim.Native.Nat.{ℕ, _+_, _≤_, _<_}
 use mathlib.Core.Path.{_≡_, refl, _∙_}
 use mathlib.Core.List.{List}

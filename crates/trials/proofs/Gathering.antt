@@ -1,4 +1,4 @@
--- A text of at most 64 bytes with more behind it.
+-- A text of at most 64 bytes with more behind it. Assumes nothing.
 use mathlib.Core.Path.{_≡_, refl, sym, ap, _∙_}
 use mathlib.Core.List.{List, [], _∷_, _++_, append-assoc, append-nil}
 use mathlib.Core.Logic.{⊎-elim}

@@ -1,4 +1,4 @@
--- Laws that several proofs cite.
+-- Laws of sums, rooms and lines.
 --     Adding        sums over lists put together
 --     Filling       rooms filled from the front
 --     Gathering     a line with more behind it

@@ -1,7 +1,7 @@
 -- `build::put_rows` meets its contract: the hyperedges of the rows left make the whole.
 use Prim.Native.Nat.{ℕ, _+_, _*_, _-_, _≤_}
 use mathlib.Core.List.{List, _++_}
-use mathlib.Core.Path.{_≡_, ap, _∙_}
+use mathlib.Core.Path.{_≡_, refl, ap, _∙_}
 use denote.Ref.{now}
 use native.Mathlib.Omega.{arith}
 use Rattle.wire.specs.Layout.{items}
@@ -9,7 +9,8 @@ use Rattle.wire.proofs.Laid.{Left, all-left, left-fits, left-then, none-left}
 use Rattle.formula.specs.Layouts.{rowAt, rowLayout}
 use Rattle.build.specs.Held.{heldModel, heldRows}
 use Rattle.build.specs.Bytes.{rowBytes, rowsBytes}
-use Rattle.build.proofs.Nodes.{rows-more, rows-none, rows-left, row-fits}
+use Rattle.build.proofs.Nodes.{rows-more, rows-none, row-fits}
+use Rattle.build.proofs.Stride.{items-left}
 use Rattle.build.proofs.put_rows.Statement.{statement}
 use Rattle.build.proofs.put_rows.Tie as tie
 
@@ -46,7 +47,7 @@ parts c =
     let s = c .before .before .before .before .before .before .before in
     let M = heldModel (now (s .args .m)) (s .args .n) (s .args .p) (s .args .t) in
     let r = c .before .before .loop .r in
-    rw (row-is c) (ap (rowsBytes M r) (rows-left (s .pre .1 .1 .0) r (c .before .loop-test .taken)) ∙ rows-more M r _ _)
+    rw (row-is c) (ap (rowsBytes M r) (items-left (rowLayout (now (s .args .f))) 8 (λ at. refl) 7 (s .args .k) r (c .before .loop-test .taken)) ∙ rows-more M r _ _)
 
 loop-holds : tie.Need-loop-holds Inv-loop μ-loop
 unfolding heldRows
