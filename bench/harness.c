@@ -1,5 +1,6 @@
 /* Measures the library (a) beside plain C (b), plain Rust (c) and C that decodes first (d), in one run, on the same inputs; all
  * answers are compared, so that no version is fast by being wrong. A workload is a row of the table at the end. */
+#include "inputs.h"
 #include "otzarvim.h"
 #include "plain.h"
 
@@ -23,37 +24,6 @@ struct input {
     uint64_t length, formula_length;
     uint32_t budget, propositions, state;
 };
-
-static uint8_t *at; /* where the next field goes */
-
-static void put(uint32_t v, int width)
-{
-    while (width--)
-        *at++ = (uint8_t)(v >> (8 * width));
-}
-
-static uint32_t seed;
-
-static uint32_t draw(uint32_t below)
-{
-    seed = seed * 1664525u + 1013904223u;
-    return (uint32_t)(((uint64_t)(seed >> 8) * below) >> 24);
-}
-
-static void start(uint8_t *message, uint8_t kind)
-{
-    at = message + 4;
-    put(1, 1);
-    put(kind, 1);
-}
-
-static uint64_t finish(uint8_t *message)
-{
-    uint64_t length = (uint64_t)(at - message);
-    at = message;
-    put((uint32_t)length, 4);
-    return length;
-}
 
 static void graph_start(struct input *in, uint32_t n, uint32_t h, uint32_t c)
 {
@@ -137,14 +107,6 @@ static void models(struct input *in, uint32_t t)
     model(in, 256, t);
 }
 
-static uint32_t rows;
-
-static void row(uint32_t operator, uint32_t left, uint32_t right, uint32_t bound)
-{
-    put(operator, 1), put(left, 1), put(right, 1), put(0, 1), put(bound, 4);
-    rows++;
-}
-
 /* A comb of untils, nexts and, or. */
 static void formulas(struct input *in, uint32_t f)
 {
@@ -178,6 +140,57 @@ static void question(struct input *in, uint32_t t)
     in->budget = 1u << 20;
     in->propositions = 32;
     in->state = 7;
+}
+
+/* The same with no round beyond the first: what is measured is mostly the builder. */
+static void question_alone(struct input *in, uint32_t t)
+{
+    question(in, t);
+    in->budget = 0;
+}
+
+/* Examples like those of the paper's source, cut after so many states, and its formulas. */
+static void asked(struct input *in, const struct system *system, uint32_t s)
+{
+    in->length = explore(system, in->message, s);
+    in->budget = UINT32_MAX;
+    in->propositions = system->propositions;
+}
+
+static void one_leader(struct input *in, uint32_t s)
+{
+    asked(in, &leader, s);
+    in->formula_length = reached(in->formula, 0, 200);
+}
+
+static void two_leaders(struct input *in, uint32_t s)
+{
+    asked(in, &leader, s);
+    in->formula_length = reached(in->formula, 1, 200);
+}
+
+static void delivered(struct input *in, uint32_t s)
+{
+    asked(in, &bit, s);
+    in->formula_length = reached(in->formula, 0, 10);
+}
+
+static void two_bits(struct input *in, uint32_t s)
+{
+    asked(in, &bit, s);
+    in->formula_length = out_of_step(in->formula, 20);
+}
+
+static void schedule(struct input *in, uint32_t s)
+{
+    asked(in, &task, s);
+    in->formula_length = planned(in->formula, 90, 80);
+}
+
+static void short_schedule(struct input *in, uint32_t s)
+{
+    asked(in, &task, s);
+    in->formula_length = planned(in->formula, 5, 10);
 }
 
 /* ---- answers */
@@ -238,21 +251,26 @@ static void run_formula(int v, const struct input *in, struct answer *out)
 #undef CALL
 }
 
-/* The library's builder and verdict are called here when they land; until then their rows have no (a). */
-static void run_build(int v, const struct input *in, struct answer *out)
-{
-#define CALL(p) out->length = PASTE(p, build)(in->message, in->length, in->formula, in->formula_length, out->graph);
-    VERSIONED(CALL)
-#undef CALL
-}
-
+/* The library has no builder alone for C: it is measured with the checks of both messages, the check of the graph and one round. */
 static void run_verdict(int v, const struct input *in, struct answer *out)
 {
+    if (v == A) {
+        uint8_t verdict;
+        size_t length;
+        out->number = otzarvim_verdict(in->message, in->length, in->formula, in->formula_length, in->state, in->budget, out->graph,
+                                       MESSAGE, out->room, ROOM, &verdict, &out->count, &length);
+        out->yes = verdict == OTZARVIM_YES;
+        out->length = length;
+        return;
+    }
 #define CALL(p)                                                                                                          \
     out->number = PASTE(p, verdict)(in->message, in->length, in->formula, in->formula_length, in->state, in->budget,     \
                                     out->graph, out->room, &out->count, &out->yes);
     VERSIONED(CALL)
 #undef CALL
+    uint32_t length;
+    memcpy(&length, out->graph, 4);
+    out->length = __builtin_bswap32(length);
 }
 
 /* ---- the table */
@@ -263,18 +281,23 @@ static const struct workload {
     uint32_t most;                           /* the largest size; the others are a half, a quarter and an eighth */
     void (*make)(struct input *, uint32_t);
     void (*run)(int version, const struct input *, struct answer *);
-    int landed;                              /* the library has it */
     int check;                               /* it answers for messages with a fault too */
 } table[] = {
-    {"rounds: a chain", "nodes", 4096, chain, run_rounds, 1, 0},
-    {"rounds: cover edges", "nodes", 4096, covers, run_rounds, 1, 0},
-    {"rounds: wide", "nodes", 4096, wide, run_rounds, 1, 0},
-    {"rounds: a ladder, 48 rounds", "nodes", 4096, ladder, run_rounds, 1, 0},
-    {"check of a graph", "nodes", 4096, wide, run_graph, 1, 1},
-    {"check of a model", "transitions", 65535, models, run_model, 1, 1},
-    {"check of a formula", "rows", 64, formulas, run_formula, 1, 1},
-    {"the graph of a model", "transitions", 65535, question, run_build, 0, 0},
-    {"a verdict", "transitions", 65535, question, run_verdict, 0, 0},
+    {"rounds: a chain", "nodes", 4096, chain, run_rounds, 0},
+    {"rounds: cover edges", "nodes", 4096, covers, run_rounds, 0},
+    {"rounds: wide", "nodes", 4096, wide, run_rounds, 0},
+    {"rounds: a ladder, 48 rounds", "nodes", 4096, ladder, run_rounds, 0},
+    {"check of a graph", "nodes", 4096, wide, run_graph, 1},
+    {"check of a model", "transitions", 65535, models, run_model, 1},
+    {"check of a formula", "rows", 64, formulas, run_formula, 1},
+    {"the graph of a model, and one round", "transitions", 65535, question_alone, run_verdict, 0},
+    {"verdict: a large model", "transitions", 65535, question, run_verdict, 0},
+    {"verdict: leader election", "states", 256, one_leader, run_verdict, 0},
+    {"verdict: two leaders", "states", 256, two_leaders, run_verdict, 0},
+    {"verdict: alternating bit", "states", 256, delivered, run_verdict, 0},
+    {"verdict: alternating bit, out of step", "states", 256, two_bits, run_verdict, 0},
+    {"verdict: task graph", "states", 256, schedule, run_verdict, 0},
+    {"verdict: task graph, too soon", "states", 256, short_schedule, run_verdict, 0},
 };
 
 /* ---- measuring */
@@ -292,14 +315,13 @@ static struct answer answers[VERSIONS];
 /* Runs every version once, and compares. */
 static void compare(const struct workload *w)
 {
-    int first = w->landed ? A : B_GCC;
-    for (int v = first; v < VERSIONS; v++) {
+    for (int v = A; v < VERSIONS; v++) {
         memset(answers[v].room, 0xa5, ROOM * sizeof(uint64_t));
         memset(answers[v].graph, 0xa5, MESSAGE);
         answers[v].number = answers[v].count = answers[v].yes = 0;
         answers[v].length = 0;
         w->run(v, &in, &answers[v]);
-        const struct answer *x = &answers[first], *y = &answers[v];
+        const struct answer *x = &answers[A], *y = &answers[v];
         if (x->number != y->number || x->count != y->count || x->yes != y->yes || x->length != y->length ||
             memcmp(x->room, y->room, ROOM * sizeof(uint64_t)) || memcmp(x->graph, y->graph, MESSAGE)) {
             fprintf(stderr, "%s: version %d answers something else: %u %u %u %llu, and not %u %u %u %llu\n", w->name, v, y->number,
@@ -340,7 +362,7 @@ static void measure(const struct workload *w, double turn, int turns, double *be
     for (int v = 0; v < VERSIONS; v++)
         best[v] = 0, calls[v] = 1;
     for (int i = 0; i < turns; i++)
-        for (int v = w->landed ? A : B_GCC; v < VERSIONS; v++) {
+        for (int v = A; v < VERSIONS; v++) {
             double from = seconds(), spent;
             for (long k = 0; k < calls[v]; k++)
                 w->run(v, &in, &answers[v]);
@@ -356,14 +378,6 @@ static void measure(const struct workload *w, double turn, int turns, double *be
 static double better(double x, double y)
 {
     return x < y ? x : y;
-}
-
-static void ratio(int landed, double x, double y)
-{
-    if (landed)
-        printf(" %.2f |", x / y);
-    else
-        printf(" |");
 }
 
 int main(int argc, char **argv)
@@ -398,25 +412,17 @@ int main(int argc, char **argv)
             measure(w, turn, turns, best);
             double b = better(best[B_GCC], best[B_CLANG]), d = better(best[D_GCC], best[D_CLANG]);
             printf("| %s | %u %s | %llu | %u |", part == 8 ? w->name : "", size, w->unit, (unsigned long long)in.length,
-                   answers[B_GCC].count);
-            if (w->landed)
-                printf(" %.2f |", best[A] * 1e6);
-            else
-                printf(" not yet |");
-            printf(" %.2f (%s) | %.2f | %.2f (%s) |", b * 1e6, best[B_GCC] < best[B_CLANG] ? "gcc" : "clang", best[C] * 1e6, d * 1e6,
+                   answers[A].count);
+            printf(" %.2f | %.2f (%s) | %.2f | %.2f (%s) |", best[A] * 1e6, b * 1e6, best[B_GCC] < best[B_CLANG] ? "gcc" : "clang", best[C] * 1e6, d * 1e6,
                    best[D_GCC] < best[D_CLANG] ? "gcc" : "clang");
-            ratio(w->landed, best[A], b);
-            ratio(w->landed, best[A], best[C]);
-            ratio(w->landed, best[A], d);
+            printf(" %.2f | %.2f | %.2f |", best[A] / b, best[A] / best[C], best[A] / d);
             if (last[1] == 0)
                 printf(" |\n");
-            else if (w->landed)
-                printf(" %.2f, %.2f, %.2f |\n", best[A] / last[0], b / last[1], d / last[2]);
             else
-                printf(" -, %.2f, %.2f |\n", b / last[1], d / last[2]);
+                printf(" %.2f, %.2f, %.2f |\n", best[A] / last[0], b / last[1], d / last[2]);
             last[0] = best[A], last[1] = b, last[2] = d;
             fflush(stdout);
-            if (part == 1 && w->landed && (best[A] > b || best[A] > best[C] || best[A] > 1.2 * d))
+            if (part == 1 && (best[A] > b || best[A] > best[C] || best[A] > 1.2 * d))
                 snprintf(above + strlen(above), sizeof above - strlen(above), "%s%s", *above ? "; " : "", w->name);
         }
     }

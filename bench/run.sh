@@ -14,7 +14,19 @@ rust_tools || die "no Rust compiler for x86-64"
 # The kit's compiler, beside gcc: the one that compiles the library. It comes without headers, and these files ask for none.
 kit_clang=$tools/bin/clang
 
-# The Rattle library; elsewhere than on x86-64 also the same LLVM module for this machine, caught on its way to the kit's compiler.
+# The Rattle library and the program; elsewhere than on x86-64 also the same LLVM modules for this machine, caught on their way to the
+# kit's compiler.
+caught() { # NAME RT-WORDS
+    local name=$1
+    shift
+    rm -f "$out/module.bc"
+    (cd "$root" && RATTLE_HOME=$mirror rt "$@") >"$out/log" 2>&1 || { cat "$out/log"; die "$name is not proved"; }
+    "$kit_clang" --target=x86_64-unknown-linux-gnu -S -emit-llvm -Xclang -disable-llvm-passes -x ir "$out/module.bc" -o "$out/$name.ll"
+    sed -i -e "s/^target triple.*/target triple = \"$machine-unknown-linux-gnu\"/" -e '/^target datalayout/d' \
+        -e 's/"target-cpu"="x86-64"//' -e 's/"probe-stack"="inline-asm"//' "$out/$name.ll"
+    "$kit_clang" --target="$machine-unknown-linux-gnu" -O3 -fPIC -c -x ir "$out/$name.ll" -o "$out/$name-here.o"
+}
+
 archive
 if [ "$machine" != x86_64 ]; then
     mirror=$out/kit
@@ -23,17 +35,17 @@ if [ "$machine" != x86_64 ]; then
     for f in "$kit"/*; do [ "$(basename "$f")" = on ] || ln -s "$f" "$mirror/"; done
     for f in "$kit/on/$machine"/*; do [ "$(basename "$f")" = toolchain ] || ln -s "$f" "$mirror/on/$machine/"; done
     ln -s "$tools/lib" "$mirror/on/$machine/toolchain/lib"
-    cp "$tools/bin/llvm-ar" "$tools/bin/ld.lld" "$mirror/on/$machine/toolchain/bin/"
-    printf '#!/bin/sh\ncp module.bc "%s/module.bc"\nexec "%s" "$@"\n' "$out" "$kit_clang" >"$mirror/on/$machine/toolchain/bin/clang"
+    cp "$tools/bin/llvm-ar" "$tools/bin/ld.lld" "$tools/bin/qemu-x86_64" "$mirror/on/$machine/toolchain/bin/"
+    printf '#!/bin/sh\n[ ! -e module.bc ] || cp module.bc "%s/module.bc"\nexec "%s" "$@"\n' "$out" "$kit_clang" >"$mirror/on/$machine/toolchain/bin/clang"
     chmod +x "$mirror/on/$machine/toolchain/bin/clang"
-    (cd "$root" && RATTLE_HOME=$mirror rt staticlib export) >"$out/log" 2>&1 || { cat "$out/log"; die "the library is not proved"; }
-    "$kit_clang" --target=x86_64-unknown-linux-gnu -S -emit-llvm -Xclang -disable-llvm-passes -x ir "$out/module.bc" -o "$out/module.ll"
-    sed -i -e "s/^target triple.*/target triple = \"$machine-unknown-linux-gnu\"/" -e '/^target datalayout/d' \
-        -e 's/"target-cpu"="x86-64"//' -e 's/"probe-stack"="inline-asm"//' "$out/module.ll"
-    "$kit_clang" --target="$machine-unknown-linux-gnu" -O3 -c -x ir "$out/module.ll" -o "$out/library-here.o"
+    caught library staticlib export
+    rm -f "$target/stamp/otzarvim" # or it would not be compiled again
+    caught program check otzarvim
+else
+    (cd "$root" && rt check otzarvim) >"$out/log" 2>&1 || { cat "$out/log"; die "the program is not proved"; }
 fi
 
-# Builds the harness: where it runs, its compilers, and the library.
+# Builds the harness and the plain programs: where they run, their compilers, and the library.
 build() { # NAME GCC TRIPLE RUSTC LIBRARY
     local dir=$out/$1
     mkdir -p "$dir"
@@ -45,12 +57,25 @@ build() { # NAME GCC TRIPLE RUSTC LIBRARY
     done
     $4 -C opt-level=3 -C panic=abort -C relocation-model=pic --crate-type lib --emit obj "$root/bench/plain.rs" -o "$dir/rust_.o"
     $2 -std=gnu17 -O2 -Wall -Wextra -Werror -I"$root/include" "$root/bench/harness.c" "$dir"/*_.o "$5" -o "$dir/harness"
+    for version in gcc_ clang_ rust_ dgcc_ dclang_; do
+        $2 -std=gnu17 -O3 -Wall -Wextra -Werror -DP=$version "$root/bench/program.c" "$dir/$version.o" -o "$dir/program-$version"
+    done
+}
+
+# Measures the programs: how many turns, where, the program (a), and the words that run it.
+programs() { # TURNS ONLY NAME PROGRAM RUN-WORDS
+    local turns=$1 only=$2 dir=$out/$3 program=$4
+    shift 4
+    "$out/start" "$turns" "$only" "$dir" "$out/life" "$@" -- "$program" "$dir"/program-{gcc_,clang_,rust_,dgcc_,dclang_}
 }
 
 build x86_64 "$gcc" x86_64-unknown-linux-gnu "$rustc" "$target/lib/libotzarvim.a"
 if [ "$machine" != x86_64 ]; then
     build here gcc "$machine-unknown-linux-gnu" "rustc --edition 2021" "$out/library-here.o"
+    gcc "$out/program-here.o" -o "$out/here/otzarvim"
 fi
+gcc -std=gnu17 -O2 -Wall -Wextra -Werror "$root/bench/start.c" -o "$out/start"
+"$root/tools/otz" compile "$root/examples/formula_life.otz" 'A[true U<=42 interpreted]' -o "$out/life"
 
 $gcc -std=gnu17 -O2 -Wall -Wextra -Werror -I"$root/include" "$root/bench/stack.c" "$target/lib/libotzarvim.a" -o "$out/stack"
 
@@ -75,9 +100,14 @@ END
         printf '\n## x86-64, under an emulator (%s): these times say little about an x86-64 processor\n\n' "${emulated#under }"
     fi
     $run "$out/x86_64/harness" "${1:-$turn}" "${2:-$turns}" "${3:-}"
+    printf '\nPrograms, with their start and end:\n\n'
+    # shellcheck disable=SC2086
+    programs $((10 * ${2:-$turns})) "${3:-}" x86_64 "$target/bin/otzarvim" $run
     if [ "$machine" != x86_64 ]; then
-        printf '\n## %s, without an emulator: the LLVM module of the library compiled for this machine\n\n' "$machine"
+        printf '\n## %s, without an emulator: the LLVM modules of the library and the program compiled for this machine\n\n' "$machine"
         "$out/here/harness" "${1:-0.02}" "${2:-7}" "${3:-}"
+        printf '\nPrograms, with their start and end:\n\n'
+        programs $((40 * ${2:-7})) "${3:-}" here "$out/here/otzarvim"
     fi
     printf '\n## Memory, on x86-64\n\n'
     printf 'No heap: beside its own functions the archive calls %s. What each function touches of the stack, on the inputs that need the most:\n\n' \

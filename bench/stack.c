@@ -1,5 +1,6 @@
 /* How much stack each exported function touches: it is run on a stack of its own that was painted before, on the inputs that need
  * the most, and the lowest byte that changed is looked for. What an empty function touches there is taken off. */
+#include "inputs.h"
 #include "otzarvim.h"
 
 #include <stdio.h>
@@ -32,49 +33,41 @@ static size_t touched(void (*f)(void))
     return STACK - low;
 }
 
-static uint8_t graph[1 << 20], model[1 << 20], formula[1024], *at, text[4096];
-static size_t graph_length, model_length, formula_length, length;
-static uint64_t room[2 * 4096];
-static uint32_t counts[3], count;
-static uint8_t number;
+static uint8_t graph[1 << 20], model[1 << 20], formula[1024], asked[1024], text[4096], built[OTZARVIM_MOST_GRAPH];
+static size_t graph_length, model_length, formula_length, asked_length, length;
+static uint64_t room[OTZARVIM_MOST_VALUES];
+static uint32_t counts[3], count, states[2];
+static uint8_t number, verdict;
 
-static void put(uint32_t v, int width)
-{
-    while (width--)
-        *at++ = (uint8_t)(v >> (8 * width));
-}
-
-static size_t finish(uint8_t *message)
-{
-    size_t size = (size_t)(at - message);
-    at = message;
-    put((uint32_t)size, 4);
-    return size;
-}
-
-/* A chain of nodes with cover edges, a model with every count at its limit, and 64 rows, each an operand of the next, with bounds of ten digits. */
+/* A chain of nodes with cover edges, a model with every count at its limit, 64 rows, each an operand of the next, with bounds of ten
+ * digits, and a formula with untils within an until, EX and AX, whose graph is large. */
 static void inputs(void)
 {
-    at = graph + 4;
-    put(1, 1), put(1, 1), put(4096, 2), put(4096, 4), put(4096, 2);
+    start(graph, 1);
+    put(4096, 2), put(4096, 4), put(4096, 2);
     for (uint32_t i = 0; i < 4096; i++)
         put(i, 2), put(1, 2), put(i, 4), put((i + 1) % 4096, 2);
     for (uint32_t i = 0; i < 4096; i++)
         put(i, 2), put(i, 4), put(i, 2);
     graph_length = finish(graph);
-    at = model + 4;
-    put(1, 1), put(2, 1), put(256, 2), put(32, 1), put(65535, 4);
+    start(model, 2);
+    put(256, 2), put(32, 1), put(65535, 4);
     for (uint32_t i = 0; i < 256; i++)
         put(i, 4);
     for (uint32_t i = 0; i < 65535; i++)
         put(i / 256, 2), put(i, 4), put(i % 256, 2);
     model_length = finish(model);
-    at = formula + 4;
-    put(1, 1), put(3, 1), put(64, 1);
-    put(2, 1), put(31, 1), put(0, 2), put(0, 4);
+    start(formula, 3);
+    put(64, 1);
+    row(2, 31, 0, 0);
     for (uint32_t i = 1; i < 64; i++)
-        put(6 + i % 2, 1), put(i - 1, 1), put(0, 2), put(4294967294u, 4);
+        row(6 + i % 2, i - 1, 0, 4294967294u);
     formula_length = finish(formula);
+    start(asked, 3);
+    put(9, 1);
+    row(2, 0, 0, 0), row(7, 0, 0, UINT32_MAX), row(2, 1, 0, 0), row(6, 2, 0, 200), row(5, 1, 3, 0), row(3, 2, 0, 0);
+    row(9, 4, 5, 1000), row(2, 3, 0, 0), row(9, 6, 7, UINT32_MAX);
+    asked_length = finish(asked);
 }
 
 static void nothing(void)
@@ -98,12 +91,24 @@ static void formula_check(void)
 
 static void rounds_solve(void)
 {
-    number = otzarvim_rounds_solve(graph, graph_length, 5, room, 2 * 4096, &count);
+    number = otzarvim_rounds_solve(graph, graph_length, 5, room, OTZARVIM_MOST_VALUES, &count);
 }
 
 static void formula_text(void)
 {
     number = otzarvim_formula_text(formula, formula_length, 32, text, sizeof text, &length);
+}
+
+static void decide(void)
+{
+    number = otzarvim_verdict(model, model_length, asked, asked_length, 255, 5, built, sizeof built, room, OTZARVIM_MOST_VALUES, &verdict,
+                              &count, &length);
+}
+
+static void settle(void)
+{
+    number = otzarvim_settle(model, model_length, asked, asked_length, 5, built, sizeof built, room, OTZARVIM_MOST_VALUES, &count, &length,
+                             states);
 }
 
 static const struct {
@@ -115,6 +120,8 @@ static const struct {
     {"otzarvim_formula_check", formula_check},
     {"otzarvim_rounds_solve", rounds_solve},
     {"otzarvim_formula_text", formula_text},
+    {"otzarvim_verdict", decide},
+    {"otzarvim_settle", settle},
 };
 
 int main(void)
