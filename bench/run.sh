@@ -113,5 +113,7 @@ END
     printf 'No heap: beside its own functions the archive calls %s. What each function touches of the stack, on the inputs that need the most:\n\n' \
         "$("$nm" -u "$target/lib/libotzarvim.a" | sed -n 's/^ *U \(.*\)/`\1`/p' | paste -sd' ' | sed 's/ / and /')"
     $run "$out/stack"
+    printf "\n"
+    cat "$root/bench/why.md"
 } | tee "$report"
 [ -n "${3:-}" ] || cp "$report" "$root/bench/RESULTS.md"
