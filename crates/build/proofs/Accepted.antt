@@ -11,7 +11,7 @@ use Rattle.formula.specs.Layouts.{rowLayout}
 use Rattle.reduction.specs.Built.{out, near}
 use Rattle.build.specs.Held.{labelLayout, transitionLayout, transitionsFrom, heldModel, heldRows, HoldsModel, Own}
 use Rattle.wire.proofs.Layouts.{items-length}
-use Rattle.build.proofs.Stride.{items-at}
+use Rattle.wire.proofs.Stride.{items-at}
 use Rattle.build.proofs.Ranges.{RiseFrom}
 use Rattle.build.proofs.Sizes.{out-length, near-length}
 

@@ -27,7 +27,8 @@ use Rattle.build.specs.Held.{heldRows, HoldsRows}
 use Rattle.build.specs.Bytes.{coverBytes, coversFrom, coversOf}
 use Rattle.build.proofs.Accepted.{rows-length}
 use Rattle.build.proofs.Counting.{passing-here, passing-there}
-use Rattle.build.proofs.Spans.{span-agree, span-written}
+use Rattle.lists.proofs.Making.{span-agree}
+use Rattle.wire.proofs.Written.{span-written}
 use Rattle.build.proofs.Untils.{other-row}
 
 -- ---- an until row's, with its bound as a number

@@ -1,6 +1,6 @@
 -- Edges laid into the room one after another, and the loops over transitions that do so. Assumes nothing.
 use Prim.Native.Nat.{ℕ, _+_, _*_, _-_, _<_, _≤_}
-use mathlib.Core.List.{List, [], _∷_, _++_, map, append-assoc, append-nil, List·Memᴰ·head, List·Memᴰ·tail}
+use mathlib.Core.List.{List, [], _∷_, _++_, append-nil, List·Memᴰ·head, List·Memᴰ·tail}
 use mathlib.Core.Bool.{Bool, true, false, cond}
 use mathlib.Core.Path.{_≡_, refl, sym, ap, subst, _∙_}
 use native.Mathlib.Omega.{arith}
@@ -15,10 +15,10 @@ use Rattle.wire.specs.Laid.{Laid}
 use Rattle.wire.specs.Layout.{items}
 use Rattle.wire.specs.Write.{writeAll}
 use Rattle.wire.proofs.Bytes.{length-bytes}
-use Rattle.wire.proofs.Exact.{length-writeAll}
 use Rattle.wire.proofs.Laid.{Left, all-left, none-left, left-fits, left-then, nothing, _then_, said}
 use Rattle.wire.proofs.Layouts.{items-more}
-use Rattle.rules.specs.Graph.{Target, Hyper}
+use Rattle.rules.specs.Graph.{Target}
+use Rattle.graph.proofs.Exact.{hyper-length}
 use Rattle.graph.specs.Write.{writeTarget, writeHyper}
 use Rattle.model.specs.Model.{Transition}
 use Rattle.reduction.specs.Built.{to, hyper}
@@ -27,26 +27,6 @@ use Rattle.build.specs.Bytes.{hypersBytes, everyNext}
 use Rattle.build.proofs.Counting.{weight-within}
 
 -- ---- lists of records
-
-pub writeAll-append : {A : Type 0} (w : A → List ℕ) (xs ys : List A) → writeAll w (xs ++ ys) ≡ writeAll w xs ++ writeAll w ys
-unfolding writeAll
-writeAll-append w [] ys = refl
-writeAll-append w (a ∷ xs) ys = ap (λ (s : List ℕ). w a ++ s) (writeAll-append w xs ys) ∙ sym (append-assoc (w a) (writeAll w xs) (writeAll w ys))
-
-pub writeAll-map : {A B : Type 0} (w : B → List ℕ) (f : A → B) (l : List A) → writeAll w (map f l) ≡ writeAll (λ a. w (f a)) l
-unfolding writeAll
-writeAll-map w f [] = refl
-writeAll-map w f (a ∷ l) = ap (λ (s : List ℕ). w (f a) ++ s) (writeAll-map w f l)
-
-pub writeAll-keep : {A : Type 0} (w : A → List ℕ) (p : A → Bool) (l : List A) → writeAll w (keep p l) ≡ writeAll (λ a. cond (p a) (w a) []) l
-unfolding writeAll keep
-writeAll-keep w p [] = refl
-writeAll-keep w p (a ∷ l) = go (p a) (writeAll-keep w p l)
-  where
-    go : (t : Bool) → writeAll w (keep p l) ≡ writeAll (λ a. cond (p a) (w a) []) l
-        → writeAll w (cond t (a ∷ keep p l) (keep p l)) ≡ cond t (w a) [] ++ writeAll (λ a. cond (p a) (w a) []) l
-    go true e = ap (λ (s : List ℕ). w a ++ s) e
-    go false e = e
 
 module _ {A : Type 0} (w : A → List ℕ) {b : List ℕ} {at : ℕ} {b′ : List ℕ} {next : ℕ} (a : A) (h : Laid b at (w a) b′ next) where
   pub one-laid : Laid b at (writeAll w (a ∷ [])) b′ next
@@ -61,14 +41,6 @@ module _ {A : Type 0} (w : A → List ℕ) {b : List ℕ} {at : ℕ} {b′ : Lis
 
 pub head-length : (v k : ℕ) → length (bytes 2 v ++ bytes 2 k) ≡ 4
 head-length v k = simp (length-append, length-bytes)
-
-pub target-length : (t : Target) → length (writeTarget t) ≡ 6
-unfolding writeTarget
-target-length t = simp (length-append, length-bytes)
-
-pub hyper-length : (h : Hyper) → length (writeHyper h) ≡ 4 + length (h .targets) * 6
-unfolding writeHyper
-hyper-length h = simp (length-append, length-bytes) (omega (arith, length-writeAll writeTarget 6 target-length (h .targets)))
 
 pub single-length : (v : ℕ) (t : Target) → length (writeHyper (hyper v (t ∷ []))) ≡ 10
 single-length v t = hyper-length (hyper v (t ∷ []))

@@ -28,9 +28,10 @@ use Rattle.reduction.specs.Built.{to, hyper, stepEdges, helperEdges, isUntil, u
 use Rattle.build.specs.Held.{transitionLayout, transitionsFrom, heldModel, heldRows, HoldsModel, HoldsRows, Own}
 use Rattle.build.specs.Bytes.{hypersBytes, someSteps, everySteps, helperList, helperBytes, helpersBytes, Narrow, HelpersFit}
 use Rattle.build.proofs.Accepted.{out-own}
-use Rattle.build.proofs.Edges.{writeAll-append, single-length, hypers-more, hypers-one, first-fits}
+use Rattle.wire.proofs.Written.{writeAll-append}
+use Rattle.build.proofs.Edges.{single-length, hypers-more, hypers-one, first-fits}
 use Rattle.build.proofs.Nodes.{helper-are}
-use Rattle.build.proofs.Spans.{span-written}
+use Rattle.wire.proofs.Written.{span-written}
 
 -- ---- the helper of a state
 

@@ -9,13 +9,11 @@ use Rattle.wire.specs.Read.{good}
 use Rattle.wire.specs.Layout.{items}
 use Rattle.wire.specs.declared.State.{State}
 use Rattle.wire.proofs.Fields.{value-inside, value-is}
-use Rattle.wire.proofs.Reading.{bind-good, demand-good, good-same}
-use Rattle.wire.proofs.Readers.{all-length}
 use Rattle.wire.proofs.Layouts.{Reads, reads-all}
 use Rattle.model.specs.Model.{Model, Transition}
 use Rattle.model.specs.Message.{readLabel, readTransition, readModel, labels, transitions, start}
 use Rattle.model.specs.WellFormed as model
-use Rattle.model.proofs.Good.{label-good, transition-good, header-good}
+use Rattle.model.proofs.Good.{label-good, transition-good, header-good, model-good}
 use Rattle.model.proofs.Exact as model-exact
 use Rattle.formula.specs.declared.Row.{Row}
 use Rattle.formula.specs.Message.{readFormula}
@@ -49,37 +47,29 @@ pub record ModelHeld (m : List ℕ) (M : Model) (n p t : ℕ) : Type 0 where
   pub holds : HoldsModel m n p t
 
 pub model-held : (m : List ℕ) (M : Model) → Bytes m → readModel m ≡ good M → ModelHeld m M (M .states) (M .propositions) (length (M .transitions))
-unfolding readModel heldModel
+unfolding heldModel
 model-held m M bytes e =
-    let k = bind-good _ _ e in
-    let ls = bind-good _ _ (k .rest) in
-    let ts = bind-good _ _ (ls .rest) in
-    let d = demand-good _ _ _ (ts .rest) in
-    let n = k .value .states in
-    let head = header-good m (k .value) (k .first) in
-    let wf = model-exact.accepted-written m M bytes e .1 in
-    let labels-hold = reads-all (labelLayout m) (labels m (k .value .propositions)) (labels-read m (k .value .propositions)) _ (start 13) _ (ls .first) in
-    let transitions-hold = reads-all (transitionLayout m) (transitions m n) (transitions-read m n) _ (start (13 + n * 4)) _ (ts .first) in
+    let p = model-good {s = m} {M = M} e in
+    let n = M .states in
+    let head = header-good m _ (p .header) in
+    let labels-hold = reads-all (labelLayout m) (labels m (M .propositions)) (labels-read m (M .propositions)) _ (start 13) _ (p .labels-there) in
+    let transitions-hold = reads-all (transitionLayout m) (transitions m n) (transitions-read m n) _ (start (13 + n * 4)) _ (p .transitions-there) in
     let there : 13 + n * 4 + 0 * 8 ≡ 13 + n * 4 = omega arith in
-    let same : record { states = n; propositions = k .value .propositions; labels = ls .value; transitions = ts .value } ≡ M = good-same (d .1) in
-    let count : length (ts .value) ≡ k .value .transitions = all-length _ _ _ _ (ts .first) in
-    let at : record { states = n; propositions = k .value .propositions; labels = ls .value; transitions = ts .value } ≡ heldModel m n (k .value .propositions) (k .value .transitions) =
+    let at : M ≡ heldModel m n (M .propositions) (length (M .transitions)) =
     λ i. record {
       states = n;
-      propositions = k .value .propositions;
+      propositions = M .propositions;
       labels = labels-hold .items-are i;
-      transitions = (transitions-hold .items-are ∙ ap (items (transitionLayout m) (k .value .transitions)) (sym there)) i;
+      transitions = (transitions-hold .items-are ∙ ap (items (transitionLayout m) (length (M .transitions))) (sym there)) i;
     } in
-    subst (λ (N : Model). ModelHeld m N (N .states) (N .propositions) (length (N .transitions))) same
-    (rw count
-    (record {
+    record {
       is = at;
       holds = record {
         long = head .long;
-        well-formed = subst model.WellFormed (sym same ∙ at) wf;
+        well-formed = subst model.WellFormed at (model-exact.accepted-written m M bytes e .1);
         transitions-fit = head .transitions-most;
       };
-    }))
+    }
 
 -- the same of a formula's rows
 pub record RowsHeld (f : List ℕ) (rows : List Row) (k p : ℕ) : Type 0 where

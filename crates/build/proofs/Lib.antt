@@ -1,6 +1,5 @@
 -- Laws of the builder.
 --     Holding    what accepted messages hold, by position
---     Stride     records of one width by position
 --     Counting   a loop that counts the records that pass a test
 --     Ranges     with transitions in order, where each state's stand
 --     Accepted   what accepted messages say of the model and the rows that they hold
@@ -8,7 +7,6 @@
 --     Sizes      how much room hyperedges take, of a row and of all
 --     Whole      the size of a graph that is built, and of its message
 --     Edges      edges laid into the room one after another, and the loops over transitions that do so
---     Spans      lists that are made number by number, and the loop that lays such bytes in
 --     Nodes      the edges of a node, from its state's transitions; rows one after another
 --     Helpers    the hyperedges of helper nodes, and the loop over rows that lays them in
 --     Covers     the bytes of cover edges, state by state and row by row
@@ -16,7 +14,6 @@
 --     Writing    what the writing of a graph that passes no limit may rely on, and the limits one by one
 --     Laws       there is one answer
 pub mod Holding
-pub mod Stride
 pub mod Counting
 pub mod Ranges
 pub mod Accepted
@@ -24,7 +21,6 @@ pub mod Untils
 pub mod Sizes
 pub mod Whole
 pub mod Edges
-pub mod Spans
 pub mod Nodes
 pub mod Helpers
 pub mod Covers

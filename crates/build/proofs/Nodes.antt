@@ -26,9 +26,9 @@ use Rattle.formula.specs.WellFormed.{RowAt}
 use Rattle.reduction.specs.Built.{to, hyper, out, near, rowEdges, stepEdges, layout}
 use Rattle.build.specs.Held.{transitionsFrom, heldModel, heldRows, HoldsModel, HoldsRows, Own, Reads}
 use Rattle.build.specs.Bytes.{hypersBytes, nextEdges, helperList, rowBytes, rowsBytes, RowFits}
-use Rattle.build.proofs.Edges.{writeAll-append}
-use Rattle.build.proofs.Spans.{span-written}
-use Rattle.build.proofs.Stride.{items-get}
+use Rattle.wire.proofs.Written.{writeAll-append}
+use Rattle.wire.proofs.Written.{span-written}
+use Rattle.wire.proofs.Stride.{items-get}
 
 -- the nodes of an earlier place stand before those of a later one
 pub place-fits : (n r l : ℕ) → n * r + n ≤ 4096 → l < r → n * l + n ≤ 4096

@@ -32,8 +32,8 @@ use Rattle.build.specs.Size.{sizeOf, rowsEdges, inLimits}
 use Rattle.build.specs.Bytes.{rowsBytes, helpersBytes, coverBytes, coversFrom, coversOf, headerBytes}
 use Rattle.build.specs.Built.{fits, roomy, builtOf, roomOf, Writable}
 use Rattle.build.proofs.Untils.{other-row, by-row}
-use Rattle.build.proofs.Edges.{writeAll-append}
-use Rattle.build.proofs.Spans.{span-empty}
+use Rattle.wire.proofs.Written.{writeAll-append}
+use Rattle.lists.proofs.Making.{span-empty}
 use Rattle.build.proofs.Whole.{size-of-graph, covers-of-graph, writing-length}
 
 -- ---- the cover edges

@@ -17,7 +17,7 @@ use Rattle.wire.specs.Layout.{items}
 use Rattle.wire.proofs.Layouts.{items-length}
 use Rattle.model.specs.Model.{Transition}
 use Rattle.build.specs.Held.{transitionLayout, transitionsFrom, leading, Starts, Own}
-use Rattle.build.proofs.Stride.{items-take, items-drop, items-left}
+use Rattle.wire.proofs.Stride.{items-take, items-drop, items-left}
 
 -- the transitions of a state
 abbrev pub of : ℕ → List Transition → List Transition

@@ -24,7 +24,7 @@ use Rattle.reduction.specs.Built.{to, out, near, rowEdges, helperEdges, isUntil
 use Rattle.build.specs.declared.Size.{Size}
 use Rattle.build.specs.Size.{noSize, addSize, sizeOf, stateEdges, rowsEdges, leafEdges, nextSize, stepSize, helperSize}
 use Rattle.build.specs.Bytes.{Narrow}
-use Rattle.build.proofs.Spans.{span-more}
+use Rattle.lists.proofs.Making.{span-more}
 use Rattle.build.proofs.Untils.{other-row, by-row}
 
 -- ---- sums of sizes

@@ -11,12 +11,12 @@ use borrow.Author.Tests.{leb-true, leb-false, le-leb, lt-leb}
 use Rattle.lists.specs.Lists.{all}
 use Rattle.lists.specs.Making.{keep, span}
 use Rattle.lists.proofs.Tests.{by-test}
-use Rattle.wire.specs.Write.{writeAll, message}
+use Rattle.wire.specs.Write.{message}
 use Rattle.wire.proofs.Bytes.{length-bytes}
 use Rattle.wire.proofs.Exact.{length-writeAll}
-use Rattle.rules.specs.Graph.{Graph, Hyper, Target, Cover}
+use Rattle.rules.specs.Graph.{Graph, Hyper, Target}
 use Rattle.graph.specs.WellFormed.{targetsOf}
-use Rattle.graph.specs.Write.{writeHyper, writeCover, writeBody, writeGraph}
+use Rattle.graph.specs.Write.{writeCover, writeBody, writeGraph}
 use Rattle.model.specs.Model.{Model}
 use Rattle.formula.specs.declared.Row.{Row}
 use Rattle.reduction.specs.Built.{rowEdges, helperEdges, isUntil, untils, rowCovers, layout, hyper, cover, Limit, graphOf}
@@ -24,8 +24,8 @@ use Rattle.build.specs.declared.Size.{Size}
 use Rattle.build.specs.Size.{noSize, addSize, sizeOf, stateEdges, rowsEdges}
 use Rattle.build.proofs.Untils.{other-row, by-row}
 use Rattle.build.proofs.Sizes.{none-add, add-swap, size-append, size-span, size-spans, helper-size}
-use Rattle.build.proofs.Edges.{hyper-length}
-use Rattle.build.proofs.Spans.{span-length, span-empty}
+use Rattle.graph.proofs.Exact.{hypers-length, cover-length}
+use Rattle.lists.proofs.Making.{span-length, span-empty}
 
 -- ---- hyperedges by their target lists
 
@@ -142,15 +142,6 @@ unfolding graphOf
 covers-of-graph M rows = covers-length (M .states) (rowCovers M rows) (row-covers M rows) 0 rows
 
 -- ---- the message
-
-hypers-length : (hs : List Hyper) → length (writeAll writeHyper hs) ≡ length hs * 4 + targetsOf hs * 6
-unfolding writeAll targetsOf
-hypers-length [] = refl
-hypers-length (h ∷ hs) = rw (length-append (writeHyper h) (writeAll writeHyper hs)) (omega (arith, hyper-length h, hypers-length hs))
-
-cover-length : (c : Cover) → length (writeCover c) ≡ 8
-unfolding writeCover
-cover-length c = simp (length-append, length-bytes)
 
 pub writing-length : (g : Graph) → length (writeGraph g) ≡ 14 + length (g .hypers) * 4 + targetsOf (g .hypers) * 6 + length (g .covers) * 8
 unfolding writeGraph message writeBody

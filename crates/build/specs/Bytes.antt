@@ -15,15 +15,11 @@ use Rattle.formula.specs.declared.Quantifier.{Quantifier}
 use Rattle.formula.specs.declared.Quantifier.the-variants.{Some, Every}
 use Rattle.formula.specs.declared.Row.{Row}
 use Rattle.formula.specs.Rows.{operands}
-use Rattle.reduction.specs.Built.{to, hyper, cover, Limit, out, rowEdges, stepEdges, helperEdges, ifUntil, layout}
+use Rattle.reduction.specs.Built.{to, hyper, out, rowEdges, stepEdges, helperEdges, ifUntil, layout}
 
 -- the hyperedges of node v with these target lists
 abbrev pub hypersBytes : ℕ → List (List Target) → List ℕ
 hypersBytes v tss = writeAll writeHyper (map (hyper v) tss)
-
--- the cover edges of node v
-abbrev pub coversBytes : ℕ → List Limit → List ℕ
-coversBytes v cs = writeAll writeCover (map (cover v) cs)
 
 -- what a row makes of a list of transitions, with the nodes of its operand or helper that far behind the states
 abbrev pub someNext : List Transition → Bound → ℕ → List (List Target)

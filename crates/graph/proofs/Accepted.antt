@@ -8,15 +8,13 @@ use Rattle.wire.specs.Bytes.{number}
 use Rattle.wire.specs.Read.{good}
 use Rattle.wire.specs.Layout.{items, Sound}
 use Rattle.wire.proofs.Fields.{value-inside, value-is}
-use Rattle.wire.proofs.Reading.{bind-good, demand-good, good-same}
-use Rattle.wire.proofs.Readers.{all-length}
 use Rattle.wire.proofs.Layouts.{Reads, reads-all}
 use Rattle.rules.specs.Graph.{Graph, Hyper, Cover, Target}
 use Rattle.wire.specs.declared.State.{State}
 use Rattle.value.specs.Coded.{boundOf}
 use Rattle.graph.specs.Message.{readTarget, readHyper, readCover, readGraph, targets, hypers, covers, start, firstTarget}
 use Rattle.graph.specs.Layouts.{targetLayout, hyperLayout, coverLayout, decoded, Scannable}
-use Rattle.graph.proofs.Good.{target-good, hyper-good, cover-good}
+use Rattle.graph.proofs.Good.{target-good, hyper-good, cover-good, graph-good}
 
 module _ (s : List ℕ) (n : ℕ) where
   targets-read : (st : State) (t : Target) → readTarget s n st ≡ good t → Reads (targetLayout s n) (targets s n) st t
@@ -68,26 +66,21 @@ pub record Holds (s : List ℕ) (g : Graph) (n h c : ℕ) : Type 0 where
   pub sound : Scannable s n h c
 
 pub holds : (s : List ℕ) (g : Graph) → readGraph s ≡ good g → Holds s g (g .nodes) (length (g .hypers)) (length (g .covers))
-unfolding readGraph decoded
+unfolding decoded
 holds s g e =
-    let k = bind-good _ _ e in
-    let hs = bind-good _ _ (k .rest) in
-    let cs = bind-good _ _ (hs .rest) in
-    let d = demand-good _ _ _ (cs .rest) in
-    let n = k .value .n in
-    let hypers-hold = reads-all (hyperLayout s n) (hypers s n) (hypers-read s n) _ (start 14) _ (hs .first) in
-    let covers-hold = reads-all (coverLayout s n) (covers s n) (covers-read s n) _ _ _ (cs .first) in
+    let p = graph-good {s = s} {g = g} e in
+    let n = g .nodes in
+    let hypers-hold = reads-all (hyperLayout s n) (hypers s n) (hypers-read s n) _ (start 14) _ (p .hypers-there) in
+    let covers-hold = reads-all (coverLayout s n) (covers s n) (covers-read s n) _ _ _ (p .covers-there) in
     let middle = hypers-hold .end-is in
-    subst (λ (u : Graph). Holds s u (u .nodes) (length (u .hypers)) (length (u .covers))) (good-same (d .1))
-    (rw (all-length _ _ _ _ (hs .first), all-length _ _ _ _ (cs .first))
-    (record {
+    record {
       is = λ i. record {
         nodes = n;
         hypers = hypers-hold .items-are i;
-        covers = (covers-hold .items-are ∙ ap (items (coverLayout s n) (k .value .c)) middle) i;
+        covers = (covers-hold .items-are ∙ ap (items (coverLayout s n) (length (g .covers))) middle) i;
       };
       sound = record {
         hypers = hypers-hold .sound;
-        covers = subst (Sound (coverLayout s n) (k .value .c)) middle (covers-hold .sound);
+        covers = subst (Sound (coverLayout s n) (length (g .covers))) middle (covers-hold .sound);
       };
-    }))
+    }

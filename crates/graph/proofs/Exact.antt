@@ -2,28 +2,27 @@
 use Prim.Native.Nat.{ℕ, _+_, _*_, _^_, _≤_, _<_}
 use mathlib.Core.List.{List, [], _∷_, _++_}
 use mathlib.Core.Logic.{_↔_}
-use mathlib.Core.Path.{_≡_, refl, sym, ap, subst, _∙_}
+use mathlib.Core.Path.{_≡_, refl, sym, ap, _∙_}
 use native.Mathlib.Omega.{arith}
 use lib.ListN.{length, drop, length-append}
-use borrow.Author.Tests.{eqb-true, lt-ltb, le-leb, eq-eqb}
+use borrow.Author.Tests.{lt-ltb, le-leb, eq-eqb}
 use Rattle.lists.specs.Lists.{_∈_}
 use Rattle.wire.specs.Bytes.{bytes, Bytes}
 use Rattle.wire.specs.Read.{good, field}
-use Rattle.wire.specs.Reader.{readAll, past}
+use Rattle.wire.specs.Reader.{past}
 use Rattle.wire.specs.Write.{writeAll, message}
 use Rattle.wire.proofs.Bytes.{length-bytes}
-use Rattle.wire.proofs.Reading.{bind-good, demand-good, good-same}
-use Rattle.wire.proofs.Readers.{all-length}
+use Rattle.wire.proofs.Reading.{good-same}
 use Rattle.wire.proofs.Stands.{Stands, stands-first, stands-second, stands-both, stands-inside, stands-last, value-stands, stands-field}
-use Rattle.wire.proofs.Exact.{good-bind, good-after, good-demand, all-there, length-writeAll, Exact, FitsAll, none, more, all-moves, all-reads, all-written, fits-map, fits-both, fits-each, each-fits, fits-rising, rising-fits, message-length, message-rest, start-reads, start-written}
+use Rattle.wire.proofs.Exact.{good-bind, good-after, good-demand, length-writeAll, Exact, FitsAll, none, more, all-moves, all-reads, all-written, fits-map, fits-both, fits-each, each-fits, fits-rising, rising-fits, message-length, message-rest, start-reads, start-written}
 use Rattle.rules.specs.Graph.{Graph, Hyper, Cover, Target}
 use Rattle.wire.specs.declared.State.{State}
 use Rattle.value.specs.Coded.{codeOf, Sayable}
-use Rattle.graph.specs.Message.{readTarget, readTargets, readHyper, readCover, readHeader, readGraph, targets, hypers, covers, start, firstTarget, Counts}
+use Rattle.graph.specs.Message.{readTarget, readTargets, readHyper, readCover, readHeader, readGraph, targets, hypers, covers, start, firstTarget}
 use Rattle.graph.specs.Write.{writeTarget, writeHyper, writeCover, writeBody, writeGraph}
 use Rattle.graph.specs.WellFormed.{targetsOf, WellFormed}
 use Rattle.value.proofs.Coded.{code-bound, bound-sayable, bound-code, code-fits}
-use Rattle.graph.proofs.Good.{target-good, hyper-good, cover-good, HeaderAt, header-good}
+use Rattle.graph.proofs.Good.{target-good, hyper-good, cover-good, HeaderAt, header-good, counts, GraphAt, graph-good}
 
 -- ---- records
 
@@ -49,19 +48,19 @@ abbrev pub CoverNext : ℕ → State → Cover → Type 0
 CoverNext n st c = (st .prev ≤ c .source) × CoverFits n c
 
 -- how long a record is
-target-length : (t : Target) → length (writeTarget t) ≡ 6
+pub target-length : (t : Target) → length (writeTarget t) ≡ 6
 unfolding writeTarget
 target-length t = simp (length-append, length-bytes)
 
-hyper-length : (h : Hyper) → length (writeHyper h) ≡ 4 + length (h .targets) * 6
+pub hyper-length : (h : Hyper) → length (writeHyper h) ≡ 4 + length (h .targets) * 6
 unfolding writeHyper
 hyper-length h = simp (length-append, length-bytes, length-writeAll writeTarget 6 target-length)
 
-cover-length : (c : Cover) → length (writeCover c) ≡ 8
+pub cover-length : (c : Cover) → length (writeCover c) ≡ 8
 unfolding writeCover
 cover-length c = simp (length-append, length-bytes)
 
-hypers-length : (hs : List Hyper) → length (writeAll writeHyper hs) ≡ length hs * 4 + targetsOf hs * 6
+pub hypers-length : (hs : List Hyper) → length (writeAll writeHyper hs) ≡ length hs * 4 + targetsOf hs * 6
 unfolding writeAll targetsOf
 hypers-length [] = refl
 hypers-length (h ∷ hs) = simp length-append (omega (arith, hyper-length h, hypers-length hs))
@@ -165,10 +164,7 @@ module _ (s : List ℕ) (n : ℕ) where
 
 -- ---- whole messages
 
--- the counts of a header, and their bytes
-abbrev counts : Graph → Counts
-counts g = record { n = g .nodes; h = length (g .hypers); c = length (g .covers) }
-
+-- the bytes of the counts
 abbrev writeCounts : Graph → List ℕ
 writeCounts g = bytes 2 (g .nodes) ++ bytes 4 (length (g .hypers)) ++ bytes 2 (length (g .covers))
 
@@ -206,29 +202,7 @@ body-laid {s} g h =
       covers-there = stands-second (writeCounts g ++ writeAll writeHyper (g .hypers)) _ (simp (length-append, length-bytes) (omega arith)) h;
     }
 
--- what a good message says of its parts
-record GraphAt (s : List ℕ) (g : Graph) : Type 0 where
-  header : readHeader s ≡ good (counts g)
-  hypers-there : readAll (hypers s (g .nodes)) (length (g .hypers)) (start 14) ≡ good (g .hypers)
-  covers-there : readAll (covers s (g .nodes)) (length (g .covers)) (start (past (hypers s (g .nodes)) (start 14) (g .hypers) .at)) ≡ good (g .covers)
-  ends : past (covers s (g .nodes)) (start (past (hypers s (g .nodes)) (start 14) (g .hypers) .at)) (g .covers) .at ≡ length s
-
-graph-good : {s : List ℕ} {g : Graph} → readGraph s ≡ good g → GraphAt s g
-unfolding readGraph
-graph-good {s} e =
-    let k = bind-good _ _ e in
-    let hs = bind-good _ _ (k .rest) in
-    let cs = bind-good _ _ (hs .rest) in
-    let d = demand-good _ _ _ (cs .rest) in
-    let h : k .value .h ≡ length (hs .value) = sym (all-length _ _ _ _ (hs .first)) in
-    let c : k .value .c ≡ length (cs .value) = sym (all-length _ _ _ _ (cs .first)) in
-    subst (GraphAt s) (good-same (d .1)) (record {
-      header = k .first ∙ λ i. good (record { n = k .value .n; h = h i; c = c i });
-      hypers-there = all-there _ _ _ _ (hs .first);
-      covers-there = all-there _ _ _ _ (cs .first);
-      ends = eqb-true _ _ (d .0);
-    })
-
+-- parts that a good message has make it good
 good-graph : {s : List ℕ} (g : Graph) → GraphAt s g → readGraph s ≡ good g
 unfolding readGraph
 good-graph g p =

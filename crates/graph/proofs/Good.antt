@@ -1,22 +1,24 @@
 -- What a good reading says: each field is there, each demand is met. Assumes nothing.
 use Prim.Native.Nat.{ℕ, _+_, _*_, _<_, _≤_}
 use mathlib.Core.List.{List}
-use mathlib.Core.Path.{_≡_, sym, ap, _∙_}
+use mathlib.Core.Path.{_≡_, sym, ap, subst, _∙_}
 use lib.ListN.{length}
-use borrow.Author.Tests.{ltb-true, leb-true}
+use borrow.Author.Tests.{ltb-true, leb-true, eqb-true}
 use native.Mathlib.Omega.{arith}
-use Rattle.wire.specs.declared.Field.the-variants.{Number}
+use Rattle.refusal.specs.declared.Refusal.the-variants.{Length}
+use Rattle.wire.specs.declared.Field.the-variants.{Number, Short}
 use Rattle.wire.specs.Field.{fieldAt}
-use Rattle.wire.specs.Read.{good}
-use Rattle.wire.specs.Reader.{readAll, one}
+use Rattle.wire.specs.Read.{good, bad}
+use Rattle.wire.specs.Reader.{readAll, past, one}
 use Rattle.wire.specs.Start.{readStart}
 use Rattle.wire.proofs.Fields.{value-inside}
-use Rattle.wire.proofs.Reading.{bind-good, and-good, demand-good, field-good, good-same}
+use Rattle.wire.proofs.Exact.{all-there}
+use Rattle.wire.proofs.Reading.{reading, length-after, bind-good, and-good, demand-good, field-good, good-same}
 use Rattle.wire.proofs.Readers.{all-length}
-use Rattle.rules.specs.Graph.{Hyper, Cover, Target}
+use Rattle.rules.specs.Graph.{Graph, Hyper, Cover, Target}
 use Rattle.wire.specs.declared.State.{State}
 use Rattle.value.specs.Coded.{boundOf}
-use Rattle.graph.specs.Message.{readTarget, readHyper, readTargets, readCover, targets, hypers, covers, firstTarget, Counts, readHeader}
+use Rattle.graph.specs.Message.{readTarget, readHyper, readTargets, readCover, targets, hypers, covers, start, firstTarget, Counts, readHeader, readGraph}
 
 module _ (s : List ℕ) (n : ℕ) where
   -- what a good target says of the bytes
@@ -119,6 +121,15 @@ module _ (s : List ℕ) (n : ℕ) where
       let c = cover-good st (r .value) (r .first) in
       omega (arith, value-inside 2 s (st .at + 6) (c .target-there), ap (λ (u : State). u .at) (good-same (r .rest)))
 
+  -- the last of a record's fixed fields tells whether they all fit
+  pub hyper-short : (st : State) → fieldAt 2 s (st .at + 2) ≡ Short → readHyper s n st ≡ bad Length
+  unfolding readHyper
+  hyper-short st h = length-after 2 s (st .at) _ (λ source. simp (reading, h))
+
+  pub cover-short : (st : State) → fieldAt 2 s (st .at + 6) ≡ Short → readCover s n st ≡ bad Length
+  unfolding readCover
+  cover-short st h = length-after 2 s (st .at) _ (λ source. length-after 4 s (st .at + 2) _ (λ bound. simp (reading, h)))
+
 -- what a good header says of the bytes
 pub record HeaderAt (s : List ℕ) (k : Counts) : Type 0 where
   pub opened : readStart s 14 1 1 ≡ good tt
@@ -152,3 +163,30 @@ header-good s k e =
       h-most = rw (← same) (leb-true _ _ (h-most .0));
       c-most = rw (← same) (leb-true _ _ (c-most .0));
     }
+
+-- the counts of a header
+abbrev pub counts : Graph → Counts
+counts g = record { n = g .nodes; h = length (g .hypers); c = length (g .covers) }
+
+-- what a good message says of its parts
+pub record GraphAt (s : List ℕ) (g : Graph) : Type 0 where
+  pub header : readHeader s ≡ good (counts g)
+  pub hypers-there : readAll (hypers s (g .nodes)) (length (g .hypers)) (start 14) ≡ good (g .hypers)
+  pub covers-there : readAll (covers s (g .nodes)) (length (g .covers)) (start (past (hypers s (g .nodes)) (start 14) (g .hypers) .at)) ≡ good (g .covers)
+  pub ends : past (covers s (g .nodes)) (start (past (hypers s (g .nodes)) (start 14) (g .hypers) .at)) (g .covers) .at ≡ length s
+
+pub graph-good : {s : List ℕ} {g : Graph} → readGraph s ≡ good g → GraphAt s g
+unfolding readGraph
+graph-good {s} e =
+    let k = bind-good _ _ e in
+    let hs = bind-good _ _ (k .rest) in
+    let cs = bind-good _ _ (hs .rest) in
+    let d = demand-good _ _ _ (cs .rest) in
+    let h : k .value .h ≡ length (hs .value) = sym (all-length _ _ _ _ (hs .first)) in
+    let c : k .value .c ≡ length (cs .value) = sym (all-length _ _ _ _ (cs .first)) in
+    subst (GraphAt s) (good-same (d .1)) (record {
+      header = k .first ∙ λ i. good (record { n = k .value .n; h = h i; c = c i });
+      hypers-there = all-there _ _ _ _ (hs .first);
+      covers-there = all-there _ _ _ _ (cs .first);
+      ends = eqb-true _ _ (d .0);
+    })

@@ -1,11 +1,9 @@
 -- Laws of graph messages.
---     Fits       fields that fit, and records that are too short
 --     Good       what a good reading says of the bytes
 --     Accepted   what an accepted message holds, by position
 --     Answered   the reading from an answer
 --     Exact      accepted messages are exactly the writings of well-formed graphs
 --     Laws       there is one answer
-pub mod Fits
 pub mod Good
 pub mod Accepted
 pub mod Answered

@@ -1,11 +1,14 @@
--- The elements of lists that are made by a test or number by number, and such a list from the front. Assumes nothing.
-use mathlib.Core.Path.{_≡_, refl}
+-- The elements of lists that are made by a test or number by number; a list made number by number from the front, and how long it is.
+-- Assumes nothing.
+use mathlib.Core.Path.{_≡_, refl, ap₂}
 use mathlib.Core.Bool.{Bool, true, false, cond}
 use mathlib.Core.Logic.{_⊎_, inl, inr}
-use mathlib.Core.List.{List, [], _∷_, _++_, append-nil, append-assoc, List·Memᴰ·head, List·Memᴰ·tail, List·Memᴰ·append-cases, Memᴰ·append-left, Memᴰ·append-right}
-use Prim.Native.Nat.{ℕ, zero, suc, _+_, _≤_, _<_}
-use native.Mathlib.Nat.{add-zero, eq-or-lt-of-le}
+use mathlib.Core.List.{List, [], _∷_, _++_, List·Memᴰ·head, List·Memᴰ·tail, List·Memᴰ·append-cases, Memᴰ·append-left, Memᴰ·append-right}
+use Prim.Native.Nat.{ℕ, zero, suc, _+_, _*_, _-_, _≤_, _<_}
+use native.Mathlib.Nat.{eq-or-lt-of-le}
+use native.Mathlib.Numerals.{add-one}
 use native.Mathlib.Omega.{arith}
+use lib.ListN.{length, length-append}
 use Rattle.lists.specs.Lists.{_∈_}
 use Rattle.lists.specs.Making.{keep, span}
 
@@ -51,10 +54,34 @@ module _ {B : Type 0} (f : ℕ → List B) where
       go (inl e) rest = Memᴰ·append-left {s = f a} (span f (suc a) n) (rw e m)
       go (inr k) rest = Memᴰ·append-right (f a) (rest k)
 
-  -- a span with one more number at its end
-  pub span-snoc : (a n : ℕ) → span f a (suc n) ≡ span f a n ++ f (a + n)
+  -- the numbers from a on, below n: one more, and none
+  pub span-more : (n a : ℕ) → a < n → span f a (n - a) ≡ f a ++ span f (a + 1) (n - (a + 1))
   unfolding span
-  span-snoc a zero = rw (append-nil (f a), add-zero a)
-  span-snoc a (suc n) =
-      let e : suc a + n ≡ a + suc n = omega arith in
-      rw (span-snoc (suc a) n, e, append-assoc (f a) (span f (suc a) n) (f (a + suc n)))
+  span-more n a h = let left : n - a ≡ suc (n - (a + 1)) = omega arith in rw (left, add-one)
+
+  pub span-none : (n a : ℕ) → n ≤ a → span f a (n - a) ≡ []
+  unfolding span
+  span-none n a h = let none : n - a ≡ 0 = omega arith in rw none
+
+  -- pieces of one length, and of at most one
+  pub span-length : (k : ℕ) → ((a : ℕ) → length (f a) ≡ k) → (a n : ℕ) → length (span f a n) ≡ n * k
+  unfolding span
+  span-length k each a zero = omega arith
+  span-length k each a (suc n) = rw (length-append (f a) (span f (suc a) n)) (omega (arith, each a, span-length k each (suc a) n))
+
+  pub span-short : (k : ℕ) → ((a : ℕ) → length (f a) ≤ k) → (a n : ℕ) → length (span f a n) ≤ n * k
+  unfolding span
+  span-short k each a zero = omega arith
+  span-short k each a (suc n) = rw (length-append (f a) (span f (suc a) n)) (omega (arith, each a, span-short k each (suc a) n))
+
+  -- pieces of nothing
+  pub span-empty : ((a : ℕ) → f a ≡ []) → (a n : ℕ) → span f a n ≡ []
+  unfolding span
+  span-empty each a zero = refl
+  span-empty each a (suc n) = ap₂ _++_ (each a) (span-empty each (suc a) n)
+
+-- what two functions agree on
+pub span-agree : {B : Type 0} (f g : ℕ → List B) (a n : ℕ) → ((c : ℕ) → a ≤ c → c < a + n → f c ≡ g c) → span f a n ≡ span g a n
+unfolding span
+span-agree f g a zero same = refl
+span-agree f g a (suc n) same = ap₂ _++_ (same a (omega arith) (omega arith)) (span-agree f g (suc a) n (λ c p q. same c (omega arith) (omega arith)))

@@ -3,8 +3,9 @@ use Prim.Native.Nat.{ℕ}
 use mathlib.Core.Path.{_≡_}
 use Rattle.refusal.specs.declared.Refusal.{Refusal}
 use Rattle.wire.specs.Read.{Read, good, bad}
+use Rattle.model.specs.Model.{Model}
 use Rattle.model.specs.Message.{Counts}
-use Rattle.model.specs.Answers.{counted}
+use Rattle.model.specs.Answers.{counted, checked}
 use Rattle.model.specs.declared.Checked.the-variants as Checked
 
 pub counted-model : (x : Read Counts) {n p t : ℕ} → counted x ≡ Checked.Model n p t → x ≡ good (record { states = n; propositions = p; transitions = t })
@@ -20,3 +21,8 @@ pub counted-refused : (x : Read Counts) {f : Refusal} → counted x ≡ Checked.
 unfolding counted
 counted-refused (good a) e = cc
 counted-refused (bad a) e = cc
+
+pub checked-refused : (x : Read Model) {f : Refusal} → checked x ≡ Checked.Refused f → x ≡ bad f
+unfolding checked
+checked-refused (good a) e = cc
+checked-refused (bad a) e = cc

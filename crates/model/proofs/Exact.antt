@@ -3,7 +3,7 @@ use Prim.Native.Nat.{ℕ, _+_, _*_, _^_, _≤_, _<_}
 use mathlib.Core.List.{List, _++_, map}
 use mathlib.Core.Bool.{true}
 use mathlib.Core.Logic.{_↔_}
-use mathlib.Core.Path.{_≡_, refl, sym, ap, subst, _∙_}
+use mathlib.Core.Path.{_≡_, refl, sym, ap, _∙_}
 use native.Mathlib.Nat.{pow-le-pow-right}
 use native.Mathlib.Omega.{arith}
 use lib.ListN.{length, drop, length-append}
@@ -17,16 +17,16 @@ use Rattle.wire.specs.Read.{good, field}
 use Rattle.wire.specs.Reader.{readAll}
 use Rattle.wire.specs.Write.{writeAll, message}
 use Rattle.wire.proofs.Bytes.{length-bytes}
-use Rattle.wire.proofs.Reading.{bind-good, demand-good, good-same}
-use Rattle.wire.proofs.Readers.{all-length, Ran}
+use Rattle.wire.proofs.Reading.{good-same}
+use Rattle.wire.proofs.Readers.{Ran}
 use Rattle.wire.proofs.Stands.{Stands, stands-first, stands-second, stands-both, stands-last, value-stands, stands-field}
-use Rattle.wire.proofs.Exact.{good-bind, good-after, good-demand, all-there, length-writeAll, Exact, FitsAll, all-reads, all-written, fits-map, fits-both, fits-each, each-fits, fits-rising, rising-fits, message-length, message-rest, start-reads, start-written}
+use Rattle.wire.proofs.Exact.{good-bind, good-after, good-demand, length-writeAll, Exact, FitsAll, all-reads, all-written, fits-map, fits-both, fits-each, each-fits, fits-rising, rising-fits, message-length, message-rest, start-reads, start-written}
 use Rattle.model.specs.Model.{Model, Transition, noneDead}
-use Rattle.model.specs.Message.{readLabel, readTransition, readHeader, readModel, labels, transitions, start, Counts}
+use Rattle.model.specs.Message.{readLabel, readTransition, readHeader, readModel, labels, transitions, start}
 use Rattle.model.specs.Write.{writeTransition, writeBody, writeModel}
 use Rattle.model.specs.WellFormed.{WellFormed}
 use Rattle.model.proofs.Dead.{live-each, each-live, dead-first}
-use Rattle.model.proofs.Good.{label-good, transition-good, HeaderAt, header-good}
+use Rattle.model.proofs.Good.{label-good, transition-good, HeaderAt, header-good, counts, ModelAt, model-good}
 
 -- ---- records
 
@@ -101,10 +101,7 @@ module _ (s : List ℕ) where
 
 -- ---- whole messages
 
--- the counts of a header, and their bytes
-abbrev counts : Model → Counts
-counts M = record { states = M .states; propositions = M .propositions; transitions = length (M .transitions) }
-
+-- the bytes of the counts
 abbrev writeCounts : Model → List ℕ
 writeCounts M = bytes 2 (M .states) ++ bytes 1 (M .propositions) ++ bytes 4 (length (M .transitions))
 
@@ -142,30 +139,7 @@ body-laid {s} M h =
       transitions-there = stands-second (writeCounts M ++ writeAll (bytes 4) (M .labels)) _ (simp (length-append, length-bytes, length-writeAll (bytes 4) 4 (length-bytes 4)) (omega arith)) h;
     }
 
--- what a good message says of its parts
-record ModelAt (s : List ℕ) (M : Model) : Type 0 where
-  header : readHeader s ≡ good (counts M)
-  labelled : length (M .labels) ≡ M .states
-  labels-there : readAll (labels s (M .propositions)) (M .states) (start 13) ≡ good (M .labels)
-  transitions-there : readAll (transitions s (M .states)) (length (M .transitions)) (start (13 + M .states * 4)) ≡ good (M .transitions)
-  live : noneDead (M .states) (M .transitions) ≡ true
-
-model-good : {s : List ℕ} {M : Model} → readModel s ≡ good M → ModelAt s M
-unfolding readModel
-model-good {s} e =
-    let k = bind-good _ _ e in
-    let ls = bind-good _ _ (k .rest) in
-    let ts = bind-good _ _ (ls .rest) in
-    let d = demand-good _ _ _ (ts .rest) in
-    let t : k .value .transitions ≡ length (ts .value) = sym (all-length _ _ _ _ (ts .first)) in
-    subst (ModelAt s) (good-same (d .1)) (record {
-      header = k .first ∙ λ i. good (record { states = k .value .states; propositions = k .value .propositions; transitions = t i });
-      labelled = all-length _ _ _ _ (ls .first);
-      labels-there = ls .first;
-      transitions-there = all-there _ _ _ _ (ts .first);
-      live = d .0;
-    })
-
+-- parts that a good message has make it good
 good-model : {s : List ℕ} (M : Model) → ModelAt s M → readModel s ≡ good M
 unfolding readModel
 good-model M p =

@@ -1,42 +1,37 @@
 -- What a good reading says: each field is there, each demand is met. Assumes nothing.
 use Prim.Native.Nat.{ℕ, _+_, _*_, _^_, _<_, _≤_}
 use mathlib.Core.List.{List}
-use mathlib.Core.Path.{_≡_, refl, ap, _∙_}
+use mathlib.Core.Bool.{true}
+use mathlib.Core.Path.{_≡_, sym, ap, subst, _∙_}
 use lib.ListN.{length}
 use lib.Dec.{eqb}
 use borrow.Author.Tests.{ltb-true, leb-true, eqb-true}
 use native.Mathlib.Omega.{arith}
 use Rattle.lists.proofs.Tests.{by-test}
 use Rattle.refusal.specs.declared.Refusal.the-variants.{Length}
-use Rattle.wire.specs.declared.Field.{Field}
 use Rattle.wire.specs.declared.Field.the-variants.{Number, Short}
 use Rattle.wire.specs.declared.State.{State}
 use Rattle.wire.specs.Field.{fieldAt}
-use Rattle.wire.specs.Read.{Read, good, bad, _>>=_, ofField}
-use Rattle.wire.specs.Reader.{one}
+use Rattle.wire.specs.Read.{good, bad}
+use Rattle.wire.specs.Reader.{readAll, one}
 use Rattle.wire.specs.Start.{readStart}
 use Rattle.wire.proofs.Fields.{value-inside}
-use Rattle.wire.proofs.Reading.{bind-good, and-good, demand-good, field-good, good-same}
-use Rattle.model.specs.Model.{Transition}
-use Rattle.model.specs.Message.{readLabel, readTransition, readHeader, labels, transitions, afterFrom, Counts}
+use Rattle.wire.proofs.Exact.{all-there}
+use Rattle.wire.proofs.Reading.{reading, length-after, bind-good, and-good, demand-good, field-good, good-same}
+use Rattle.wire.proofs.Readers.{all-length}
+use Rattle.model.specs.Model.{Model, Transition, noneDead}
+use Rattle.model.specs.Message.{readLabel, readTransition, readHeader, readModel, labels, transitions, start, afterFrom, Counts}
 
 after-from-most : {n first from : ℕ} → first ≤ n → from < n → afterFrom first from ≤ n
 unfolding afterFrom
 after-from-most {n} {first} {from} most named =
     by-test (eqb from first) (λ e. rw e (omega (arith, eqb-true))) (λ e. rw e most)
 
--- three fields whose last is short: an earlier one that is short has the same fault
-last-short : {A : Type 0} (x y : Field) (f : (from weight to : ℕ) → Read A) → (ofField x >>= λ a. ofField y >>= λ b. ofField Short >>= f a b) ≡ bad Length
-unfolding _>>=_ ofField
-last-short (Number a) (Number b) f = refl
-last-short (Number a) Short f = refl
-last-short Short y f = refl
-
 module _ (s : List ℕ) where
   -- a transition is as long as its `to` says
   pub transition-short : (n : ℕ) (st : State) → fieldAt 2 s (st .at + 6) ≡ Short → readTransition s n st ≡ bad Length
   unfolding readTransition
-  transition-short n st e = rw e (last-short _ _ _)
+  transition-short n st e = length-after 2 s (st .at) _ (λ from. length-after 4 s (st .at + 2) _ (λ weight. simp (reading, e)))
 
   -- what a good label says of the bytes
   pub record LabelAt (p : ℕ) (st : State) (l : ℕ) : Type 0 where
@@ -132,3 +127,31 @@ header-good s k e =
       transitions-most = rw (← same) (leb-true _ _ (t-most .0));
       long = eqb-true _ _ (long .0) ∙ ap (λ (u : Counts). 13 + u .states * 4 + u .transitions * 8) same;
     }
+
+-- the counts of a header
+abbrev pub counts : Model → Counts
+counts M = record { states = M .states; propositions = M .propositions; transitions = length (M .transitions) }
+
+-- what a good message says of its parts
+pub record ModelAt (s : List ℕ) (M : Model) : Type 0 where
+  pub header : readHeader s ≡ good (counts M)
+  pub labelled : length (M .labels) ≡ M .states
+  pub labels-there : readAll (labels s (M .propositions)) (M .states) (start 13) ≡ good (M .labels)
+  pub transitions-there : readAll (transitions s (M .states)) (length (M .transitions)) (start (13 + M .states * 4)) ≡ good (M .transitions)
+  pub live : noneDead (M .states) (M .transitions) ≡ true
+
+pub model-good : {s : List ℕ} {M : Model} → readModel s ≡ good M → ModelAt s M
+unfolding readModel
+model-good {s} e =
+    let k = bind-good _ _ e in
+    let ls = bind-good _ _ (k .rest) in
+    let ts = bind-good _ _ (ls .rest) in
+    let d = demand-good _ _ _ (ts .rest) in
+    let t : k .value .transitions ≡ length (ts .value) = sym (all-length _ _ _ _ (ts .first)) in
+    subst (ModelAt s) (good-same (d .1)) (record {
+      header = k .first ∙ λ i. good (record { states = k .value .states; propositions = k .value .propositions; transitions = t i });
+      labelled = all-length _ _ _ _ (ls .first);
+      labels-there = ls .first;
+      transitions-there = all-there _ _ _ _ (ts .first);
+      live = d .0;
+    })

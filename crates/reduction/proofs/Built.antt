@@ -1,13 +1,13 @@
--- The built graph is one that a reader takes: sources rise, every node that is named exists, weights and bounds can be said. And its lists
--- as loops build them, from the front. Assumes nothing.
+-- The built graph is one that a reader takes: sources rise, every node that is named exists, weights and bounds can be said.
+-- Assumes nothing.
 use Prim.Native.Nat.{ℕ, suc, zero, _+_, _*_, _≤_, _<_, _^_}
 use native.Mathlib.Omega.{arith}
-use native.Mathlib.Nat.{le-refl, add-zero}
+use native.Mathlib.Nat.{le-refl}
 use lib.ListN.{length}
 use mathlib.Core.Path.{_≡_, refl, subst}
 use mathlib.Core.Logic.{_⊎_, inl, inr}
 use mathlib.Core.Bool.{Bool, true, false, cond, not}
-use mathlib.Core.List.{List, [], _∷_, _++_, map, append-assoc, map-append}
+use mathlib.Core.List.{List, [], _∷_, map, map-append}
 use Rattle.lists.specs.Lists.{_∈_}
 use Rattle.lists.specs.Making.{span}
 use Rattle.lists.specs.Order.{Rising}
@@ -31,15 +31,6 @@ use Rattle.runs.proofs.Proper.{Proper, proper}
 use Rattle.reduction.specs.Built.{to, out, near, rowEdges, stepEdges, helperEdges, rowCovers, isUntil, untils, layout, hyper, cover, graphOf, Fits}
 use Rattle.reduction.proofs.Out.{out-leads, near-leads}
 use Rattle.reduction.proofs.Stands.{Stands, of-until, OfRow, OfHelper, hyper-stands, cover-stands, edges, places, node-lt, helper-lt}
-
--- a layout in two parts
-pub layout-append : {B E : Type 0} (mk : ℕ → B → E) (s : ℕ) (f : Row → ℕ → ℕ → List B) (r : ℕ) (xs ys : List Row)
-    → layout mk s f r (xs ++ ys) ≡ layout mk s f r xs ++ layout mk s f (r + length xs) ys
-unfolding layout
-layout-append mk s f r [] ys = rw (add-zero r)
-layout-append mk s f r (x ∷ xs) ys =
-    let e : suc r + length xs ≡ r + suc (length xs) = omega arith in
-    rw (layout-append mk s f (suc r) xs ys, e, append-assoc (span (λ a. map (mk (a + s * r)) (f x r a)) 0 s) (layout mk s f (suc r) xs))
 
 -- ---- sources rise: those of a node, of a row, of rows
 

@@ -5,7 +5,7 @@
 --     Sound      a number in any round is no empty promise
 --     Complete   where a formula holds, an assignment that obeys the rules is 0
 --     Verdict    settled rounds have 0 where the formula holds, and infinity where not
---     Built      the built graph is well-formed where it fits; its lists from the front
+--     Built      the built graph is well-formed where it fits
 pub mod Out
 pub mod Stands
 pub mod Blocks

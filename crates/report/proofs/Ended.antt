@@ -15,19 +15,18 @@ use Rattle.value.specs.Value.{atMost}
 use Rattle.wire.specs.Bytes.{Bytes, number}
 use Rattle.wire.specs.Read.{Read, good, bad}
 use Rattle.wire.proofs.Fields.{value-inside, value-is}
-use Rattle.wire.proofs.Reading.{bind-good, demand-good, good-same}
 use Rattle.rules.specs.Graph.{Graph}
 use Rattle.rules.specs.Rounds.{rounds}
 use Rattle.rules.specs.Count.{count, enough}
 use Rattle.rules.proofs.Count.{count-le}
 use Rattle.model.specs.Model.{Model}
 use Rattle.model.specs.Message.{readModel}
-use Rattle.model.proofs.Good.{header-good}
+use Rattle.model.proofs.Good.{header-good, model-good}
 use Rattle.formula.specs.Formula.{rootOf}
 use Rattle.formula.specs.Message.{readFormula}
 use Rattle.text.specs.Text.{text}
 use Rattle.build.specs.Built.{fits}
-use Rattle.build.proofs.Spans.{span-agree}
+use Rattle.lists.proofs.Making.{span-agree}
 use Rattle.build.proofs.Writing.{fits-each}
 use Rattle.verdict.specs.Question.{Question, readQuestion, graphFor, rootNode}
 use Rattle.verdict.specs.Answer.{settledFor, valuesFor, settledOf, valuesOf}
@@ -80,15 +79,9 @@ module _ (q : Question) (b v : List ℕ) where
 
 -- its p stands at the ninth byte of the model
 propositions-at : (m : List ℕ) (M : Model) → readModel m ≡ good M → (9 ≤ length m) × (number 1 m 8 ≡ M .propositions)
-unfolding readModel
 propositions-at m M e =
-    let k = bind-good _ _ e in
-    let ls = bind-good _ _ (k .rest) in
-    let ts = bind-good _ _ (ls .rest) in
-    let d = demand-good _ _ _ (ts .rest) in
-    let head = header-good m (k .value) (k .first) in
-    let same = good-same (d .1) in
-    (value-inside 1 m 8 (head .propositions-there), value-is 1 m 8 (head .propositions-there) ∙ ap (λ (M : Model). M .propositions) same)
+    let there = header-good m _ (model-good {s = m} {M = M} e .header) .propositions-there in
+    (value-inside 1 m 8 there, value-is 1 m 8 there)
 
 -- ---- the exits
 

@@ -124,7 +124,7 @@ module _ (g : Graph) (closed : Closed g) (storable : Storable g) where
       pub ends-spent : ¬ Same (g .nodes) b → i ≡ budget → Outcome.Spent i ≡ ended g budget
       unfolding ended
       ends-spent ns e =
-          let later = stops-spent g closed budget (λ j h. not-settled ns j (omega arith)) .1 in
+          let later = stops-spent g closed budget (λ j h. not-settled ns j (omega arith)) in
           rw (lt-leb (count g) budget later) (ap Outcome.Spent e)
 
       -- it is another: on to the next turn

@@ -2,7 +2,7 @@
 -- Assumes nothing.
 use mathlib.Core.Path.{_≡_}
 use mathlib.Core.Bool.{true, false}
-use Prim.Native.Nat.{ℕ, zero, suc, _+_, _*_, _≤_, _<_, min}
+use Prim.Native.Nat.{ℕ, zero, suc, _+_, _*_, _≤_, _<_}
 use native.Mathlib.Nat.{le-antisymm, mul-le-mul-left, mul-suc, mul-add, mul-one}
 use native.Mathlib.Omega.{arith}
 use lib.ListN.{length}
@@ -122,13 +122,6 @@ first-unique g i j p q = le-antisymm (first-le g i j (p .before) (q .settled)) (
 pub count-largest : (g : Graph) → Closed g → Largest g (rounds g (count g))
 count-largest g closed = settled-largest g closed (count g) (count-first g closed .settled)
 
--- ---- a budget of b rounds: the round m at which work stops is the smaller of the count and the budget
-
--- it stopped at the first settled round
-pub stops-settled : (g : Graph) → Closed g → (m b : ℕ) → m ≤ b → First g m → (m ≡ min (count g) b) × (count g ≤ b)
-stops-settled g closed m b h f = let e = first-unique g (count g) m (count-first g closed) f in (omega arith, omega arith)
-
--- it stopped at the budget, and neither that round nor one before it was settled
-pub stops-spent : (g : Graph) → Closed g → (b : ℕ) → ((j : ℕ) → j ≤ b → ¬ Settled g j) → (b ≡ min (count g) b) × (b < count g)
-stops-spent g closed b f =
-    let h = first-le g (suc b) (count g) (λ j l. f j (omega arith)) (count-first g closed .settled) in (omega arith, omega arith)
+-- a budget of b rounds is spent where neither round b nor one before it is settled
+pub stops-spent : (g : Graph) → Closed g → (b : ℕ) → ((j : ℕ) → j ≤ b → ¬ Settled g j) → b < count g
+stops-spent g closed b f = first-le g (suc b) (count g) (λ j l. f j (omega arith)) (count-first g closed .settled)

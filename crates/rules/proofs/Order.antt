@@ -1,14 +1,12 @@
 -- Rounds keep the order of assignments and fall; a round that is settled is the largest assignment that obeys the rules.
 -- Assumes nothing.
 use mathlib.Core.Path.{sym, _∙_}
-use Prim.Native.Nat.{ℕ, zero, suc, _≤_}
-use native.Mathlib.Nat.{le-suc, le-trans}
-use native.Mathlib.Decide.{le-ind}
+use Prim.Native.Nat.{ℕ, zero, suc}
 use native.Mathlib.Omega.{arith}
 use Rattle.value.specs.Value.{Value, plus, _≼_, _⊑_}
 use Rattle.rules.specs.Graph.{Graph, Closed}
 use Rattle.rules.specs.Rounds.{Assignment, round, rounds, Agree, Obeys, Settled, Below, Largest}
-use Rattle.value.proofs.Values.{plus-≼, ≼-plus, ⊑-refl, ⊑-trans, ⊑-of-eq, ⊑-inf, ⊑-antisym, meets-mono}
+use Rattle.value.proofs.Values.{plus-≼, ≼-plus, ⊑-trans, ⊑-of-eq, ⊑-inf, ⊑-antisym, meets-mono}
 use Rattle.rules.proofs.Reasons.{Reason, by-cover, by-hyper, reason, at-most}
 
 -- a target's sum falls with its value
@@ -34,15 +32,11 @@ module _ (g : Graph) (closed : Closed g) where
   unfolding rounds
   rounds-next i e v l = round-agree e v l
 
-  -- a round is at most the one before it, and any one before it
+  -- a round is at most the one before it
   pub rounds-fall : (i : ℕ) → Below g (rounds g (suc i)) (rounds g i)
   unfolding rounds
   rounds-fall zero v l = ⊑-inf
   rounds-fall (suc i) v l = round-mono (rounds-fall i) v l
-
-  pub rounds-antitone : {i j : ℕ} → i ≤ j → Below g (rounds g j) (rounds g i)
-  rounds-antitone {i} {j} h v l =
-      le-ind (λ (m : ℕ). rounds g m v ⊑ rounds g i v) ⊑-refl (λ m k e. ⊑-trans (rounds-fall m v l) e) j h
 
   -- an assignment that obeys the rules is below every round
   pub obeys-below : {a : Assignment} → Obeys g a → (i : ℕ) → Below g a (rounds g i)
@@ -57,13 +51,6 @@ module _ (g : Graph) (closed : Closed g) where
 
   pub settled-largest : (i : ℕ) → Settled g i → Largest g (rounds g i)
   settled-largest i s = record { obeys = settled-obeys i s; largest = λ y o. obeys-below o i }
-
-  -- and every later round equals it
-  pub settled-stays : {i j : ℕ} → Settled g i → i ≤ j → Agree g (rounds g j) (rounds g i)
-  settled-stays {i} {j} s h v l = ⊑-antisym (rounds-antitone h v l) (obeys-below (settled-obeys i s) j v l)
-
-  pub settled-later : {i j : ℕ} → Settled g i → i ≤ j → Settled g j
-  settled-later {i} {j} s h v l = settled-stays s (le-trans h (le-suc j)) v l ∙ sym (settled-stays s h v l)
 
 -- what holds of an assignment holds of one that agrees with it at every node
 pub largest-agree : (g : Graph) → Closed g → {x y : Assignment} → Largest g x → Agree g y x → Largest g y

@@ -7,7 +7,7 @@ use native.Mathlib.Nat.{mul-le-mul-right, suc-mul, le-max-left, le-max-right, le
 use native.Mathlib.Omega.{arith}
 use Rattle.lists.proofs.Tests.{by-test, clash}
 use Rattle.lists.specs.Lists.{_∈_, upTo}
-use Rattle.value.specs.Value.{finite, plus, _≼_}
+use Rattle.value.specs.Value.{finite, _≼_}
 use Rattle.rules.specs.Graph.{Graph, Target, Hyper, Closed, heaviestOf, heaviest}
 use Rattle.rules.specs.Rounds.{rounds}
 use Rattle.value.proofs.Values.{≼-up, finite-≼, ≼-finite, ≼-plus, plus-≼}
@@ -78,13 +78,6 @@ module _ (g : Graph) (closed : Closed g) (w : ℕ) (light : Light g w) where
   -- so at most w for each other node
   pub value-bound : (i v : ℕ) → v < g .nodes → finite (rounds g i v) ≡ true → rounds g i v ≼ ((g .nodes - 1) * w)
   value-bound i v l e = let h = finites-le g i in ≼-up (value-by-finites i v l e) (mul-le-mul-right w (omega arith))
-
-  -- and what a hyperedge adds up for a target is at most w for each node
-  pub sum-bound : (i : ℕ) {h : Hyper} {t : Target} → h ∈ g .hypers → t ∈ h .targets → finite (rounds g i (t .node)) ≡ true
-      → plus (t .weight) (rounds g i (t .node)) ≼ (g .nodes * w)
-  sum-bound i {h} {t} m n e =
-      let l = closed .hyper m n in
-      plus-≼ (t .weight) (rounds g i (t .node)) (value-bound i (t .node) l e) (one-more w (g .nodes) (t .weight) (light .weight m n) (omega arith))
 
 -- no weight is above the largest one
 heaviestOf-≥ : (ts : List Target) {t : Target} → t ∈ ts → t .weight ≤ heaviestOf ts

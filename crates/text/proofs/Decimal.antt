@@ -1,7 +1,7 @@
 -- Decimal numbers: digits only, no leading zero, and the number is what the digits make; they end where the digits end. Assumes nothing.
 use Prim.Native.Nat.{ℕ, zero, suc, _+_, _*_, _-_, _/_, _%_, _^_, _<_, _≤_}
 use mathlib.Core.List.{List, [], _∷_, _++_}
-use mathlib.Core.Path.{_≡_, refl, sym, ap, _∙_}
+use mathlib.Core.Path.{_≡_, refl, ap, _∙_}
 use mathlib.Core.Bool.{Bool, true, false, cond, _&&_}
 use native.Mathlib.Nat.{pow-suc}
 use native.Mathlib.Omega.{arith}
@@ -63,9 +63,6 @@ decimal-length (suc k) n =
     (λ h. rw (decimal-one k n h) (omega arith))
     (λ h. rw (decimal-more k n h) (simp length-append (omega (arith, decimal-length k (n / 10)))))
 
-pub decimal-some : (k n : ℕ) → 1 ≤ length (decimalIn (suc k) n)
-decimal-some k n = by-digit n (λ h. rw (decimal-one k n h) (omega arith)) (λ h. rw (decimal-more k n h) (simp length-append (omega arith)))
-
 -- ---- no leading zero, but for 0 itself
 
 pub decimal-zero : decimal 0 ≡ word "0"
@@ -104,9 +101,6 @@ decimal-value (suc k) n h =
     (λ l. rw (decimal-one k n l) (omega arith))
     (λ l. let below : n / 10 < 10 ^ k = omega (arith, simp pow-suc at h) in rw (decimal-more k n l, value-last, decimal-value k (n / 10) below) (omega arith))
 
-pub decimal-same : (n m : ℕ) → n < 10 ^ 10 → m < 10 ^ 10 → decimal n ≡ decimal m → n ≡ m
-decimal-same n m h k e = sym (decimal-value 10 n h) ∙ ap (value 0) e ∙ decimal-value 10 m k
-
 -- ---- where the digits end
 
 -- the digits that stand first, and what follows them
@@ -136,12 +130,6 @@ decimal-read n r h e = ap (value 0) (leading-digits (decimal n) r (decimal-digit
 
 pub decimal-rest : (n : ℕ) (r : List ℕ) → Stops r → after (decimal n ++ r) ≡ r
 decimal-rest n r e = after-digits (decimal n) r (decimal-digits 10 n) e
-
-pub decimal-cut : (n m : ℕ) (r t : List ℕ) → n < 10 ^ 10 → m < 10 ^ 10 → Stops r → Stops t → decimal n ++ r ≡ decimal m ++ t → (n ≡ m) × (r ≡ t)
-decimal-cut n m r t h k e f same = (
-  sym (decimal-read n r h e) ∙ ap (λ (s : List ℕ). value 0 (leading s)) same ∙ decimal-read m t k f,
-  sym (decimal-rest n r e) ∙ ap after same ∙ decimal-rest m t f,
-)
 
 -- ---- one digit after another
 

@@ -34,10 +34,6 @@ text-length (or φ ψ) = simp length-append (omega (arith, text-length φ, text-
 text-length (next q φ b) = simp length-append (omega (arith, text-length φ, bound-length b, quantifier-length q))
 text-length (until q φ ψ b) = simp length-append (omega (arith, text-length φ, text-length ψ, bound-length b, quantifier-length q))
 
--- so a room of 2,048 bytes is enough for 64 operators and propositions
-pub text-short : (φ : Formula) → size φ ≤ 64 → length (text φ) ≤ 2048
-text-short φ h = omega (arith, text-length φ)
-
 -- an accepted formula has as many of them as it has rows, so 1,152 bytes suffice
 pub accepted-text-length : {p : ℕ} {rows : List Row} → WellFormed p rows → length (text (rootOf rows)) ≤ 1152
 accepted-text-length {rows = rows} w = omega (arith, text-length (rootOf rows), tree-size w, w .rows-fit)

@@ -1,13 +1,12 @@
 -- The text of a row is made of the texts of its operands. Assumes nothing.
-use Prim.Native.Nat.{ℕ, zero, suc, _+_, _*_, _<_, _≤_}
+use Prim.Native.Nat.{ℕ, _+_, _*_, _<_, _≤_}
 use mathlib.Core.List.{List, _∷_, _++_, append-assoc, List·Memᴰ·head, List·Memᴰ·tail, List·Memᴰ·not-nil}
 use mathlib.Core.Option.{some}
 use mathlib.Core.Path.{_≡_, refl, ap, _∙_}
-use native.Mathlib.Nat.{not-suc-le-zero}
 use native.Mathlib.Omega.{arith}
-use lib.ListN.{length, getElem?, length-append}
+use lib.ListN.{length, length-append}
 use Rattle.lists.specs.Lists.{_∈_}
-use Rattle.wire.specs.Layout.{items}
+use Rattle.wire.proofs.Stride.{items-get}
 use Rattle.value.specs.declared.Bound.{Bound}
 use Rattle.formula.specs.declared.Quantifier.{Quantifier}
 use Rattle.formula.specs.declared.Quantifier.the-variants.{Some, Every}
@@ -91,17 +90,6 @@ text-grow (Or l r) φ = refl
 text-grow (Next q l b) φ = simp append-assoc
 text-grow (Until q l r b) φ = simp append-assoc
 
--- ---- rows by position
-
-module _ (s : List ℕ) where
-  items-at : (k at j : ℕ) → j < k → getElem? (items (rowLayout s) k at) j ≡ some (rowAt s (at + j * 8))
-  unfolding items
-  items-at zero at j h = absurd (not-suc-le-zero h)
-  items-at (suc k) at zero h = let here : at ≡ at + 0 * 8 = omega arith in ap (λ (n : ℕ). some (rowAt s n)) here
-  items-at (suc k) at (suc j) h =
-      let later : at + 8 + j * 8 ≡ at + suc j * 8 = omega arith in
-      items-at k (at + 8) j (omega arith) ∙ ap (λ (n : ℕ). some (rowAt s n)) later
-
 -- what is known of an operand l of row i
 pub record Operand (s : List ℕ) (i l : ℕ) : Type 0 where
   pub earlier : l < i
@@ -111,7 +99,7 @@ pub record Operand (s : List ℕ) (i l : ℕ) : Type 0 where
 module _ {s : List ℕ} {i : ℕ} (ready : Ready s i) where
   module _ {row : Row} (e : rowAt s (7 + i * 8) ≡ row) where
     row-there : RowAt (rowsOf s) i row
-    row-there = items-at s (countOf s) 7 i (ready .there) ∙ ap some e
+    row-there = items-get (rowLayout s) 8 (λ at. refl) (countOf s) 7 i (ready .there) ∙ ap some e
 
     pub row-made : rowText s i ≡ made row (λ l. rowText s l)
     unfolding rowText

@@ -40,9 +40,6 @@ Small (until q φ ψ b) = Small φ × Small ψ × SmallBound b
 abbrev Cut : Type 0 → Type 0
 Cut A = A × List ℕ
 
-abbrev cutNumber : List ℕ → Cut ℕ
-cutNumber s = (value 0 (leading s), after s)
-
 -- a bound begins with `<`
 cutBound : List ℕ → Cut Bound
 cutBound s = cond (eqb (getD s 0 0) 60) (Within (value 0 (leading (drop 2 s))), after (drop 2 s)) (Unbounded, s)

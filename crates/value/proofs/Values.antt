@@ -107,28 +107,6 @@ pub ⊑-antisym : {a b : Value} → a ⊑ b → b ⊑ a → a ≡ b
 ⊑-antisym {a = inf} {b = fin b} h k = inf-⊑-fin h
 ⊑-antisym {a = inf} {b = inf} h k = refl
 
--- ---- several in any grouping; 0 is the greatest of none, and infinity the least of none
-
-pub greatest-assoc : (a b c : Value) → greatest a (greatest b c) ≡ greatest (greatest a b) c
-greatest-assoc (fin a) (fin b) (fin c) = ap fin (omega arith)
-greatest-assoc (fin a) (fin b) inf = refl
-greatest-assoc (fin a) inf c = refl
-greatest-assoc inf b c = refl
-
-pub greatest-none : (a : Value) → greatest a (fin 0) ≡ greatest (fin 0) a
-greatest-none (fin a) = ap fin (omega arith)
-greatest-none inf = refl
-
-pub least-assoc : (a b c : Value) → least a (least b c) ≡ least (least a b) c
-least-assoc (fin a) (fin b) (fin c) = ap fin (omega arith)
-least-assoc (fin a) (fin b) inf = refl
-least-assoc (fin a) inf c = refl
-least-assoc inf b c = refl
-
-pub least-none : (a : Value) → least a inf ≡ a
-least-none (fin a) = refl
-least-none inf = refl
-
 -- ---- the bound of a cover edge
 
 -- what a value meets a smaller one meets

@@ -61,12 +61,14 @@ impl Value {
         Value(wide + self.0)
     }
 
+    // The greater of this and another.
     pub fn greatest(self, other: Value) -> Value
         ensures { λ r. ⌜ r .0 ≡ stored (greatest (meaning (self .0)) (meaning (other .0))) ⌝ }
     {
         if self.0 < other.0 { other } else { self }
     }
 
+    // The lesser of this and another.
     pub fn least(self, other: Value) -> Value
         ensures { λ r. ⌜ r .0 ≡ stored (least (meaning (self .0)) (meaning (other .0))) ⌝ }
     {

@@ -20,7 +20,7 @@ use Rattle.wire.specs.declared.State.{State}
 use Rattle.wire.specs.Read.{Read, good, bad, _>>=_, _>>_, demand, ofField}
 use Rattle.wire.specs.Reader.{Reader, readAll}
 use Rattle.wire.specs.Start.{readStart}
-use Rattle.wire.proofs.Reading.{never}
+use Rattle.wire.proofs.Reading.{never, bad-same}
 use Rattle.rules.specs.Graph.{Graph}
 use Rattle.rules.specs.Count.{count}
 use Rattle.graph.specs.Message as graph
@@ -46,9 +46,6 @@ Other e = eqb (numberOf e) 1 ≡ false
 
 not-budget : (e : Refusal) → Other e → ¬ (e ≡ Budget)
 not-budget e o p = clash (eq-eqb (numberOf e) 1 (ap numberOf p)) o
-
-bad-same : {A : Type 0} {e f : Refusal} → _≡_ {A = Read A} (bad e) (bad f) → e ≡ f
-bad-same p = cc
 
 fine : {A : Type 0} {a : A} → Spares (good a)
 fine = record { never-budget = λ e. never (sym e) }

@@ -13,6 +13,7 @@ use Rattle.model.specs.Model.{Model}
 use Rattle.model.specs.Message.{readModel}
 use Rattle.model.specs.Answers as model
 use Rattle.model.specs.declared.Checked.the-variants as Model
+use Rattle.model.proofs.Answered as answered
 use Rattle.formula.specs.Message.{readFormula}
 use Rattle.formula.specs.Answers as formula
 use Rattle.formula.specs.declared.Checked.the-variants as Formula
@@ -41,15 +42,10 @@ model-read m {n} {p} {t} bytes e = go (readModel m) refl e
         let base : ModelRead m (M .states) (M .propositions) (length (M .transitions)) = record { reads = r ∙ ap good (held .is); holds = held .holds } in
         rw (states, propositions, transitions) at base
 
-model-refused : (x : Read Model) {e : Refusal} → model.checked x ≡ Model.Refused e → x ≡ bad e
-unfolding model.checked
-model-refused (good a) e = cc
-model-refused (bad a) e = cc
-
 -- a refused model
 pub asked-refused : (m f : List ℕ) {e : Refusal} → model.checked (readModel m) ≡ Model.Refused e → readQuestion m f ≡ bad e
 unfolding readQuestion
-asked-refused m f h = rw (model-refused (readModel m) h) (bad-then _ _)
+asked-refused m f h = rw (answered.checked-refused (readModel m) h) (bad-then _ _)
 
 -- a model, and the answer on the formula
 module _ (m f : List ℕ) {n p t : ℕ} (read : ModelRead m n p t) where

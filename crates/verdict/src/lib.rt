@@ -84,6 +84,7 @@ impl Answer {
         }
     }
 
+    // The verdict; none with a refusal and with a spent budget.
     pub fn verdict(self) -> Verdict
         ensures { λ r. ⌜ r ≡ answerVerdict self ⌝ }
     {

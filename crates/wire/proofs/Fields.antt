@@ -1,6 +1,6 @@
 -- What a field that is there, or too short, says of the bytes. Assumes nothing.
 use Prim.Native.Nat.{ℕ, _+_, _<_, _≤_}
-use mathlib.Core.Path.{_≡_, refl, sym, _∙_}
+use mathlib.Core.Path.{_≡_, refl, sym, ap, _∙_}
 use mathlib.Core.List.{List}
 use mathlib.Core.Bool.{Bool, true, false, cond}
 use lib.ListN.{length}
@@ -33,6 +33,10 @@ value-inside k s at {n} e = go (leb (at + k) (length s)) refl e
 -- and is the number that stands there
 pub value-is : (k : ℕ) (s : List ℕ) (at : ℕ) {n : ℕ} → fieldAt k s at ≡ Number n → number k s at ≡ n
 value-is k s at {n} e = let there : Number n ≡ Number (number k s at) = sym e ∙ field-value k s at (value-inside k s at e) in cc
+
+-- a field that fits is there, with the number that was read at its place
+pub fits-there : (k : ℕ) (s : List ℕ) (at : ℕ) {r : ℕ} → at + k ≤ length s → r ≡ number k s at → fieldAt k s at ≡ Number r
+fits-there k s at h e = field-value k s at h ∙ ap Number (sym e)
 
 -- no field has more than 4 bytes
 pub width-le : (w : Width) → widthOf w ≤ 4

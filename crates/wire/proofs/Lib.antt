@@ -4,18 +4,24 @@
 --     Reading    how a reading goes on, and what a good one says
 --     Readers    the turns of a loop over records, and what a good reading of them says
 --     Layouts    records by position
+--     Stride     records of one width by position
 --     Turns      the turns of a loop over records
 --     Start      the reading of a message's start, from the answer
 --     Stands     bytes that stand in a message at a position
 --     Exact      readers that read exactly what is written, and the start of a message
+--     Written    records that are written one behind the other
 --     Laid       bytes laid into a room one after another are laid in at once; what a loop has still to lay in
+--     Spans      a loop over numbers that lays in the bytes of each
 pub mod Bytes
 pub mod Fields
 pub mod Reading
 pub mod Readers
 pub mod Layouts
+pub mod Stride
 pub mod Turns
 pub mod Start
 pub mod Stands
 pub mod Exact
+pub mod Written
 pub mod Laid
+pub mod Spans

@@ -41,28 +41,6 @@ module _ {S A : Type 0} (R : Reader S A) where
       let r = bind-good _ _ (a .rest) in
       ap length (sym (good-same (r .rest))) ∙ ap suc (all-length k (R .next st (a .value)) (r .value) (r .first))
 
-  -- the first of k records, and the others
-  pub record First (k : ℕ) (st : S) (xs : List A) : Type 0 where
-    pub head : A
-    pub tail : List A
-    pub parts : xs ≡ head ∷ tail
-    pub head-there : R .read st ≡ good head
-    pub tail-there : readAll R (k - 1) (R .next st head) ≡ good tail
-
-  pub all-first : (k : ℕ) (st : S) (xs : List A) → 0 < k → readAll R k st ≡ good xs → First k st xs
-  unfolding readAll
-  all-first zero st xs h e = absurd (not-suc-le-zero h)
-  all-first (suc k) st xs h e =
-      let a = bind-good _ _ e in
-      let r = bind-good _ _ (a .rest) in
-      record {
-        head = a .value;
-        tail = r .value;
-        parts = sym (good-same (r .rest));
-        head-there = a .first;
-        tail-there = simp sub-one (r .first);
-      }
-
   -- what a good run read
   pub record Ran (k : ℕ) (st end : S) : Type 0 where
     pub got : List A

@@ -53,6 +53,9 @@ never e = let z : _≡_ {A = ℕ} 0 1 = cc in omega arith
 pub good-same : {A : Type 0} {a b : A} → good a ≡ good b → a ≡ b
 good-same e = cc
 
+pub bad-same : {A : Type 0} {e f : Refusal} → _≡_ {A = Read A} (bad e) (bad f) → e ≡ f
+bad-same p = cc
+
 -- a reading that goes on was good so far
 pub record Went {A B : Type 0} (x : Read A) (f : A → Read B) (b : B) : Type 0 where
   pub value : A
@@ -81,3 +84,11 @@ field-good k s at {n} e = go (fieldAt k s at) e
     go : (x : Field) → ofField x ≡ good n → x ≡ Number n
     go (Number m) h = cc
     go Short h = absurd (never h)
+
+-- where what follows a field is LENGTH, so is the whole, be the field there or not
+pub length-after : {B : Type 0} (k : ℕ) (s : List ℕ) (at : ℕ) (f : ℕ → Read B) → ((n : ℕ) → f n ≡ bad Length) → field k s at >>= f ≡ bad Length
+length-after k s at f h = go (fieldAt k s at)
+  where
+    go : (x : Field) → ofField x >>= f ≡ bad Length
+    go (Number n) = simp reading (h n)
+    go Short = simp reading

@@ -53,12 +53,9 @@ stands-parts {s} {at} {l} le h =
     let rest : l ++ drop (at + length l) s ≡ drop at s = rw (← drop-drop) (ap (λ (x : List ℕ). x ++ drop (length l) (drop at s)) (sym (h .there)) ∙ take-append-drop (length l) (drop at s)) in
     rw (append-assoc, rest) (sym (take-append-drop at s))
 
--- a list stands in itself, and alone where it is as long
+-- a list stands in itself
 pub stands-self : (s : List ℕ) → Stands s 0 s
 stands-self s = record { there = take-all (length s) s (omega arith) }
-
-pub stands-whole : {s l : List ℕ} → Stands s 0 l → length l ≡ length s → s ≡ l
-stands-whole h e = stands-last h (omega arith)
 
 -- ---- fields
 

@@ -15,6 +15,7 @@ pub enum Width {
 }
 
 impl Width {
+    // How many bytes that is.
     pub fn bytes(self) -> usize
         ensures { λ r. ⌜ r ≡ widthOf self ⌝ }
     {

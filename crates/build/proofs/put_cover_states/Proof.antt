@@ -9,7 +9,7 @@ use Rattle.wire.proofs.Laid as laid
 use Rattle.build.specs.Bytes.{coverBytes}
 use Rattle.build.proofs.Nodes.{place-fits}
 use Rattle.build.proofs.Covers.{coverOf, cover-length, covers-coded}
-use Rattle.build.proofs.Spans.{SpanLeft, span-begun, span-done, span-fits, span-then}
+use Rattle.wire.proofs.Spans.{SpanLeft, span-begun, span-done, span-fits, span-then}
 use Rattle.build.proofs.put_cover_states.Statement.{statement}
 use Rattle.build.proofs.put_cover_states.Tie as tie
 

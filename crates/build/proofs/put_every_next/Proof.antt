@@ -11,7 +11,9 @@ use Rattle.model.specs.Model.{Transition}
 use Rattle.reduction.specs.Built.{to}
 use Rattle.build.specs.Held.{transitionsFrom}
 use Rattle.build.specs.Bytes.{everyNext}
-use Rattle.build.proofs.Edges.{target-length, writeAll-map, writeAll-keep, Filling, filling-all, filling-none, next-readable, next-named, near, near-fits, near-filled, far-filled}
+use Rattle.wire.proofs.Written.{writeAll-map, writeAll-keep}
+use Rattle.graph.proofs.Exact.{target-length}
+use Rattle.build.proofs.Edges.{Filling, filling-all, filling-none, next-readable, next-named, near, near-fits, near-filled, far-filled}
 use Rattle.build.proofs.put_every_next.Statement.{statement}
 use Rattle.build.proofs.put_every_next.Tie as tie
 

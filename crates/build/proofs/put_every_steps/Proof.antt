@@ -10,7 +10,9 @@ use Rattle.model.specs.Model.{Transition}
 use Rattle.reduction.specs.Built.{to}
 use Rattle.build.specs.Held.{transitionsFrom}
 use Rattle.build.specs.Bytes.{everySteps}
-use Rattle.build.proofs.Edges.{target-length, writeAll-map, Filling, filling-all, filling-none, next-readable, next-named, next-fits, next-filled}
+use Rattle.wire.proofs.Written.{writeAll-map}
+use Rattle.graph.proofs.Exact.{target-length}
+use Rattle.build.proofs.Edges.{Filling, filling-all, filling-none, next-readable, next-named, next-fits, next-filled}
 use Rattle.build.proofs.put_every_steps.Statement.{statement}
 use Rattle.build.proofs.put_every_steps.Tie as tie
 

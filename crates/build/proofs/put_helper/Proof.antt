@@ -16,7 +16,8 @@ use Rattle.model.specs.Model.{Transition}
 use Rattle.reduction.specs.Built.{to, hyper}
 use Rattle.build.specs.Held.{transitionsFrom}
 use Rattle.build.specs.Bytes.{someSteps, everySteps}
-use Rattle.build.proofs.Edges.{head-length, target-length, hypers-more, one-laid, more-laid, hyper-laid}
+use Rattle.graph.proofs.Exact.{target-length}
+use Rattle.build.proofs.Edges.{head-length, hypers-more, one-laid, more-laid, hyper-laid}
 use Rattle.build.proofs.Helpers.{right-fits, every-parts, steps-count}
 use Rattle.build.proofs.put_helper.Statement.{statement}
 use Rattle.build.proofs.put_helper.Tie as tie

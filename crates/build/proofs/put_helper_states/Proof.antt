@@ -11,7 +11,7 @@ use Rattle.build.proofs.Accepted.{states-few}
 use Rattle.build.proofs.Ranges.{starts-own}
 use Rattle.build.proofs.Nodes.{place-fits, own-read}
 use Rattle.build.proofs.Helpers.{own-narrow, helperOf, helper-spans, helper-is}
-use Rattle.build.proofs.Spans.{SpanLeft, span-begun, span-done, span-fits, span-then}
+use Rattle.wire.proofs.Spans.{SpanLeft, span-begun, span-done, span-fits, span-then}
 use Rattle.build.proofs.put_helper_states.Statement.{statement}
 use Rattle.build.proofs.put_helper_states.Tie as tie
 

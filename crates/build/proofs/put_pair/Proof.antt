@@ -4,7 +4,8 @@ use borrow.Author.Needs.{needs}
 use Rattle.wire.proofs.Laid.{sized}
 use Rattle.graph.specs.Write.{writeTarget}
 use Rattle.reduction.specs.Built.{to}
-use Rattle.build.proofs.Edges.{head-length, target-length, one-laid, more-laid, hyper-laid}
+use Rattle.graph.proofs.Exact.{target-length}
+use Rattle.build.proofs.Edges.{head-length, one-laid, more-laid, hyper-laid}
 use Rattle.build.proofs.put_pair.Statement.{statement}
 use Rattle.build.proofs.put_pair.Tie as tie
 

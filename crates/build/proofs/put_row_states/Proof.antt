@@ -12,7 +12,7 @@ use Rattle.build.specs.Bytes.{hypersBytes, rowBytes}
 use Rattle.build.proofs.Accepted.{states-few}
 use Rattle.build.proofs.Ranges.{starts-own}
 use Rattle.build.proofs.Nodes.{row-spans}
-use Rattle.build.proofs.Spans.{SpanLeft, span-begun, span-done, span-fits, span-then}
+use Rattle.wire.proofs.Spans.{SpanLeft, span-begun, span-done, span-fits, span-then}
 use Rattle.build.proofs.put_row_states.Statement.{statement}
 use Rattle.build.proofs.put_row_states.Tie as tie
 

@@ -10,7 +10,7 @@ use Rattle.formula.specs.Layouts.{rowAt, rowLayout}
 use Rattle.build.specs.Held.{heldModel, heldRows}
 use Rattle.build.specs.Bytes.{rowBytes, rowsBytes}
 use Rattle.build.proofs.Nodes.{rows-more, rows-none, row-fits}
-use Rattle.build.proofs.Stride.{items-left}
+use Rattle.wire.proofs.Stride.{items-left}
 use Rattle.build.proofs.put_rows.Statement.{statement}
 use Rattle.build.proofs.put_rows.Tie as tie
 

@@ -10,7 +10,8 @@ use Rattle.model.specs.Model.{Transition}
 use Rattle.reduction.specs.Built.{to, hyper}
 use Rattle.build.specs.Held.{transitionsFrom}
 use Rattle.build.specs.Bytes.{hypersBytes, someNext}
-use Rattle.build.proofs.Edges.{single-length, writeAll-map, writeAll-keep, Filling, filling-all, filling-none, next-readable, next-named, near, near-fits, near-filled, far-filled}
+use Rattle.wire.proofs.Written.{writeAll-map, writeAll-keep}
+use Rattle.build.proofs.Edges.{single-length, Filling, filling-all, filling-none, next-readable, next-named, near, near-fits, near-filled, far-filled}
 use Rattle.build.proofs.put_some_next.Statement.{statement}
 use Rattle.build.proofs.put_some_next.Tie as tie
 

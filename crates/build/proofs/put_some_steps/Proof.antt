@@ -9,7 +9,8 @@ use Rattle.model.specs.Model.{Transition}
 use Rattle.reduction.specs.Built.{to, hyper}
 use Rattle.build.specs.Held.{transitionsFrom}
 use Rattle.build.specs.Bytes.{hypersBytes, someSteps}
-use Rattle.build.proofs.Edges.{pair-length, writeAll-map, Filling, filling-all, filling-none, next-readable, next-named, next-fits, next-filled}
+use Rattle.wire.proofs.Written.{writeAll-map}
+use Rattle.build.proofs.Edges.{pair-length, Filling, filling-all, filling-none, next-readable, next-named, next-fits, next-filled}
 use Rattle.build.proofs.put_some_steps.Statement.{statement}
 use Rattle.build.proofs.put_some_steps.Tie as tie
 

@@ -13,7 +13,8 @@ use Rattle.wire.proofs.Fields.{field-value, value-inside}
 use Rattle.wire.proofs.Reading.{reading}
 use Rattle.graph.specs.Message.{readCover}
 use Rattle.wire.specs.Step.{step}
-use Rattle.graph.proofs.Fits.{fits-there, cover-short}
+use Rattle.wire.proofs.Fields.{fits-there}
+use Rattle.graph.proofs.Good.{cover-short}
 use Rattle.graph.proofs.cover.Statement.{statement}
 use Rattle.graph.proofs.cover.Tie as tie
 

@@ -13,7 +13,8 @@ use Rattle.wire.proofs.Fields.{value-inside, value-is}
 use Rattle.wire.proofs.Reading.{reading}
 use Rattle.graph.specs.Message.{readHyper}
 use Rattle.wire.specs.Step.{step}
-use Rattle.graph.proofs.Fits.{fits-there, hyper-short}
+use Rattle.wire.proofs.Fields.{fits-there}
+use Rattle.graph.proofs.Good.{hyper-short}
 use Rattle.graph.proofs.hyper.Statement.{statement}
 use Rattle.graph.proofs.hyper.Tie as tie
 

@@ -12,7 +12,7 @@ use Rattle.wire.proofs.Fields.{field-value}
 use Rattle.wire.proofs.Reading.{reading}
 use Rattle.graph.specs.Message.{readTarget}
 use Rattle.wire.specs.Step.{step}
-use Rattle.graph.proofs.Fits.{fits-there}
+use Rattle.wire.proofs.Fields.{fits-there}
 use Rattle.graph.proofs.target.Statement.{statement}
 use Rattle.graph.proofs.target.Tie as tie
 

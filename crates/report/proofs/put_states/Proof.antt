@@ -6,7 +6,7 @@ use native.Mathlib.Omega.{arith}
 use lib.Dec.{eqb}
 use lib.ListN.{getD}
 use borrow.Author.Needs.{needs}
-use Rattle.build.proofs.Spans.{SpanLeft, span-begun, span-done, span-fits, span-then}
+use Rattle.wire.proofs.Spans.{SpanLeft, span-begun, span-done, span-fits, span-then}
 use Rattle.report.specs.Lines.{stateLine, statesLines}
 use Rattle.report.proofs.put_states.Statement.{statement}
 use Rattle.report.proofs.put_states.Tie as tie

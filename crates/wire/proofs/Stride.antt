@@ -7,8 +7,8 @@ use native.Mathlib.Nat.{not-suc-le-zero, suc-add, zero-add}
 use native.Mathlib.Omega.{arith}
 use lib.ListN.{getD, getElem?, take, drop}
 use lib.Seq.{take-at, drop-at}
-use Rattle.wire.proofs.Layouts.{items-more, items-length}
 use Rattle.wire.specs.Layout.{Layout, items}
+use Rattle.wire.proofs.Layouts.{items-more, items-length}
 
 -- each record is w long
 module _ {A : Type 0} (L : Layout A) (w : ℕ) (wide : (at : ℕ) → L .next at ≡ at + w) where
