@@ -9,8 +9,10 @@ ghost use Rattle.formula.specs.Message.{readFormula};
 ghost use Rattle.formula.specs.Answers as f;
 ghost use Rattle.rounds.specs.Outcome as rounds;
 ghost use Rattle.text.specs.Written as text;
+ghost use Rattle.build.specs.Built as b;
 ghost use Rattle.verdict.specs.Question.{readQuestion, readAsked};
 ghost use Rattle.verdict.specs.Answer as v;
+ghost use Rattle.verdict.specs.Promise.{Promise, PromiseAll, PromiseGraph};
 ghost use Rattle.export.specs.Counts.{graphCounts, modelCounts, formulaCount};
 ghost use Rattle.export.specs.Verdicts.{verdictNumber, asked, settled, settledStates};
 use refusal::Refusal;
@@ -130,12 +132,33 @@ pub extern "C" fn otzarvim_verdict(
         (now (values .entry))) ⌝ }
     ensures { λ _. ⌜ now (length .exit) ≡ v.answerLength (asked (now (model .entry)) (now (formula .entry)) state budget (now (bytes .entry))
         (now (values .entry))) ⌝ }
+    ensures { λ _. ⌜ Promise (now (model .entry)) (now (formula .entry)) state budget (now (bytes .entry)) (now (values .entry)) (now (bytes .exit))
+        (now (values .exit)) (asked (now (model .entry)) (now (formula .entry)) state budget (now (bytes .entry)) (now (values .entry))) ⌝ }
 {
     let answer = verdict::decide(model, formula, state, budget, bytes, values);
     *verdict = verdict_number(answer.verdict());
     *count = answer.count();
     *length = answer.length();
     answer.number()
+}
+
+// The graph of a model and a formula alone; lends back its length.
+#[no_mangle]
+pub extern "C" fn otzarvim_graph(
+    model: &[u8],
+    formula: &[u8],
+    bytes: &mut [u8],
+    length: &mut usize,
+) -> u8
+    ensures { λ r. ⌜ r ≡ b.builtNumber (v.graphBuilt (readQuestion (now (model .entry)) (now (formula .entry))) (now (bytes .entry))) ⌝ }
+    ensures { λ _. ⌜ now (bytes .exit) ≡ v.graphRoom (readQuestion (now (model .entry)) (now (formula .entry))) (now (bytes .entry)) ⌝ }
+    ensures { λ _. ⌜ now (length .exit) ≡ b.builtLength (v.graphBuilt (readQuestion (now (model .entry)) (now (formula .entry))) (now (bytes .entry))) ⌝ }
+    ensures { λ _. ⌜ PromiseGraph (now (model .entry)) (now (formula .entry)) (now (bytes .entry)) (now (bytes .exit))
+        (v.graphBuilt (readQuestion (now (model .entry)) (now (formula .entry))) (now (bytes .entry))) ⌝ }
+{
+    let built = verdict::graph(model, formula, bytes);
+    *length = built.length();
+    built.number()
 }
 
 // All states at once; lends back the count of rounds, the length of the graph, the place of state 0's number and how many states there are, where it settled.
@@ -160,6 +183,8 @@ pub extern "C" fn otzarvim_settle(
         (now (values .entry))) ⌝ }
     ensures { λ _. ⌜ now (states .exit) ≡ settledStates (settled (now (model .entry)) (now (formula .entry)) budget (now (bytes .entry))
         (now (values .entry))) (now (states .entry)) ⌝ }
+    ensures { λ _. ⌜ PromiseAll (now (model .entry)) (now (formula .entry)) budget (now (bytes .entry)) (now (values .entry)) (now (bytes .exit))
+        (now (values .exit)) (settled (now (model .entry)) (now (formula .entry)) budget (now (bytes .entry)) (now (values .entry))) ⌝ }
 {
     match verdict::settle(model, formula, budget, bytes, values) {
         Settled::Done(rounds, long, first, many) => {

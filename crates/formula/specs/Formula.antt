@@ -11,6 +11,7 @@ use Rattle.formula.specs.declared.Row.{Row}
 use Rattle.formula.specs.declared.Row.the-variants as Row
 use Rattle.formula.specs.Rows.{operands}
 
+-- the operators, with formulas for operands; an until carries its quantifier and a bound that is a number or none
 pub data Formula : Type 0 where
   true′ false′ : Formula
   prop not-prop : ℕ → Formula
@@ -35,6 +36,7 @@ unfoldable pub tree : ℕ → List Row → ℕ → Formula
 tree zero rows i = false′
 tree (suc n) rows i = grow (getElem? rows i) (λ l. tree n rows l)
 
+-- the formula of row i: no tree of these rows is deeper than there are rows
 abbrev pub formulaOf : List Row → ℕ → Formula
 formulaOf rows i = tree (length rows) rows i
 

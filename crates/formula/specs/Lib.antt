@@ -1,3 +1,4 @@
+-- Definitions: formulas and rows, their messages, which are well-formed, and the answer of the check.
 pub mod Formula
 pub mod Rows
 pub mod Message

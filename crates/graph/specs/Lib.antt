@@ -1,3 +1,4 @@
+-- Definitions: the messages of graphs, which graphs are well-formed, and the answer of the check.
 pub mod Message
 pub mod Write
 pub mod WellFormed

@@ -1,3 +1,4 @@
+-- Definitions: models, their messages, which are well-formed, and the answer of the check.
 pub mod Model
 pub mod Message
 pub mod Write

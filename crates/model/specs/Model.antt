@@ -22,6 +22,7 @@ pub record Model : Type 0 where
 abbrev pub bit : ℕ → ℕ → Bool
 bit label i = eqb (label / 2 ^ i % 2) 1
 
+-- proposition i holds in state a: the state's label says so
 abbrev pub holds : Model → ℕ → ℕ → Bool
 holds M i a = bit (getD (M .labels) a 0) i
 

@@ -1,1 +1,2 @@
+-- Definitions: the graph that is built.
 pub mod Built

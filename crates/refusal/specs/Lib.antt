@@ -1,1 +1,2 @@
+-- Definitions: the numbers given back.
 pub mod Number

@@ -36,7 +36,8 @@ use Rattle.verdict.proofs.Deciding.{zero-test}
 use Rattle.verdict.proofs.Finished.{ended-as, node-inside, node-holds}
 use Rattle.verdict.proofs.Promised.{asks}
 use Rattle.verdict.proofs.Reading.{question-parts}
-use Rattle.report.specs.Lines.{line, refusedLine, roundsLine, stateLine, statesLines, textIn, endedLines}
+use Rattle.report.specs.Lines.{line, refusedLine, roundsLine, stateLine}
+use Rattle.report.specs.Pieces.{statesLines, textIn, endedLines}
 use Rattle.report.specs.Output.{settledLines, settledOutput, outputOf, leftOf}
 
 -- ---- the largest budget is as good as n (c + 1)

@@ -20,7 +20,8 @@ use Rattle.text.specs.declared.Written.{Written}
 use Rattle.text.specs.declared.Written.the-variants as Written
 use Rattle.text.proofs.Length.{accepted-text-length}
 use Rattle.lists.proofs.Making.{span-short}
-use Rattle.report.specs.Lines.{line, roundsLine, statesLines, textIn}
+use Rattle.report.specs.Lines.{line, roundsLine}
+use Rattle.report.specs.Pieces.{statesLines, textIn}
 use Rattle.report.proofs.Lines.{rounds-length, state-length}
 
 -- no accepted formula's text is long

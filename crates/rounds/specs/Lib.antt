@@ -1,3 +1,4 @@
+-- Definitions: the outcome, the promise, and what the room holds on the way.
 pub mod Outcome
 pub mod Promise
 pub mod Room

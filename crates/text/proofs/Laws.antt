@@ -5,6 +5,7 @@ use mathlib.Core.Path.{_≡_, sym, _∙_}
 use native.Mathlib.Omega.{arith}
 use lib.ListN.{length}
 use borrow.Author.Tests.{le-ltb}
+use Rattle.wire.specs.Laid.{Laid}
 use Rattle.wire.specs.Read.{Read, good}
 use Rattle.formula.specs.declared.Row.{Row}
 use Rattle.formula.specs.Formula.{rootOf}
@@ -25,6 +26,10 @@ one-number w p q = p ∙ sym q
 
 pub one-length : (w : Written) {n n′ : ℕ} → n ≡ writtenLength w → n′ ≡ writtenLength w → n ≡ n′
 one-length w p q = p ∙ sym q
+
+-- and so with bytes laid at a position: `put_word`, `put_decimal`, `put_number`
+pub one-laid : {b s a a′ : List ℕ} {at n n′ : ℕ} → Laid b at s a n → Laid b at s a′ n′ → (a ≡ a′) × (n ≡ n′)
+one-laid p q = (p .room-is ∙ sym (q .room-is), p .next-is ∙ sym (q .next-is))
 
 -- a room of 2,048 bytes is never too small
 pub room-enough : {p : ℕ} {rows : List Row} (b : List ℕ) → WellFormed p rows → 2048 ≤ length b → writtenOf (good rows) b ≡ Text (length (text (rootOf rows)))

@@ -17,11 +17,13 @@ abbrev pub plus : ℕ → Value → Value
 plus w (fin a) = fin (w + a)
 plus w inf = inf
 
+-- the greater of two values; infinity is the greatest
 abbrev pub greatest : Value → Value → Value
 greatest (fin a) (fin b) = fin (max a b)
 greatest (fin a) inf = inf
 greatest inf b = inf
 
+-- the lesser of two values
 abbrev pub least : Value → Value → Value
 least (fin a) (fin b) = fin (min a b)
 least (fin a) inf = fin a
@@ -32,10 +34,12 @@ abbrev pub atMost : Value → ℕ → Bool
 atMost (fin a) k = leb a k
 atMost inf k = false
 
+-- the value is a whole number
 abbrev pub finite : Value → Bool
 finite (fin a) = true
 finite inf = false
 
+-- the test whether two values are equal
 abbrev pub same : Value → Value → Bool
 same (fin a) (fin b) = eqb a b
 same (fin a) inf = false

@@ -99,7 +99,7 @@ module _ (m f : List ℕ) (budget : ℕ) (b v : List ℕ) (q : Question) (asked 
   -- and one of its states
   kept-state : (state : ℕ) → state < q .model .states
       → Promise m f state budget b v (bytesFor q b v) (valuesFor q budget b v) (decided q state (settledFor q budget b v))
-  unfolding decided
+  unfolding decided spends
   kept-state state named = go (settledFor q budget b v) (ended q budget b v)
     where
       go : (s : Settled) → Ended q budget b v s → Promise m f state budget b v (bytesFor q b v) (valuesFor q budget b v) (decided q state s)
@@ -114,7 +114,7 @@ module _ (m f : List ℕ) (budget : ℕ) (b v : List ℕ) (q : Question) (asked 
             settles = settles done;
             leaves = leaves (done .ran);
           }
-      go (Settled.Spent k n) stop = spends stop
+      go (Settled.Spent k n) stop = record { spends = spends stop; named = named }
       go (Settled.Refused e) same = same
 
 -- the state that is asked for exists

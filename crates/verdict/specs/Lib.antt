@@ -1,3 +1,4 @@
+-- Definitions: the question, the answer, and the promise.
 pub mod Question
 pub mod Answer
 pub mod Promise

@@ -120,6 +120,13 @@ pub record Spends (m f : List ℕ) (budget : ℕ) (b v b′ v′ : List ℕ) (k 
   -- the graph and the last two rounds stand in the rooms
   pub leaves : Leaves question budget b v b′ v′ n
 
+-- the budget is spent on a question about a state
+pub record SpendsOn (m f : List ℕ) (state budget : ℕ) (b v b′ v′ : List ℕ) (k n : ℕ) : Type 0 where
+  -- the graph and the last two rounds stand in the rooms
+  pub spends : Spends m f budget b v b′ v′ k n
+  -- the state exists
+  pub named : state < spends .question .model .states
+
 -- the graph alone was built
 pub record Builds (m f : List ℕ) (b b′ : List ℕ) (n : ℕ) : Type 0 where
   -- the model and the formula
@@ -132,7 +139,7 @@ pub record Builds (m f : List ℕ) (b b′ : List ℕ) (n : ℕ) : Type 0 where
 -- a refusal but BUDGET leaves both rooms as they came
 abbrev pub Promise : (m f : List ℕ) (state budget : ℕ) (bytes values bytes′ values′ : List ℕ) → Answer → Type 0
 Promise m f state budget b v b′ v′ (Answer.Decided w k n) = Decides m f state budget b v b′ v′ w k n
-Promise m f state budget b v b′ v′ (Answer.Spent k n) = Spends m f budget b v b′ v′ k n
+Promise m f state budget b v b′ v′ (Answer.Spent k n) = SpendsOn m f state budget b v b′ v′ k n
 Promise m f state budget b v b′ v′ (Answer.Refused e) = (b′ ≡ b) × (v′ ≡ v)
 
 abbrev pub PromiseAll : (m f : List ℕ) (budget : ℕ) (bytes values bytes′ values′ : List ℕ) → Settled → Type 0

@@ -1,3 +1,4 @@
+-- Definitions: bytes, fields, readings and writings that all messages share.
 pub mod Bytes
 pub mod Field
 pub mod Read

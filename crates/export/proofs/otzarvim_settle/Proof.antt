@@ -1,9 +1,10 @@
 -- `export::otzarvim_settle` meets its contract: each part of the answer, and both rooms, case by case.
-use mathlib.Core.Path.{sym, ap, _∙_}
+use mathlib.Core.Path.{sym, ap, subst, _∙_}
 use denote.Ref.{now}
 use borrow.Author.Needs.{needs}
 use Rattle.lists.proofs.Tests.{by}
 use Rattle.verdict.specs.Answer.{settledNumber, settledCount, settledLength}
+use Rattle.verdict.specs.Promise.{PromiseAll}
 use Rattle.verdict.specs.declared.Settled.{Settled}
 use Rattle.export.specs.Verdicts.{settledStates}
 use Rattle.export.proofs.otzarvim_settle.Statement.{statement}
@@ -40,7 +41,7 @@ returns c =
     let rooms = call .settle .ensures .1 in
     let is = by (call .settle .ensures .0) (known .rounds .given .1) in
     let came = now (call .before .before .before .before .before .before .before .args .states) in
-    (sym (ap settledNumber is), (rooms .0, (rooms .1 .0, (sym (ap settledCount is), (sym (ap settledLength is), sym (ap (λ (x : Settled). settledStates x came) is))))))
+    (sym (ap settledNumber is), (rooms .0, (rooms .1 .0, (sym (ap settledCount is), (sym (ap settledLength is), (sym (ap (λ (x : Settled). settledStates x came) is), subst (PromiseAll _ _ _ _ _ _ _) (call .settle .ensures .0) (rooms .1 .1)))))))
 
 same-length-3 : tie.Need-same-length-3
 same-length-3 c = search needs
@@ -55,7 +56,7 @@ returns-2 c =
     let rooms = call .settle .ensures .1 in
     let is = by (call .settle .ensures .0) (known .rounds2 .given .1) in
     let came = now (call .before .before .before .before .before .before .before .args .states) in
-    (c .number .ensures ∙ sym (ap settledNumber is), (rooms .0, (rooms .1 .0, (sym (ap settledCount is), (sym (ap settledLength is), sym (ap (λ (x : Settled). settledStates x came) is))))))
+    (c .number .ensures ∙ sym (ap settledNumber is), (rooms .0, (rooms .1 .0, (sym (ap settledCount is), (sym (ap settledLength is), (sym (ap (λ (x : Settled). settledStates x came) is), subst (PromiseAll _ _ _ _ _ _ _) (call .settle .ensures .0) (rooms .1 .1)))))))
 
 same-length-5 : tie.Need-same-length-5
 same-length-5 c = search needs
@@ -70,7 +71,7 @@ returns-3 c =
     let rooms = call .settle .ensures .1 in
     let is = by (call .settle .ensures .0) (known .e .given .1) in
     let came = now (call .before .before .before .before .before .before .before .args .states) in
-    (c .number2 .ensures ∙ sym (ap settledNumber is), (rooms .0, (rooms .1 .0, (sym (ap settledCount is), (sym (ap settledLength is), sym (ap (λ (x : Settled). settledStates x came) is))))))
+    (c .number2 .ensures ∙ sym (ap settledNumber is), (rooms .0, (rooms .1 .0, (sym (ap settledCount is), (sym (ap settledLength is), (sym (ap (λ (x : Settled). settledStates x came) is), subst (PromiseAll _ _ _ _ _ _ _) (call .settle .ensures .0) (rooms .1 .1)))))))
 
 pub otzarvim-settle-spec : {M : Type 1} → statement M
 otzarvim-settle-spec =

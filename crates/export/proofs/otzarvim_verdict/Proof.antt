@@ -1,7 +1,8 @@
 -- `export::otzarvim_verdict` meets its contract: each part of the answer, and both rooms.
-use mathlib.Core.Path.{ap, _∙_}
+use mathlib.Core.Path.{ap, subst, _∙_}
 use borrow.Author.Needs.{needs}
 use Rattle.verdict.specs.Answer.{answerNumber, answerVerdict, answerCount, answerLength}
+use Rattle.verdict.specs.Promise.{Promise}
 use Rattle.export.specs.Verdicts.{verdictNumber}
 use Rattle.export.proofs.otzarvim_verdict.Statement.{statement}
 use Rattle.export.proofs.otzarvim_verdict.Tie as tie
@@ -44,7 +45,10 @@ returns c =
           answer .1 .1 .0,
           (
             number .verdict-number .ensures ∙ ap verdictNumber (verdict .verdict .ensures ∙ ap answerVerdict (answer .0)),
-            (count .count .ensures ∙ ap answerCount (answer .0), length .length .ensures ∙ ap answerLength (answer .0)),
+            (
+              count .count .ensures ∙ ap answerCount (answer .0),
+              (length .length .ensures ∙ ap answerLength (answer .0), subst (Promise _ _ _ _ _ _ _ _) (answer .0) (answer .1 .1 .1)),
+            ),
           ),
         ),
       ),

@@ -8,7 +8,8 @@ use borrow.Author.Needs.{needs}
 use Rattle.wire.specs.Bytes.{Bytes}
 use Rattle.wire.proofs.Laid.{_then_, fits}
 use Rattle.formula.specs.Message.{readFormula}
-use Rattle.report.specs.Lines.{line, roundsLine, statesLines, textIn, endedLines}
+use Rattle.report.specs.Lines.{line, roundsLine}
+use Rattle.report.specs.Pieces.{statesLines, textIn, endedLines}
 use Rattle.report.proofs.Texts.{ended-fit}
 use Rattle.report.proofs.put_settled.Statement.{statement}
 use Rattle.report.proofs.put_settled.Tie as tie

@@ -7,7 +7,8 @@ use lib.Dec.{eqb}
 use lib.ListN.{getD}
 use borrow.Author.Needs.{needs}
 use Rattle.wire.proofs.Spans.{SpanLeft, span-begun, span-done, span-fits, span-then}
-use Rattle.report.specs.Lines.{stateLine, statesLines}
+use Rattle.report.specs.Lines.{stateLine}
+use Rattle.report.specs.Pieces.{statesLines}
 use Rattle.report.proofs.put_states.Statement.{statement}
 use Rattle.report.proofs.put_states.Tie as tie
 
