@@ -4,20 +4,6 @@
 
 DECLARE(P)
 
-static inline u32 two(const u8 *p)
-{
-    u16 v;
-    __builtin_memcpy(&v, p, 2);
-    return __builtin_bswap16(v);
-}
-
-static inline u32 four(const u8 *p)
-{
-    u32 v;
-    __builtin_memcpy(&v, p, 4);
-    return __builtin_bswap32(v);
-}
-
 static u32 first[65536], weight[262144], bound[4096];
 static u16 source[65536], node[262144], cover[4096], covered[4096];
 

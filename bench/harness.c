@@ -142,13 +142,6 @@ static void question(struct input *in, uint32_t t)
     in->state = 7;
 }
 
-/* The same with no round beyond the first: what is measured is mostly the builder. */
-static void question_alone(struct input *in, uint32_t t)
-{
-    question(in, t);
-    in->budget = 0;
-}
-
 /* Examples like those of the paper's source, cut after so many states, and its formulas. */
 static void asked(struct input *in, const struct system *system, uint32_t s)
 {
@@ -251,7 +244,34 @@ static void run_formula(int v, const struct input *in, struct answer *out)
 #undef CALL
 }
 
-/* The library has no builder alone for C: it is measured with the checks of both messages, the check of the graph and one round. */
+static void build(int v, const struct input *in, struct answer *out)
+{
+    if (v == A) {
+        size_t length;
+        out->number = otzarvim_graph(in->message, in->length, in->formula, in->formula_length, out->graph, MESSAGE, &length);
+        out->length = length;
+        return;
+    }
+#define CALL(p) out->length = PASTE(p, build)(in->message, in->length, in->formula, in->formula_length, out->graph);
+    VERSIONED(CALL)
+#undef CALL
+}
+
+static void run_build(int v, const struct input *in, struct answer *out) { build(v, in, out); }
+
+/* The library always checks both messages; here the others do so too. */
+static void run_checked_build(int v, const struct input *in, struct answer *out)
+{
+#define CALL(p)                                                                                          \
+    out->number = PASTE(p, model_check)(in->message, in->length);                                        \
+    if (out->number == 0)                                                                                \
+        out->number = PASTE(p, formula_check)(in->formula, in->formula_length, in->propositions);
+    VERSIONED(CALL)
+#undef CALL
+    if (out->number == 0)
+        build(v, in, out);
+}
+
 static void run_verdict(int v, const struct input *in, struct answer *out)
 {
     if (v == A) {
@@ -290,7 +310,8 @@ static const struct workload {
     {"check of a graph", "nodes", 4096, wide, run_graph, 1},
     {"check of a model", "transitions", 65535, models, run_model, 1},
     {"check of a formula", "rows", 64, formulas, run_formula, 1},
-    {"the graph of a model, and one round", "transitions", 65535, question_alone, run_verdict, 0},
+    {"the graph of a model", "transitions", 65535, question, run_build, 0},
+    {"the graph of a model, messages checked", "transitions", 65535, question, run_checked_build, 0},
     {"verdict: a large model", "transitions", 65535, question, run_verdict, 0},
     {"verdict: leader election", "states", 256, one_leader, run_verdict, 0},
     {"verdict: two leaders", "states", 256, two_leaders, run_verdict, 0},

@@ -4,20 +4,6 @@
 
 DECLARE(P)
 
-static inline u32 two(const u8 *p)
-{
-    u16 v;
-    __builtin_memcpy(&v, p, 2);
-    return __builtin_bswap16(v);
-}
-
-static inline u32 four(const u8 *p)
-{
-    u32 v;
-    __builtin_memcpy(&v, p, 4);
-    return __builtin_bswap32(v);
-}
-
 static inline u64 plus(u64 value, u32 weight)
 {
     u64 sum = value + weight;

@@ -13,6 +13,21 @@ typedef __UINT64_TYPE__ u64;
 #define PASTE_(a, b) a##b
 #define PASTE(a, b) PASTE_(a, b)
 
+/* Numbers in message bytes. */
+static inline u32 two(const u8 *p)
+{
+    u16 v;
+    __builtin_memcpy(&v, p, 2);
+    return __builtin_bswap16(v);
+}
+
+static inline u32 four(const u8 *p)
+{
+    u32 v;
+    __builtin_memcpy(&v, p, 4);
+    return __builtin_bswap32(v);
+}
+
 /* The same shape for every version. The checks return the paper's number. Rounds, builder and verdict take accepted messages. */
 #define DECLARE(p)                                                                                                       \
     u32 PASTE(p, graph_check)(const u8 *s, u64 length);                                                                  \

@@ -13,11 +13,6 @@ static u8 input[INPUT + 1], graph[4 << 20];
 static u64 room[2 * 4096];
 static char out[8192], *to = out;
 
-static u32 four(const u8 *p)
-{
-    return (u32)p[0] << 24 | (u32)p[1] << 16 | (u32)p[2] << 8 | p[3];
-}
-
 static void put(const char *word)
 {
     while (*word)

@@ -105,6 +105,11 @@ static void decide(void)
                               &count, &length);
 }
 
+static void build(void)
+{
+    number = otzarvim_graph(model, model_length, asked, asked_length, built, sizeof built, &length);
+}
+
 static void settle(void)
 {
     number = otzarvim_settle(model, model_length, asked, asked_length, 5, built, sizeof built, room, OTZARVIM_MOST_VALUES, &count, &length,
@@ -121,6 +126,7 @@ static const struct {
     {"otzarvim_rounds_solve", rounds_solve},
     {"otzarvim_formula_text", formula_text},
     {"otzarvim_verdict", decide},
+    {"otzarvim_graph", build},
     {"otzarvim_settle", settle},
 };
 

@@ -161,7 +161,21 @@ uint8_t otzarvim_verdict(const uint8_t *model, size_t model_length, const uint8_
                          uint64_t *values, size_t values_length, uint8_t *verdict, uint32_t *count, size_t *length);
 
 /*
- * The same for all states of a model at once; one graph and one run of the rounds answer for all.
+ * Builds the graph of a model and a formula alone, as otzarvim_verdict does, and runs no rounds.
+ *
+ *   model, formula, bytes     as for otzarvim_verdict
+ *   length                    gets how many bytes the graph's message has
+ *
+ * With OK the first bytes hold the graph's message, which otzarvim_graph_check accepts; the others stay.
+ *
+ * Returns OK or the first that applies of: what otzarvim_model_check returns of the model, what
+ * otzarvim_formula_check returns of the formula, SIZE, ROOM.
+ */
+uint8_t otzarvim_graph(const uint8_t *model, size_t model_length, const uint8_t *formula, size_t formula_length,
+                       uint8_t *bytes, size_t bytes_length, size_t *length);
+
+/*
+ * The same as otzarvim_verdict for all states of a model at once; one graph and one run of the rounds answer for all.
  *
  *   model, formula, budget, bytes, values, count, length   as for otzarvim_verdict
  *   states                    gets with OK, in states[0], the place among the values of state 0's number,

@@ -52,6 +52,15 @@ mod foreign {
             count: *mut u32,
             length: *mut usize,
         ) -> u8;
+        pub fn otzarvim_graph(
+            model: *const u8,
+            model_length: usize,
+            formula: *const u8,
+            formula_length: usize,
+            bytes: *mut u8,
+            bytes_length: usize,
+            length: *mut usize,
+        ) -> u8;
         pub fn otzarvim_settle(
             model: *const u8,
             model_length: usize,
@@ -490,7 +499,42 @@ pub fn verdict(
     }
 }
 
-/// The same for all states of a model at once: one graph and one run of the rounds answer for all.
+/// Builds the graph of a model and a formula alone, as [`verdict`] does, in `bytes`; gives its message.
+///
+/// ```
+/// use otzarvim::{Graph, Refusal};
+///
+/// let model = [0, 0, 0, 25, 1, 2, 0, 1, 0, 0, 0, 0, 1, 0, 0, 0, 0, 0, 0, 0, 0, 0, 5, 0, 0];
+/// let formula = [0, 0, 0, 23, 1, 3, 2, 0, 0, 0, 0, 0, 0, 0, 0, 6, 0, 0, 0, 0, 0, 0, 5]; // EX<=5 true
+/// let mut bytes = [7; 30];
+/// assert_eq!(otzarvim::graph(&model, &formula, &mut bytes[..27]), Err(Refusal::Room));
+/// assert_eq!(bytes, [7; 30]);
+///
+/// let graph = otzarvim::graph(&model, &formula, &mut bytes).unwrap();
+/// assert_eq!(otzarvim::check_graph(graph), Ok(Graph { nodes: 2, hyperedges: 2, covers: 0 }));
+/// assert_eq!(graph.len(), 28);
+/// ```
+pub fn graph<'a>(model: &[u8], formula: &[u8], bytes: &'a mut [u8]) -> Result<&'a [u8], Refusal> {
+    let mut length = 0;
+    // SAFETY: as for verdict.
+    let number = unsafe {
+        foreign::otzarvim_graph(
+            model.as_ptr(),
+            model.len(),
+            formula.as_ptr(),
+            formula.len(),
+            bytes.as_mut_ptr(),
+            bytes.len(),
+            &mut length,
+        )
+    };
+    match number {
+        0 => Ok(&bytes[..length]),
+        number => Err(Refusal::of(number)),
+    }
+}
+
+/// The same as [`verdict`] for all states of a model at once: one graph and one run of the rounds answer for all.
 ///
 /// ```
 /// use otzarvim::Answers;

@@ -11,7 +11,8 @@ use Rattle.wire.specs.declared.State.{State}
 use Rattle.wire.proofs.Fields.{value-inside, value-is}
 use Rattle.wire.proofs.Layouts.{Reads, reads-all}
 use Rattle.model.specs.Model.{Model, Transition}
-use Rattle.model.specs.Message.{readLabel, readTransition, readModel, labels, transitions, start}
+use Rattle.wire.specs.Step.{start}
+use Rattle.model.specs.Message.{readLabel, readTransition, readModel, labels, transitions}
 use Rattle.model.specs.WellFormed as model
 use Rattle.model.proofs.Good.{label-good, transition-good, header-good, model-good}
 use Rattle.model.proofs.Exact as model-exact

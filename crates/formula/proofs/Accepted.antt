@@ -10,10 +10,11 @@ use Rattle.wire.specs.Reader.{readAll}
 use Rattle.wire.specs.Layout.{items, Sound}
 use Rattle.wire.proofs.Fields.{value-inside, value-is}
 use Rattle.wire.proofs.Layouts.{Reads, ReadsAll, reads-while}
+use Rattle.wire.specs.Step.{start}
 use Rattle.formula.specs.declared.Row.{Row}
 use Rattle.formula.specs.Message.{readRow, rows, readFormula}
 use Rattle.formula.specs.Layouts.{rowAt, rowLayout}
-use Rattle.formula.proofs.Good.{row-good, header-good, first, formula-good}
+use Rattle.formula.proofs.Good.{row-good, header-good, formula-good}
 
 -- a row that is read stands there, and its operands are among the 64 rows that there are at most
 row-reads : (s : List ℕ) (p k : ℕ) (st : State) (row : Row) → st .tally + suc k ≤ 64 → readRow s p st ≡ good row
@@ -45,5 +46,5 @@ pub holds : (p : ℕ) (s : List ℕ) (rs : List Row) → readFormula p s ≡ goo
 holds p s rs e =
     let g = formula-good p s rs e in
     let header = header-good s (length rs) (g .header) in
-    let there = rows-hold s p (length rs) first rs (omega arith) (g .rows-there) in
+    let there = rows-hold s p (length rs) (start 7) rs (omega arith) (g .rows-there) in
     record { are = there .items-are; sound = there .sound }

@@ -18,15 +18,16 @@ use Rattle.wire.specs.Read.{good, field}
 use Rattle.wire.specs.Write.{writeAll, message}
 use Rattle.wire.proofs.Bytes.{length-bytes}
 use Rattle.wire.proofs.Reading.{good-same}
+use Rattle.wire.specs.Step.{start}
 use Rattle.wire.proofs.Stands.{Stands, stands-first, stands-second, stands-both, stands-last, value-stands, stands-field}
 use Rattle.wire.proofs.Exact.{good-bind, good-after, good-demand, length-writeAll, Exact, FitsAll, none, more, all-reads, all-written, message-length, message-rest, start-reads, start-written}
 use Rattle.formula.specs.declared.Row.{Row}
 use Rattle.formula.specs.Rows.{rowOf, operands, propositions, uses, usedOnce}
 use Rattle.formula.specs.Message.{judgeRow, readRow, rows, readHeader, readFormula}
-use Rattle.formula.specs.Write.{writeRow, writeFormula}
+use Rattle.formula.specs.Write.{fields, writeRow, writeFormula}
 use Rattle.formula.specs.WellFormed.{SayableRow, RowAt, WellFormed}
-use Rattle.formula.proofs.Good.{Named, names-named, row-good, header-good, first, formula-good, good-formula}
-use Rattle.formula.proofs.Spelt.{fields, left, right, spelt, row-length, said}
+use Rattle.formula.proofs.Good.{Named, names-named, row-good, header-good, formula-good, good-formula}
+use Rattle.formula.proofs.Spelt.{left, right, spelt, row-length, said}
 
 -- ---- rows
 
@@ -167,7 +168,7 @@ accepted-written p s rs b e =
     let g = formula-good p s rs e in
     let header = header-good s _ (g .header) in
     let started = start-reads 7 1 3 b (header .opened) in
-    let all = all-reads (rows-exact s p) b _ first _ (g .rows-there) in
+    let all = all-reads (rows-exact s p) b _ (start 7) _ (g .rows-there) in
     let body : Stands s 6 (writeBody rs) = stands-both (simp length-bytes) (value-stands 1 b (header .f-there) .0) (all .0) in
     let rest : drop 6 s ≡ writeBody rs = stands-last body (omega (arith, body-length rs, header .long)) in
     let at : (i : ℕ) (row : Row) → RowAt rs i row → RowFits p i row = λ i row e. rw zero-add at (fits-at s p (all .1) i e) in (
@@ -200,7 +201,7 @@ written-accepted p rs w =
           (good-demand _ (le-leb _ _ (w .some-row))
           (good-demand _ (le-leb _ _ (w .rows-fit))
           (good-demand _ (eq-eqb _ _ whole) refl))));
-      rows-there = all-written (rows-exact s p) first rs (stands-second (bytes 1 (length rs)) _ (simp length-bytes) body) (at-fits s p first rs (λ i row e. rw zero-add (well-fits p rs w i row e)));
+      rows-there = all-written (rows-exact s p) (start 7) rs (stands-second (bytes 1 (length rs)) _ (simp length-bytes) body) (at-fits s p (start 7) rs (λ i row e. rw zero-add (well-fits p rs w i row e)));
       used = each-used rs (w .used-once);
     })
 

@@ -18,6 +18,7 @@ use Rattle.wire.specs.Field.{fieldAt}
 use Rattle.wire.specs.Read.{good, bad}
 use Rattle.wire.specs.Reader.{one, readAll}
 use Rattle.wire.specs.Start.{readStart}
+use Rattle.wire.specs.Step.{start}
 use Rattle.wire.proofs.Fields.{field-value, value-inside}
 use Rattle.wire.proofs.Reading.{reading, length-after, bind-good, and-good, demand-good, field-good, good-same}
 use Rattle.wire.proofs.Readers.{all-length}
@@ -144,15 +145,11 @@ header-good s f e =
       long = rw (← same) (eqb-true _ _ (long .0));
     }
 
--- where the rows start
-abbrev pub first : State
-first = record { at = 7; prev = 0; tally = 0 }
-
 -- what a good message says of its parts
 pub record FormulaAt (p : ℕ) (s : List ℕ) (rs : List Row) : Type 0 where
   pub p-most : p ≤ 32
   pub header : readHeader s ≡ good (length rs)
-  pub rows-there : readAll (rows s p) (length rs) first ≡ good rs
+  pub rows-there : readAll (rows s p) (length rs) (start 7) ≡ good rs
   pub used : usedOnce rs ≡ true
 
 pub formula-good : (p : ℕ) (s : List ℕ) (rs : List Row) → readFormula p s ≡ good rs → FormulaAt p s rs

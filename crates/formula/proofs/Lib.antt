@@ -1,5 +1,6 @@
 -- Laws of formula messages.
 --     Good       what a good reading says of the bytes
+--     Faults     the reading doesn't give BUDGET
 --     Judging    a row's judgement by its operator
 --     Uses       how often rows are operands, counted in a table
 --     Accepted   what an accepted message holds, by position
@@ -10,6 +11,7 @@
 --     Trees      the rows are a tree: the formula of a row, the size of the root, the rows that it reaches
 --     Laws       there is one answer
 pub mod Good
+pub mod Faults
 pub mod Judging
 pub mod Uses
 pub mod Accepted

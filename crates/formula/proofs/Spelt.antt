@@ -1,7 +1,7 @@
 -- The fields of a row: those that it is written with, and that fields without a fault are those of their row. Assumes nothing.
 use Prim.Native.Nat.{ℕ, zero, suc, _^_, _≤_, _<_}
 use mathlib.Core.Bool.{true, _&&_}
-use mathlib.Core.List.{List, _++_}
+use mathlib.Core.List.{_++_}
 use mathlib.Core.Path.{_≡_, refl, ap}
 use native.Mathlib.Omega.{arith}
 use lib.Dec.{eqb}
@@ -10,18 +10,13 @@ use borrow.Author.Tests.{eqb-true}
 use Rattle.lists.proofs.Tests.{and-left, and-right}
 use Rattle.value.specs.Coded.{codeOf}
 use Rattle.value.proofs.Coded.{code-bound, bound-sayable, bound-code, code-fits}
-use Rattle.wire.specs.Bytes.{bytes}
 use Rattle.wire.proofs.Bytes.{length-bytes}
 use Rattle.formula.specs.declared.Quantifier.the-variants.{Some, Every}
 use Rattle.formula.specs.declared.Row.{Row}
 use Rattle.formula.specs.declared.Row.the-variants.{True, False, Proposition, Negation, And, Or, Next, Until}
 use Rattle.formula.specs.Rows.{rowOf, spareZero, operands, propositions}
-use Rattle.formula.specs.Write.{writeRow}
+use Rattle.formula.specs.Write.{fields, writeRow}
 use Rattle.formula.specs.WellFormed.{SayableRow}
-
--- operator, left, right, zero (1 each), bound (4)
-abbrev pub fields : (o l r z b : ℕ) → List ℕ
-fields o l r z b = bytes 1 o ++ bytes 1 l ++ bytes 1 r ++ bytes 1 z ++ bytes 4 b
 
 -- left and right are the names that the row has, and zero where it has none
 abbrev pub left : Row → ℕ

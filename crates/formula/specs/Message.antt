@@ -8,6 +8,7 @@ use Rattle.refusal.specs.declared.Refusal.the-variants.{Length, Limit, Name, Fo
 use Rattle.wire.specs.Read.{Read, good, _>>=_, _>>_, demand, field}
 use Rattle.wire.specs.Reader.{Reader, readAll}
 use Rattle.wire.specs.Start.{readStart}
+use Rattle.wire.specs.Step.{start}
 use Rattle.wire.specs.declared.State.{State}
 use Rattle.formula.specs.declared.Row.{Row}
 use Rattle.formula.specs.Rows.{rowOf, spareZero, named, usedOnce}
@@ -53,6 +54,6 @@ unfoldable pub readFormula : ℕ → List ℕ → Read (List Row)
 readFormula p s = do
   demand (leb p 32) Limit
   f ← readHeader s
-  rs ← readAll (rows s p) f (record { at = 7; prev = 0; tally = 0 })
+  rs ← readAll (rows s p) f (start 7)
   demand (usedOnce rs) Form
   good rs

@@ -10,21 +10,21 @@ use Rattle.formula.specs.declared.Row.{Row}
 use Rattle.formula.specs.declared.Row.the-variants.{True, False, Proposition, Negation, And, Or, Next, Until}
 
 -- operator, left, right, zero (1 each), bound (4)
-abbrev fields : (operator left right bound : ℕ) → List ℕ
-fields o l r b = bytes 1 o ++ bytes 1 l ++ bytes 1 r ++ bytes 1 0 ++ bytes 4 b
+abbrev pub fields : (operator left right zero bound : ℕ) → List ℕ
+fields o l r z b = bytes 1 o ++ bytes 1 l ++ bytes 1 r ++ bytes 1 z ++ bytes 4 b
 
 -- a row's fields; those that it doesn't use are zero
 unfoldable pub writeRow : Row → List ℕ
-writeRow True = fields 0 0 0 0
-writeRow False = fields 1 0 0 0
-writeRow (Proposition i) = fields 2 i 0 0
-writeRow (Negation i) = fields 3 i 0 0
-writeRow (And l r) = fields 4 l r 0
-writeRow (Or l r) = fields 5 l r 0
-writeRow (Next Some l b) = fields 6 l 0 (codeOf b)
-writeRow (Next Every l b) = fields 7 l 0 (codeOf b)
-writeRow (Until Some l r b) = fields 8 l r (codeOf b)
-writeRow (Until Every l r b) = fields 9 l r (codeOf b)
+writeRow True = fields 0 0 0 0 0
+writeRow False = fields 1 0 0 0 0
+writeRow (Proposition i) = fields 2 i 0 0 0
+writeRow (Negation i) = fields 3 i 0 0 0
+writeRow (And l r) = fields 4 l r 0 0
+writeRow (Or l r) = fields 5 l r 0 0
+writeRow (Next Some l b) = fields 6 l 0 0 (codeOf b)
+writeRow (Next Every l b) = fields 7 l 0 0 (codeOf b)
+writeRow (Until Some l r b) = fields 8 l r 0 (codeOf b)
+writeRow (Until Every l r b) = fields 9 l r 0 (codeOf b)
 
 -- the row count (1), and the rows
 unfoldable pub writeFormula : List Row → List ℕ

@@ -12,7 +12,8 @@ use Rattle.wire.proofs.Layouts.{Reads, reads-all}
 use Rattle.rules.specs.Graph.{Graph, Hyper, Cover, Target}
 use Rattle.wire.specs.declared.State.{State}
 use Rattle.value.specs.Coded.{boundOf}
-use Rattle.graph.specs.Message.{readTarget, readHyper, readCover, readGraph, targets, hypers, covers, start, firstTarget}
+use Rattle.wire.specs.Step.{start}
+use Rattle.graph.specs.Message.{readTarget, readHyper, readCover, readGraph, targets, hypers, covers, firstTarget}
 use Rattle.graph.specs.Layouts.{targetLayout, hyperLayout, coverLayout, decoded, Scannable}
 use Rattle.graph.proofs.Good.{target-good, hyper-good, cover-good, graph-good}
 

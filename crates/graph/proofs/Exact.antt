@@ -18,7 +18,8 @@ use Rattle.wire.proofs.Exact.{good-bind, good-after, good-demand, length-writeA
 use Rattle.rules.specs.Graph.{Graph, Hyper, Cover, Target}
 use Rattle.wire.specs.declared.State.{State}
 use Rattle.value.specs.Coded.{codeOf, Sayable}
-use Rattle.graph.specs.Message.{readTarget, readTargets, readHyper, readCover, readHeader, readGraph, targets, hypers, covers, start, firstTarget}
+use Rattle.wire.specs.Step.{start}
+use Rattle.graph.specs.Message.{readTarget, readTargets, readHyper, readCover, readHeader, readGraph, targets, hypers, covers, firstTarget}
 use Rattle.graph.specs.Write.{writeTarget, writeHyper, writeCover, writeBody, writeGraph}
 use Rattle.graph.specs.WellFormed.{targetsOf, WellFormed}
 use Rattle.value.proofs.Coded.{code-bound, bound-sayable, bound-code, code-fits}

@@ -18,7 +18,8 @@ use Rattle.wire.proofs.Readers.{all-length}
 use Rattle.rules.specs.Graph.{Graph, Hyper, Cover, Target}
 use Rattle.wire.specs.declared.State.{State}
 use Rattle.value.specs.Coded.{boundOf}
-use Rattle.graph.specs.Message.{readTarget, readHyper, readTargets, readCover, targets, hypers, covers, start, firstTarget, Counts, readHeader, readGraph}
+use Rattle.wire.specs.Step.{start}
+use Rattle.graph.specs.Message.{readTarget, readHyper, readTargets, readCover, targets, hypers, covers, firstTarget, Counts, readHeader, readGraph}
 
 module _ (s : List ℕ) (n : ℕ) where
   -- what a good target says of the bytes

@@ -8,6 +8,7 @@ use Rattle.refusal.specs.declared.Refusal.the-variants.{Length, Limit, Order, N
 use Rattle.wire.specs.Read.{Read, good, _>>=_, _>>_, demand, field}
 use Rattle.wire.specs.Reader.{Reader, readAll, past}
 use Rattle.wire.specs.Start.{readStart}
+use Rattle.wire.specs.Step.{start}
 use Rattle.rules.specs.Graph.{Graph, Hyper, Cover, Target}
 use Rattle.value.specs.Coded.{boundOf}
 use Rattle.wire.specs.declared.State.{State}
@@ -100,10 +101,6 @@ readHeader s = do
   c ← field 2 s 12
   demand (leb c 4096) Limit
   good (record { n = n; h = h; c = c })
-
--- where the records of a list start
-abbrev pub start : ℕ → State
-start at = record { at = at; prev = 0; tally = 0 }
 
 -- a whole message: the header, the hyperedges, the cover edges, and nothing left over
 unfoldable pub readGraph : List ℕ → Read Graph

@@ -5,7 +5,7 @@ use mathlib.Core.List.{List, [], _∷_, List·Memᴰ·head, List·Memᴰ·tail}
 use Prim.Native.Nat.{ℕ, zero, suc, _<_}
 use native.Mathlib.Nat.{not-suc-le-zero}
 use native.Mathlib.Omega.{arith}
-use lib.ListN.{length, getElem?}
+use lib.ListN.{length, getD, getElem?}
 use Rattle.lists.specs.Lists.{_∈_}
 
 module _ {A : Type 0} where
@@ -26,6 +26,12 @@ module _ {A : Type 0} where
   element [] i h = absurd (not-suc-le-zero h)
   element (c ∷ l) zero h = (c, refl)
   element (c ∷ l) (suc i) h = element l i (omega arith)
+
+  -- what stands at a place is found there, whatever a missing one would give
+  pub place-getD : (l : List A) (i : ℕ) (d : A) {a : A} → getElem? l i ≡ some a → getD l i d ≡ a
+  place-getD [] i d q = let z : _≡_ {A = ℕ} 0 1 = cc in absurd (omega arith)
+  place-getD (c ∷ l) zero d q = cc
+  place-getD (c ∷ l) (suc i) d q = place-getD l i d q
 
   -- what stands at a place is an element, and an element stands at a place
   pub place-∈ : (l : List A) (i : ℕ) {a : A} → getElem? l i ≡ some a → a ∈ l

@@ -14,7 +14,8 @@ use Rattle.lists.proofs.Lists.{any-true, true-any, all-true, true-all, ∈-upTo
 use Rattle.wire.specs.declared.State.{State}
 use Rattle.wire.specs.Reader.{past}
 use Rattle.model.specs.Model.{Transition, leaves, noneDead}
-use Rattle.model.specs.Message.{transitions, afterFrom, start}
+use Rattle.wire.specs.Step.{start}
+use Rattle.model.specs.Message.{transitions, afterFrom}
 
 -- no state is without a transition exactly when some transition leaves each
 pub live-each : (n : ℕ) (ts : List Transition) → noneDead n ts ≡ true → (a : ℕ) → a < n → (t : Transition) × (t ∈ ts) × (t .from ≡ a)

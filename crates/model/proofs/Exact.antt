@@ -22,7 +22,8 @@ use Rattle.wire.proofs.Readers.{Ran}
 use Rattle.wire.proofs.Stands.{Stands, stands-first, stands-second, stands-both, stands-last, value-stands, stands-field}
 use Rattle.wire.proofs.Exact.{good-bind, good-after, good-demand, length-writeAll, Exact, FitsAll, all-reads, all-written, fits-map, fits-both, fits-each, each-fits, fits-rising, rising-fits, message-length, message-rest, start-reads, start-written}
 use Rattle.model.specs.Model.{Model, Transition, noneDead}
-use Rattle.model.specs.Message.{readLabel, readTransition, readHeader, readModel, labels, transitions, start}
+use Rattle.wire.specs.Step.{start}
+use Rattle.model.specs.Message.{readLabel, readTransition, readHeader, readModel, labels, transitions}
 use Rattle.model.specs.Write.{writeTransition, writeBody, writeModel}
 use Rattle.model.specs.WellFormed.{WellFormed}
 use Rattle.model.proofs.Dead.{live-each, each-live, dead-first}

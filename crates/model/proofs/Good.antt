@@ -20,7 +20,8 @@ use Rattle.wire.proofs.Exact.{all-there}
 use Rattle.wire.proofs.Reading.{reading, length-after, bind-good, and-good, demand-good, field-good, good-same}
 use Rattle.wire.proofs.Readers.{all-length}
 use Rattle.model.specs.Model.{Model, Transition, noneDead}
-use Rattle.model.specs.Message.{readLabel, readTransition, readHeader, readModel, labels, transitions, start, afterFrom, Counts}
+use Rattle.wire.specs.Step.{start}
+use Rattle.model.specs.Message.{readLabel, readTransition, readHeader, readModel, labels, transitions, afterFrom, Counts}
 
 after-from-most : {n first from : ℕ} → first ≤ n → from < n → afterFrom first from ≤ n
 unfolding afterFrom

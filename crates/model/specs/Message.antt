@@ -9,6 +9,7 @@ use Rattle.refusal.specs.declared.Refusal.the-variants.{Length, Limit, Order, N
 use Rattle.wire.specs.Read.{Read, good, _>>=_, _>>_, demand, field}
 use Rattle.wire.specs.Reader.{Reader, readAll}
 use Rattle.wire.specs.Start.{readStart}
+use Rattle.wire.specs.Step.{start}
 use Rattle.wire.specs.declared.State.{State}
 use Rattle.model.specs.Model.{Model, Transition, noneDead}
 
@@ -68,10 +69,6 @@ readHeader s = do
   demand (leb t 65535) Limit
   demand (eqb (length s) (13 + n * 4 + t * 8)) Length
   good (record { states = n; propositions = p; transitions = t })
-
--- where the records of a list start
-abbrev pub start : ℕ → State
-start at = record { at = at; prev = 0; tally = 0 }
 
 -- a whole message: the header, the labels, the transitions, and after all of them DEAD
 unfoldable pub readModel : List ℕ → Read Model

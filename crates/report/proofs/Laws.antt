@@ -6,14 +6,11 @@ use mathlib.Core.Bool.{true}
 use mathlib.Core.Logic.{_↔_}
 use mathlib.Core.Path.{_≡_, sym, ap, _∙_}
 use native.Mathlib.Omega.{arith}
-use lib.ListN.{take, drop, length-take, List·getD-eq-default}
-use lib.Seq.{getD-take, getD-drop}
-use lib.Dec.{ltb}
-use borrow.Author.Tests.{ltb-true, ltb-false}
-use Rattle.lists.proofs.Tests.{by-test}
+use lib.ListN.{take, drop}
 use Rattle.value.specs.Value.{atMost}
 use Rattle.wire.specs.Bytes.{Bytes}
 use Rattle.wire.specs.Read.{Read, good}
+use Rattle.wire.proofs.Bytes.{front-bytes, rest-bytes}
 use Rattle.wire.proofs.Reading.{bind-good}
 use Rattle.rules.specs.Rounds.{rounds}
 use Rattle.rules.specs.Count.{count, enough}
@@ -48,15 +45,6 @@ pub line-exactly : (q : Question) → model.WellFormed (q .model) → formula.We
 line-exactly q m f e a l = test-when q m f (count (graphFor q)) (count-first (graphFor q) (fits-well q m f e .closed) .settled) a l
 
 -- ---- joined to the input
-
--- parts of bytes are bytes
-front-bytes : (k : ℕ) (s : List ℕ) → Bytes s → Bytes (take k s)
-front-bytes k s bytes i = by-test (ltb i k)
-    (λ l. rw (getD-take k s i 0 (ltb-true i k l)) (bytes i))
-    (λ l. rw (List·getD-eq-default (take k s) 0 {n = i} (omega (arith, length-take k s, ltb-false i k l))) (omega arith))
-
-rest-bytes : (k : ℕ) (s : List ℕ) → Bytes s → Bytes (drop k s)
-rest-bytes k s bytes i = rw (getD-drop k s i 0) (bytes _)
 
 -- an accepted input writes a model and a formula
 pub input-asks : (s : List ℕ) (q : Question) → Bytes s → readInput s ≡ good q → (k : ℕ) × Asks (take k s) (drop k s) q

@@ -1,12 +1,14 @@
 // What the program writes for what it reads.
 ghost use mathlib.Core.Path.{_≡_};
 ghost use Prim.Native.Nat.{_+_, _≤_};
+ghost use mathlib.Core.List.{_++_};
 ghost use lib.ListN.{length};
+ghost use Rattle.text.specs.Text.{decimal};
 ghost use Rattle.io.specs.Counts.{Counts};
 ghost use Rattle.wire.specs.Laid.{Laid};
 ghost use Rattle.verdict.specs.Question.{readQuestion};
 ghost use Rattle.verdict.specs.Answer.{bytesOf};
-ghost use Rattle.report.specs.Lines.{refusedLine, roundsLine, stateLine};
+ghost use Rattle.report.specs.Lines.{line, refusedLine, roundsLine, stateLine};
 ghost use Rattle.report.specs.Pieces.{statesLines, textIn, endedLines};
 ghost use Rattle.formula.specs.Message.{readFormula};
 ghost use Rattle.report.specs.Output.{readCut, cutOf, readInput, outputOf, leftOf, reportLength, reportOut, reportBytes, reportValues, zeroBytes, zeroValues};
@@ -21,14 +23,22 @@ pub enum Cut {
     Refused(Refusal),
 }
 
+// A line of a word and a number.
+fn put_line(out: &mut [u8], at: usize, word: &[u8], n: u32) -> usize
+    requires { ⌜ at + length (line (now word ++ decimal n)) ≤ length (now out) ⌝ }
+    ensures { λ r. ⌜ Laid (now (out .entry)) at (line (now (word .entry) ++ decimal n)) (now (out .exit)) r ⌝ }
+{
+    let end = text::put_number(out, at, word, n);
+    text::put_word(out, end, b"\n")
+}
+
 // A refusal's line.
 fn put_refused(out: &mut [u8], e: Refusal) -> usize
     requires { ⌜ length (refusedLine e) ≤ length (now out) ⌝ }
     ensures { λ r. ⌜ Laid (now (out .entry)) 0 (refusedLine e) (now (out .exit)) r ⌝ }
 {
     let number = e.number() as u32;
-    let end = text::put_number(out, 0, b"refused ", number);
-    text::put_word(out, end, b"\n")
+    put_line(out, 0, b"refused ", number)
 }
 
 // The line of the count of rounds.
@@ -36,8 +46,7 @@ fn put_rounds(out: &mut [u8], at: usize, count: u32) -> usize
     requires { ⌜ at + length (roundsLine count) ≤ length (now out) ⌝ }
     ensures { λ r. ⌜ Laid (now (out .entry)) at (roundsLine count) (now (out .exit)) r ⌝ }
 {
-    let end = text::put_number(out, at, b"rounds ", count);
-    text::put_word(out, end, b"\n")
+    put_line(out, at, b"rounds ", count)
 }
 
 // A state's line.

@@ -5,6 +5,7 @@
 --     Loop       the loop over rounds: where a turn begins, when the next round is worked out, and how a turn ends
 --     Promised   what the customer is promised follows from the definitions
 --     Laws       one answer, two budgets that settle, when BUDGET is given
+--     Budget     BUDGET has its number to itself
 --     Begin      an accepted message is ready for the rounds
 pub mod Room
 pub mod Scan
@@ -12,4 +13,5 @@ pub mod Next
 pub mod Loop
 pub mod Promised
 pub mod Laws
+pub mod Budget
 pub mod Begin

@@ -2,11 +2,14 @@
 use Prim.Native.Nat.{ℕ, zero, suc, _+_, _*_, _/_, _%_, _^_, _<_, _≤_, _-_}
 use mathlib.Core.List.{List, [], _∷_, _++_, append-assoc, append-nil}
 use mathlib.Core.Path.{_≡_, refl, sym, ap₂, _∙_}
-use lib.ListN.{length, getD, take, drop, set, length-append, length-drop, length-set, take-append-drop}
-use lib.Seq.{take-set-le, take-suc, drop-cons, drop-set-lt, getD-drop, getD-at, getD-set-same}
+use lib.ListN.{length, getD, take, drop, set, length-append, length-take, length-drop, length-set, take-append-drop, List·getD-eq-default}
+use lib.Seq.{take-set-le, take-suc, drop-cons, drop-set-lt, getD-take, getD-drop, getD-at, getD-set-same}
+use lib.Dec.{ltb}
+use borrow.Author.Tests.{ltb-true, ltb-false}
 use native.Mathlib.Nat.{pow-suc, add-suc, add-zero, not-suc-le-zero}
 use native.Mathlib.Numerals.{add-one, sub-one}
 use native.Mathlib.Omega.{arith}
+use Rattle.lists.proofs.Tests.{by-test}
 use Rattle.wire.specs.Bytes.{number, bytes, put, Bytes}
 
 pub length-bytes : (k n : ℕ) → length (bytes k n) ≡ k
@@ -69,3 +72,12 @@ put-suc b at k n h =
 pub put-last : (b : List ℕ) (at k n : ℕ) → 0 < k → at + k ≤ length b → put (set b (at + (k - 1)) (n % 256)) at (k - 1) (n / 256) ≡ put b at k n
 put-last b at zero n p h = absurd (not-suc-le-zero p)
 put-last b at (suc k) n p h = simp sub-one (sym (put-suc b at k n h))
+
+-- parts of bytes are bytes
+pub front-bytes : (k : ℕ) (s : List ℕ) → Bytes s → Bytes (take k s)
+front-bytes k s bytes i = by-test (ltb i k)
+    (λ l. rw (getD-take k s i 0 (ltb-true i k l)) (bytes i))
+    (λ l. rw (List·getD-eq-default (take k s) 0 {n = i} (omega (arith, length-take k s, ltb-false i k l))) (omega arith))
+
+pub rest-bytes : (k : ℕ) (s : List ℕ) → Bytes s → Bytes (drop k s)
+rest-bytes k s bytes i = rw (getD-drop k s i 0) (bytes _)

@@ -7,6 +7,7 @@ use native.Mathlib.Nat.{not-suc-le-zero, suc-add, zero-add}
 use native.Mathlib.Omega.{arith}
 use lib.ListN.{getD, getElem?, take, drop}
 use lib.Seq.{take-at, drop-at}
+use Rattle.lists.proofs.Places.{place-getD}
 use Rattle.wire.specs.Layout.{Layout, items}
 use Rattle.wire.proofs.Layouts.{items-more, items-length}
 
@@ -19,14 +20,6 @@ module _ {A : Type 0} (L : Layout A) (w : ℕ) (wide : (at : ℕ) → L .next at
       let there : at + w + i * w ≡ at + suc i * w = omega arith in
       rw (suc-add, wide, items-append i k (at + w), there)
 
-  pub items-at : (d : A) (k at i : ℕ) → i < k → getD (items L k at) i d ≡ L .item (at + i * w)
-  unfolding items
-  items-at d zero at i h = absurd (not-suc-le-zero h)
-  items-at d (suc k) at zero h = let here : at + 0 * w ≡ at = omega arith in rw here
-  items-at d (suc k) at (suc i) h =
-      let there : at + w + i * w ≡ at + suc i * w = omega arith in
-      rw (wide, items-at d k (at + w) i (omega arith), there)
-
   pub items-get : (k at i : ℕ) → i < k → getElem? (items L k at) i ≡ some (L .item (at + i * w))
   unfolding items
   items-get zero at i h = absurd (not-suc-le-zero h)
@@ -34,6 +27,9 @@ module _ {A : Type 0} (L : Layout A) (w : ℕ) (wide : (at : ℕ) → L .next at
   items-get (suc k) at (suc i) h =
       let there : at + w + i * w ≡ at + suc i * w = omega arith in
       rw (wide, items-get k (at + w) i (omega arith), there)
+
+  pub items-at : (d : A) (k at i : ℕ) → i < k → getD (items L k at) i d ≡ L .item (at + i * w)
+  items-at d k at i h = place-getD (items L k at) i d (items-get k at i h)
 
   -- the first so many, and the rest
   pub items-take : (i k at : ℕ) → i ≤ k → take i (items L k at) ≡ items L i at

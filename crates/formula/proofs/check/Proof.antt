@@ -14,12 +14,13 @@ use Rattle.wire.specs.Layout.{items, Sound}
 use Rattle.wire.proofs.Reading.{reading}
 use Rattle.wire.proofs.Readers.{run-good, run-bad, all-length}
 use Rattle.wire.proofs.Turns.{step-next, step-refused}
+use Rattle.wire.specs.Step.{start}
 use Rattle.formula.specs.declared.Row.{Row}
 use Rattle.formula.specs.Rows.{usedOnce}
 use Rattle.formula.specs.Message.{readHeader, readFormula, rows}
 use Rattle.formula.specs.Layouts.{rowLayout}
 use Rattle.formula.specs.Answers.{checked}
-use Rattle.formula.proofs.Good.{header-good, first}
+use Rattle.formula.proofs.Good.{header-good}
 use Rattle.formula.proofs.Accepted.{rows-hold}
 use Rattle.formula.proofs.Answered.{counted-formula, counted-refused}
 use Rattle.formula.proofs.check.Statement.{statement}
@@ -32,7 +33,7 @@ head-good c = counted-formula _ (by (c .before .before .before .header .ensures)
 -- the rows that were read, which stand one after another
 record Rows (s : List ℕ) (p f : ℕ) : Type 0 where
   got : List Row
-  there : readAll (rows s p) f first ≡ good got
+  there : readAll (rows s p) f (start 7) ≡ good got
   are : got ≡ items (rowLayout s) f 7
   sound : Sound (rowLayout s) f 7
 
@@ -41,7 +42,7 @@ rows-got c =
     let k = c .before .before .before in
     let a = k .before .before .before .before .before .before .args in
     let ran = run-good _ _ _ _ (step-next _ (by (c .before .before .all-rows .ensures) (c .enum-told2 .given .1))) in
-    let hold = rows-hold (now (a .s)) (a .p) (k .before .head .given .0 .0) first (ran .got) (omega (arith, header-good _ _ (head-good k))) (ran .there) in
+    let hold = rows-hold (now (a .s)) (a .p) (k .before .head .given .0 .0) (start 7) (ran .got) (omega (arith, header-good _ _ (head-good k))) (ran .there) in
     record { got = ran .got; there = ran .there; are = hold .items-are; sound = hold .sound }
 
 returns : tie.Need-returns

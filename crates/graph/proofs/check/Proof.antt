@@ -13,7 +13,8 @@ use Rattle.wire.proofs.Fields.{value-inside}
 use Rattle.wire.proofs.Reading.{reading}
 use Rattle.wire.proofs.Readers.{run-good, run-bad, run-keeps, all-length}
 use Rattle.wire.specs.declared.State.{State}
-use Rattle.graph.specs.Message.{readHeader, readGraph, start}
+use Rattle.wire.specs.Step.{start}
+use Rattle.graph.specs.Message.{readHeader, readGraph}
 use Rattle.graph.specs.Message as m
 use Rattle.graph.specs.Answers.{checked}
 use Rattle.graph.proofs.Good.{header-good, hypers-stay}

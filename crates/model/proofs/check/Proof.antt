@@ -13,7 +13,8 @@ use Rattle.wire.proofs.Reading.{reading}
 use Rattle.wire.proofs.Readers.{run-good, run-bad, all-length}
 use Rattle.wire.proofs.Turns.{step-next, step-refused}
 use Rattle.model.specs.Model.{noneDead}
-use Rattle.model.specs.Message.{readHeader, readModel, start}
+use Rattle.wire.specs.Step.{start}
+use Rattle.model.specs.Message.{readHeader, readModel}
 use Rattle.model.specs.Message as m
 use Rattle.model.specs.Answers.{checked}
 use Rattle.model.proofs.Good.{header-good}

@@ -1,0 +1,30 @@
+-- `report::put_line` meets its contract: the word, the number and the end of the line.
+use mathlib.Core.List.{[], _∷_}
+use denote.Ref.{now}
+use borrow.Author.Needs.{needs}
+use Rattle.wire.proofs.Laid.{_then_, fits}
+use Rattle.report.proofs.Lines.{word-fits}
+use Rattle.report.proofs.put_line.Statement.{statement}
+use Rattle.report.proofs.put_line.Tie as tie
+
+put-number-requires : tie.Need-put-number-requires
+put-number-requires c κs = let s = c .before .before .before in word-fits (now (s .args .word)) (s .args .n) (s .args .at) (s .pre)
+
+slice-aggregate-put-word : tie.Need-slice-aggregate-put-word
+slice-aggregate-put-word c = search needs
+
+put-word-requires : tie.Need-put-word-requires
+put-word-requires c κs =
+    let put = c .before .before .before .before in
+    fits (put .put-number .ensures) (10 ∷ []) (put .before .before .before .before .pre)
+
+same-length : tie.Need-same-length
+same-length c = search needs
+
+returns : tie.Need-returns
+returns c =
+    let end = c .before .before in
+    end .before .before .before .before .before .put-number .ensures then end .put-word .ensures
+
+pub put-line-spec : {M : Type 1} → statement M
+put-line-spec = tie.close (tie.spec put-number-requires slice-aggregate-put-word put-word-requires same-length returns)
