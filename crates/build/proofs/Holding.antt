@@ -68,7 +68,7 @@ model-held m M bytes e =
       holds = record {
         long = head .long;
         well-formed = subst model.WellFormed at (model-exact.accepted-written m M bytes e .1);
-        transitions-fit = head .transitions-most;
+        transitions-fit = head .transitions-counted .no-more;
       };
     }
 
@@ -88,6 +88,6 @@ rows-held p f rows bytes e =
       holds = record {
         long = head .long;
         well-formed = subst (formula.WellFormed p) are (formula-exact.accepted-written p f rows bytes e .1);
-        rows-fit = head .f-most;
+        rows-fit = head .f-counted .no-more;
       };
     }

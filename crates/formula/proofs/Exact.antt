@@ -20,6 +20,7 @@ use Rattle.wire.proofs.Bytes.{length-bytes}
 use Rattle.wire.proofs.Reading.{good-same}
 use Rattle.wire.specs.Step.{start}
 use Rattle.wire.proofs.Stands.{Stands, stands-first, stands-second, stands-both, stands-last, value-stands, stands-field}
+use Rattle.wire.proofs.Counts.{good-count}
 use Rattle.wire.proofs.Exact.{good-bind, good-after, good-demand, length-writeAll, Exact, FitsAll, none, more, all-reads, all-written, message-length, message-rest, start-reads, start-written}
 use Rattle.formula.specs.declared.Row.{Row}
 use Rattle.formula.specs.Rows.{rowOf, operands, propositions, uses, usedOnce}
@@ -169,14 +170,14 @@ accepted-written p s rs b e =
     let header = header-good s _ (g .header) in
     let started = start-reads 7 1 3 b (header .opened) in
     let all = all-reads (rows-exact s p) b _ (start 7) _ (g .rows-there) in
-    let body : Stands s 6 (writeBody rs) = stands-both (simp length-bytes) (value-stands 1 b (header .f-there) .0) (all .0) in
+    let body : Stands s 6 (writeBody rs) = stands-both (simp length-bytes) (value-stands 1 b (header .f-counted .there) .0) (all .0) in
     let rest : drop 6 s ≡ writeBody rs = stands-last body (omega (arith, body-length rs, header .long)) in
     let at : (i : ℕ) (row : Row) → RowAt rs i row → RowFits p i row = λ i row e. rw zero-add at (fits-at s p (all .1) i e) in (
       started .whole ∙ ap (message 1 3) rest,
       record {
         propositions-fit = g .p-most;
-        some-row = header .f-least;
-        rows-fit = header .f-most;
+        some-row = header .f-counted .no-less;
+        rows-fit = header .f-counted .no-more;
         propositions-named = λ i {row} e m. at i row e .names .existing m;
         earlier = λ i {row} e m. at i row e .names .earlier m;
         sayable = λ {row} m. let place = ∈-place m in at (place .0) row (place .1) .sayable;
@@ -197,10 +198,7 @@ written-accepted p rs w =
       p-most = w .propositions-fit;
       header =
           good-after opened
-          (good-bind _ count-there
-          (good-demand _ (le-leb _ _ (w .some-row))
-          (good-demand _ (le-leb _ _ (w .rows-fit))
-          (good-demand _ (eq-eqb _ _ whole) refl))));
+          (good-bind _ (good-count 1 s 6 1 64 count-there (w .some-row) (w .rows-fit)) (good-demand _ (eq-eqb _ _ whole) refl));
       rows-there = all-written (rows-exact s p) (start 7) rs (stands-second (bytes 1 (length rs)) _ (simp length-bytes) body) (at-fits s p (start 7) rs (λ i row e. rw zero-add (well-fits p rs w i row e)));
       used = each-used rs (w .used-once);
     })

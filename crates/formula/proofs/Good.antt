@@ -19,6 +19,7 @@ use Rattle.wire.specs.Read.{good, bad}
 use Rattle.wire.specs.Reader.{one, readAll}
 use Rattle.wire.specs.Start.{readStart}
 use Rattle.wire.specs.Step.{start}
+use Rattle.wire.proofs.Counts.{CountAt, count-good}
 use Rattle.wire.proofs.Fields.{field-value, value-inside}
 use Rattle.wire.proofs.Reading.{reading, length-after, bind-good, and-good, demand-good, field-good, good-same}
 use Rattle.wire.proofs.Readers.{all-length}
@@ -123,9 +124,7 @@ module _ (s : List ℕ) (p : ℕ) where
 -- what a good header says of the bytes
 pub record HeaderAt (s : List ℕ) (f : ℕ) : Type 0 where
   pub opened : readStart s 7 1 3 ≡ good tt
-  pub f-there : fieldAt 1 s 6 ≡ Number f
-  pub f-least : 1 ≤ f
-  pub f-most : f ≤ 64
+  pub f-counted : CountAt 1 s 6 1 64 f
   pub long : length s ≡ 7 + f * 8
 
 pub header-good : (s : List ℕ) (f : ℕ) → readHeader s ≡ good f → HeaderAt s f
@@ -133,17 +132,9 @@ unfolding readHeader
 header-good s f e =
     let opened = and-good _ _ e in
     let there = bind-good _ _ (opened .1) in
-    let least = demand-good _ _ _ (there .rest) in
-    let most = demand-good _ _ _ (least .1) in
-    let long = demand-good _ _ _ (most .1) in
-    let same : there .value ≡ f = good-same (long .1) in
-    record {
-      opened = opened .0;
-      f-there = field-good 1 s 6 (there .first) ∙ ap Number same;
-      f-least = rw (← same) (leb-true _ _ (least .0));
-      f-most = rw (← same) (leb-true _ _ (most .0));
-      long = rw (← same) (eqb-true _ _ (long .0));
-    }
+    let long = demand-good _ _ _ (there .rest) in
+    subst (HeaderAt s) (good-same (long .1))
+    (record { opened = opened .0; f-counted = count-good _ _ _ _ _ (there .first); long = eqb-true _ _ (long .0) })
 
 -- what a good message says of its parts
 pub record FormulaAt (p : ℕ) (s : List ℕ) (rs : List Row) : Type 0 where

@@ -8,6 +8,7 @@ use Rattle.refusal.specs.declared.Refusal.the-variants.{Length, Limit, Name, Fo
 use Rattle.wire.specs.Read.{Read, good, _>>=_, _>>_, demand, field}
 use Rattle.wire.specs.Reader.{Reader, readAll}
 use Rattle.wire.specs.Start.{readStart}
+use Rattle.wire.specs.Counts.{countAt}
 use Rattle.wire.specs.Step.{start}
 use Rattle.wire.specs.declared.State.{State}
 use Rattle.formula.specs.declared.Row.{Row}
@@ -43,9 +44,7 @@ rows s p = record {
 unfoldable pub readHeader : List ℕ → Read ℕ
 readHeader s = do
   readStart s 7 1 3
-  f ← field 1 s 6
-  demand (leb 1 f) Limit
-  demand (leb f 64) Limit
+  f ← countAt 1 s 6 1 64
   demand (eqb (length s) (7 + f * 8)) Length
   good f
 

@@ -17,6 +17,7 @@ ghost use Rattle.formula.specs.Layouts.{rowAt, rowLayout};
 ghost use Rattle.formula.specs.Answers as answers;
 use refusal::Refusal;
 use value::Bound;
+use wire::Counted;
 use wire::Field;
 use wire::Opened;
 use wire::State;
@@ -192,15 +193,10 @@ fn header(s: &[u8]) -> Checked
     if let Opened::Refused(e) = wire::open(s, 7, 1, 3) {
         return Checked::Refused(e);
     }
-    let Field::Number(f) = wire::read(s, 6, Width::One) else {
-        return Checked::Refused(Refusal::Length);
+    let f = match wire::count_at(s, 6, Width::One, 1, 64) {
+        Counted::Count(f) => f,
+        Counted::Refused(e) => return Checked::Refused(e),
     };
-    if f < 1 {
-        return Checked::Refused(Refusal::Limit);
-    }
-    if 64 < f {
-        return Checked::Refused(Refusal::Limit);
-    }
     if s.len() != 7 + (f as usize) * 8 {
         return Checked::Refused(Refusal::Length);
     }

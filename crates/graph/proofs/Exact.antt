@@ -14,6 +14,7 @@ use Rattle.wire.specs.Write.{writeAll, message}
 use Rattle.wire.proofs.Bytes.{length-bytes}
 use Rattle.wire.proofs.Reading.{good-same}
 use Rattle.wire.proofs.Stands.{Stands, stands-first, stands-second, stands-both, stands-inside, stands-last, value-stands, stands-field}
+use Rattle.wire.proofs.Counts.{good-count}
 use Rattle.wire.proofs.Exact.{good-bind, good-after, good-demand, length-writeAll, Exact, FitsAll, none, more, all-moves, all-reads, all-written, fits-map, fits-both, fits-each, each-fits, fits-rising, rising-fits, message-length, message-rest, start-reads, start-written}
 use Rattle.rules.specs.Graph.{Graph, Hyper, Cover, Target}
 use Rattle.wire.specs.declared.State.{State}
@@ -220,12 +221,12 @@ fits-well {s} {g} header hs cs =
     let hyper : (h : Hyper) → h ∈ g .hypers → HyperFits (g .nodes) h = λ h m. fits-each H (fits-map H (λ st h p. p .1) hs) m in
     let cover : (c : Cover) → c ∈ g .covers → CoverFits (g .nodes) c = λ c m. fits-each C (fits-map C (λ st c p. p .1) cs) m in
     record {
-      some-node = header .n-least;
-      nodes-fit = header .n-most;
-      hypers-fit = header .h-most;
+      some-node = header .n-counted .no-less;
+      nodes-fit = header .n-counted .no-more;
+      hypers-fit = header .h-counted .no-more;
       targets-fit = omega arith;
       each-fits = λ m. hyper _ m .few;
-      covers-fit = header .c-most;
+      covers-fit = header .c-counted .no-more;
       hypers-ordered = fits-rising H (λ st. st .prev) (λ h. h .source) (λ st h. refl) (fits-map H (λ st h p. p .0 .0) hs);
       covers-ordered = fits-rising C (λ st. st .prev) (λ c. c .source) (λ st c. refl) (fits-map C (λ st c p. p .0) cs);
       closed = record {
@@ -275,9 +276,9 @@ accepted-written s g b e =
     let middle = all-moves H (start 14) (g .hypers) in
     let end = all-moves C (start (past (hypers s (g .nodes)) (start 14) (g .hypers) .at)) (g .covers) in
     let body = laid-body g (record {
-      n-there = value-stands 2 b (header .n-there) .0;
-      h-there = value-stands 4 b (header .h-there) .0;
-      c-there = value-stands 2 b (header .c-there) .0;
+      n-there = value-stands 2 b (header .n-counted .there) .0;
+      h-there = value-stands 4 b (header .h-counted .there) .0;
+      c-there = value-stands 2 b (header .c-counted .there) .0;
       hypers-there = hs .0;
       covers-there = rw middle at (cs .0);
     }) in
@@ -299,13 +300,9 @@ written-accepted g w =
     good-graph g (record {
       header =
           good-after opened
-          (good-bind _ (stands-field 2 (omega arith) (laid .n-there) (omega arith))
-          (good-demand _ (le-leb _ _ (w .some-node))
-          (good-demand _ (le-leb _ _ (w .nodes-fit))
-          (good-bind _ (stands-field 4 (omega arith) (laid .h-there) (omega arith))
-          (good-demand _ (le-leb _ _ (w .hypers-fit))
-          (good-bind _ (stands-field 2 (omega arith) (laid .c-there) (omega arith))
-          (good-demand _ (le-leb _ _ (w .covers-fit)) refl)))))));
+          (good-bind _ (good-count 2 s 6 1 4096 (stands-field 2 (omega arith) (laid .n-there) (omega arith)) (w .some-node) (w .nodes-fit))
+          (good-bind _ (good-count 4 s 8 0 65535 (stands-field 4 (omega arith) (laid .h-there) (omega arith)) (omega arith) (w .hypers-fit))
+          (good-bind _ (good-count 2 s 12 0 4096 (stands-field 2 (omega arith) (laid .c-there) (omega arith)) (omega arith) (w .covers-fit)) refl)));
       hypers-there = all-written H (start 14) (g .hypers) (laid .hypers-there) (hypers-well s g w);
       covers-there = all-written C (start at) (g .covers) (rw middle (laid .covers-there)) (covers-well s g w at);
       ends = rw message-length (omega (arith, all-moves C (start at) (g .covers)));

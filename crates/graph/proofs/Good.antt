@@ -11,6 +11,7 @@ use Rattle.wire.specs.Field.{fieldAt}
 use Rattle.wire.specs.Read.{good, bad}
 use Rattle.wire.specs.Reader.{readAll, past, one}
 use Rattle.wire.specs.Start.{readStart}
+use Rattle.wire.proofs.Counts.{CountAt, count-good}
 use Rattle.wire.proofs.Fields.{value-inside}
 use Rattle.wire.proofs.Exact.{all-there}
 use Rattle.wire.proofs.Reading.{reading, length-after, bind-good, and-good, demand-good, field-good, good-same}
@@ -134,36 +135,25 @@ module _ (s : List ℕ) (n : ℕ) where
 -- what a good header says of the bytes
 pub record HeaderAt (s : List ℕ) (k : Counts) : Type 0 where
   pub opened : readStart s 14 1 1 ≡ good tt
-  pub n-there : fieldAt 2 s 6 ≡ Number (k .n)
-  pub h-there : fieldAt 4 s 8 ≡ Number (k .h)
-  pub c-there : fieldAt 2 s 12 ≡ Number (k .c)
-  pub n-least : 1 ≤ k .n
-  pub n-most : k .n ≤ 4096
-  pub h-most : k .h ≤ 65535
-  pub c-most : k .c ≤ 4096
+  pub n-counted : CountAt 2 s 6 1 4096 (k .n)
+  pub h-counted : CountAt 4 s 8 0 65535 (k .h)
+  pub c-counted : CountAt 2 s 12 0 4096 (k .c)
 
 pub header-good : (s : List ℕ) (k : Counts) → readHeader s ≡ good k → HeaderAt s k
 unfolding readHeader
 header-good s k e =
     let opened = and-good _ _ e in
     let n = bind-good _ _ (opened .1) in
-    let n-least = demand-good _ _ _ (n .rest) in
-    let n-most = demand-good _ _ _ (n-least .1) in
-    let h = bind-good _ _ (n-most .1) in
-    let h-most = demand-good _ _ _ (h .rest) in
-    let c = bind-good _ _ (h-most .1) in
-    let c-most = demand-good _ _ _ (c .rest) in
-    let same : record { n = n .value; h = h .value; c = c .value } ≡ k = good-same (c-most .1) in
-    record {
+    let h = bind-good _ _ (n .rest) in
+    let c = bind-good _ _ (h .rest) in
+    let same : record { n = n .value; h = h .value; c = c .value } ≡ k = good-same (c .rest) in
+    subst (HeaderAt s) same
+    (record {
       opened = opened .0;
-      n-there = field-good 2 s 6 (n .first) ∙ ap (λ (u : Counts). Number (u .n)) same;
-      h-there = field-good 4 s 8 (h .first) ∙ ap (λ (u : Counts). Number (u .h)) same;
-      c-there = field-good 2 s 12 (c .first) ∙ ap (λ (u : Counts). Number (u .c)) same;
-      n-least = rw (← same) (leb-true _ _ (n-least .0));
-      n-most = rw (← same) (leb-true _ _ (n-most .0));
-      h-most = rw (← same) (leb-true _ _ (h-most .0));
-      c-most = rw (← same) (leb-true _ _ (c-most .0));
-    }
+      n-counted = count-good _ _ _ _ _ (n .first);
+      h-counted = count-good _ _ _ _ _ (h .first);
+      c-counted = count-good _ _ _ _ _ (c .first);
+    })
 
 -- the counts of a header
 abbrev pub counts : Graph → Counts

@@ -8,6 +8,7 @@ use Rattle.refusal.specs.declared.Refusal.the-variants.{Length, Limit, Order, N
 use Rattle.wire.specs.Read.{Read, good, _>>=_, _>>_, demand, field}
 use Rattle.wire.specs.Reader.{Reader, readAll, past}
 use Rattle.wire.specs.Start.{readStart}
+use Rattle.wire.specs.Counts.{countAt}
 use Rattle.wire.specs.Step.{start}
 use Rattle.rules.specs.Graph.{Graph, Hyper, Cover, Target}
 use Rattle.value.specs.Coded.{boundOf}
@@ -93,13 +94,9 @@ pub record Counts : Type 0 where
 unfoldable pub readHeader : List ℕ → Read Counts
 readHeader s = do
   readStart s 14 1 1
-  n ← field 2 s 6
-  demand (leb 1 n) Limit
-  demand (leb n 4096) Limit
-  h ← field 4 s 8
-  demand (leb h 65535) Limit
-  c ← field 2 s 12
-  demand (leb c 4096) Limit
+  n ← countAt 2 s 6 1 4096
+  h ← countAt 4 s 8 0 65535
+  c ← countAt 2 s 12 0 4096
   good (record { n = n; h = h; c = c })
 
 -- a whole message: the header, the hyperedges, the cover edges, and nothing left over

@@ -7,6 +7,7 @@ ghost use Rattle.wire.specs.Step.{step};
 ghost use Rattle.graph.specs.Message as m;
 ghost use Rattle.graph.specs.Answers as answers;
 use refusal::Refusal;
+use wire::Counted;
 use wire::Field;
 use wire::Opened;
 use wire::State;
@@ -195,27 +196,18 @@ fn header(s: &[u8]) -> Checked
     if let Opened::Refused(e) = wire::open(s, 14, 1, 1) {
         return Checked::Refused(e);
     }
-    let Field::Number(n) = wire::read(s, 6, Width::Two) else {
-        return Checked::Refused(Refusal::Length);
+    let n = match wire::count_at(s, 6, Width::Two, 1, 4096) {
+        Counted::Count(n) => n,
+        Counted::Refused(e) => return Checked::Refused(e),
     };
-    if n < 1 {
-        return Checked::Refused(Refusal::Limit);
-    }
-    if 4096 < n {
-        return Checked::Refused(Refusal::Limit);
-    }
-    let Field::Number(h) = wire::read(s, 8, Width::Four) else {
-        return Checked::Refused(Refusal::Length);
+    let h = match wire::count_at(s, 8, Width::Four, 0, 65535) {
+        Counted::Count(h) => h,
+        Counted::Refused(e) => return Checked::Refused(e),
     };
-    if 65535 < h {
-        return Checked::Refused(Refusal::Limit);
-    }
-    let Field::Number(c) = wire::read(s, 12, Width::Two) else {
-        return Checked::Refused(Refusal::Length);
+    let c = match wire::count_at(s, 12, Width::Two, 0, 4096) {
+        Counted::Count(c) => c,
+        Counted::Refused(e) => return Checked::Refused(e),
     };
-    if 4096 < c {
-        return Checked::Refused(Refusal::Limit);
-    }
     Checked::Graph(n, h, c)
 }
 

@@ -20,6 +20,7 @@ use Rattle.wire.proofs.Bytes.{length-bytes}
 use Rattle.wire.proofs.Reading.{good-same}
 use Rattle.wire.proofs.Readers.{Ran}
 use Rattle.wire.proofs.Stands.{Stands, stands-first, stands-second, stands-both, stands-last, value-stands, stands-field}
+use Rattle.wire.proofs.Counts.{good-count}
 use Rattle.wire.proofs.Exact.{good-bind, good-after, good-demand, length-writeAll, Exact, FitsAll, all-reads, all-written, fits-map, fits-both, fits-each, each-fits, fits-rising, rising-fits, message-length, message-rest, start-reads, start-written}
 use Rattle.model.specs.Model.{Model, Transition, noneDead}
 use Rattle.wire.specs.Step.{start}
@@ -155,10 +156,10 @@ fits-well {s} {M} header labelled ls ts live =
     let T = transitions s (M .states) in
     let each : (t : Transition) → t ∈ M .transitions → TransitionFits (M .states) t = λ t m. fits-each T (fits-map T (λ st t p. p .1) ts) m in
     record {
-      some-state = header .states-least;
-      states-fit = header .states-most;
-      propositions-fit = header .propositions-most;
-      transitions-fit = header .transitions-most;
+      some-state = header .states-counted .no-less;
+      states-fit = header .states-counted .no-more;
+      propositions-fit = header .propositions-counted .no-more;
+      transitions-fit = header .transitions-counted .no-more;
       labelled = labelled;
       labels-fit = λ m. fits-each (labels s (M .propositions)) {P = λ (l : ℕ). l < 2 ^ M .propositions} ls m;
       ordered = fits-rising T (λ st. st .prev) (λ t. t .from) (λ st t. refl) (fits-map T (λ st t p. p .0) ts);
@@ -189,12 +190,12 @@ accepted-written s M b e =
     let p = model-good {s = s} {M = M} e in
     let header = header-good s _ (p .header) in
     let started = start-reads 13 1 2 b (header .opened) in
-    let ls = all-reads (labels-exact s (M .propositions) (header .propositions-most)) b _ _ _ (p .labels-there) in
+    let ls = all-reads (labels-exact s (M .propositions) (header .propositions-counted .no-more)) b _ _ _ (p .labels-there) in
     let ts = all-reads (transitions-exact s (M .states) (omega arith)) b _ _ _ (p .transitions-there) in
     let body = laid-body M (record {
-      states-there = value-stands 2 b (header .states-there) .0;
-      propositions-there = value-stands 1 b (header .propositions-there) .0;
-      count-there = value-stands 4 b (header .transitions-there) .0;
+      states-there = value-stands 2 b (header .states-counted .there) .0;
+      propositions-there = value-stands 1 b (header .propositions-counted .there) .0;
+      count-there = value-stands 4 b (header .transitions-counted .there) .0;
       labels-there = ls .0;
       transitions-there = rw (p .labelled) (ts .0);
     }) in
@@ -214,14 +215,10 @@ written-accepted M w =
     good-model M (record {
       header =
           good-after opened
-          (good-bind _ (stands-field 2 (omega arith) (laid .states-there) (omega arith))
-          (good-demand _ (le-leb _ _ (w .some-state))
-          (good-demand _ (le-leb _ _ (w .states-fit))
-          (good-bind _ (stands-field 1 (omega arith) (laid .propositions-there) (omega arith))
-          (good-demand _ (le-leb _ _ (w .propositions-fit))
-          (good-bind _ (stands-field 4 (omega arith) (laid .count-there) (omega arith))
-          (good-demand _ (le-leb _ _ (w .transitions-fit))
-          (good-demand _ (eq-eqb _ _ total) refl))))))));
+          (good-bind _ (good-count 2 s 6 1 256 (stands-field 2 (omega arith) (laid .states-there) (omega arith)) (w .some-state) (w .states-fit))
+          (good-bind _ (good-count 1 s 8 0 32 (stands-field 1 (omega arith) (laid .propositions-there) (omega arith)) (omega arith) (w .propositions-fit))
+          (good-bind _ (good-count 4 s 9 0 65535 (stands-field 4 (omega arith) (laid .count-there) (omega arith)) (omega arith) (w .transitions-fit))
+          (good-demand _ (eq-eqb _ _ total) refl))));
       labelled = w .labelled;
       labels-there = rw (w .labelled) at labels-read;
       transitions-there =

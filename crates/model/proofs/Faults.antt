@@ -3,7 +3,7 @@ use Prim.Native.Nat.{ℕ}
 use mathlib.Core.List.{List}
 use mathlib.Core.Path.{refl}
 use Rattle.wire.specs.declared.State.{State}
-use Rattle.wire.proofs.Spares.{Spares, fine, then, behind, asked, taken, all, started}
+use Rattle.wire.proofs.Spares.{Spares, fine, then, behind, asked, taken, all, limited, started}
 use Rattle.model.specs.Message.{readLabel, readTransition, readHeader, readModel, labels, transitions}
 
 module _ (s : List ℕ) where
@@ -19,7 +19,7 @@ module _ (s : List ℕ) where
   unfolding readHeader
   model-header =
       behind (started s 13 1 2)
-      (taken _ (λ n. asked _ _ refl (asked _ _ refl (taken _ (λ p. asked _ _ refl (taken _ (λ t. asked _ _ refl (asked _ _ refl fine))))))))
+      (then (limited _ _ _ _ _) (λ n. then (limited _ _ _ _ _) (λ p. then (limited _ _ _ _ _) (λ t. asked _ _ refl fine))))
 
   pub model-spares : Spares (readModel s)
   unfolding readModel

@@ -15,6 +15,7 @@ use Rattle.wire.specs.Field.{fieldAt}
 use Rattle.wire.specs.Read.{good, bad}
 use Rattle.wire.specs.Reader.{readAll, one}
 use Rattle.wire.specs.Start.{readStart}
+use Rattle.wire.proofs.Counts.{CountAt, count-good}
 use Rattle.wire.proofs.Fields.{value-inside}
 use Rattle.wire.proofs.Exact.{all-there}
 use Rattle.wire.proofs.Reading.{reading, length-after, bind-good, and-good, demand-good, field-good, good-same}
@@ -95,13 +96,9 @@ module _ (s : List ℕ) where
 -- what a good header says of the bytes
 pub record HeaderAt (s : List ℕ) (k : Counts) : Type 0 where
   pub opened : readStart s 13 1 2 ≡ good tt
-  pub states-there : fieldAt 2 s 6 ≡ Number (k .states)
-  pub propositions-there : fieldAt 1 s 8 ≡ Number (k .propositions)
-  pub transitions-there : fieldAt 4 s 9 ≡ Number (k .transitions)
-  pub states-least : 1 ≤ k .states
-  pub states-most : k .states ≤ 256
-  pub propositions-most : k .propositions ≤ 32
-  pub transitions-most : k .transitions ≤ 65535
+  pub states-counted : CountAt 2 s 6 1 256 (k .states)
+  pub propositions-counted : CountAt 1 s 8 0 32 (k .propositions)
+  pub transitions-counted : CountAt 4 s 9 0 65535 (k .transitions)
   pub long : length s ≡ 13 + k .states * 4 + k .transitions * 8
 
 pub header-good : (s : List ℕ) (k : Counts) → readHeader s ≡ good k → HeaderAt s k
@@ -109,25 +106,18 @@ unfolding readHeader
 header-good s k e =
     let opened = and-good _ _ e in
     let n = bind-good _ _ (opened .1) in
-    let n-least = demand-good _ _ _ (n .rest) in
-    let n-most = demand-good _ _ _ (n-least .1) in
-    let p = bind-good _ _ (n-most .1) in
-    let p-most = demand-good _ _ _ (p .rest) in
-    let t = bind-good _ _ (p-most .1) in
-    let t-most = demand-good _ _ _ (t .rest) in
-    let long = demand-good _ _ _ (t-most .1) in
+    let p = bind-good _ _ (n .rest) in
+    let t = bind-good _ _ (p .rest) in
+    let long = demand-good _ _ _ (t .rest) in
     let same : record { states = n .value; propositions = p .value; transitions = t .value } ≡ k = good-same (long .1) in
-    record {
+    subst (HeaderAt s) same
+    (record {
       opened = opened .0;
-      states-there = field-good 2 s 6 (n .first) ∙ ap (λ (u : Counts). Number (u .states)) same;
-      propositions-there = field-good 1 s 8 (p .first) ∙ ap (λ (u : Counts). Number (u .propositions)) same;
-      transitions-there = field-good 4 s 9 (t .first) ∙ ap (λ (u : Counts). Number (u .transitions)) same;
-      states-least = rw (← same) (leb-true _ _ (n-least .0));
-      states-most = rw (← same) (leb-true _ _ (n-most .0));
-      propositions-most = rw (← same) (leb-true _ _ (p-most .0));
-      transitions-most = rw (← same) (leb-true _ _ (t-most .0));
-      long = eqb-true _ _ (long .0) ∙ ap (λ (u : Counts). 13 + u .states * 4 + u .transitions * 8) same;
-    }
+      states-counted = count-good _ _ _ _ _ (n .first);
+      propositions-counted = count-good _ _ _ _ _ (p .first);
+      transitions-counted = count-good _ _ _ _ _ (t .first);
+      long = eqb-true _ _ (long .0);
+    })
 
 -- the counts of a header
 abbrev pub counts : Model → Counts

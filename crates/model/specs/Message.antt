@@ -5,10 +5,11 @@ use mathlib.Core.List.{List}
 use mathlib.Core.Bool.{cond}
 use lib.ListN.{length}
 use lib.Dec.{leb, ltb, eqb}
-use Rattle.refusal.specs.declared.Refusal.the-variants.{Length, Limit, Order, Name, Dead, Form}
+use Rattle.refusal.specs.declared.Refusal.the-variants.{Length, Order, Name, Dead, Form}
 use Rattle.wire.specs.Read.{Read, good, _>>=_, _>>_, demand, field}
 use Rattle.wire.specs.Reader.{Reader, readAll}
 use Rattle.wire.specs.Start.{readStart}
+use Rattle.wire.specs.Counts.{countAt}
 use Rattle.wire.specs.Step.{start}
 use Rattle.wire.specs.declared.State.{State}
 use Rattle.model.specs.Model.{Model, Transition, noneDead}
@@ -60,13 +61,9 @@ pub record Counts : Type 0 where
 unfoldable pub readHeader : List ℕ → Read Counts
 readHeader s = do
   readStart s 13 1 2
-  n ← field 2 s 6
-  demand (leb 1 n) Limit
-  demand (leb n 256) Limit
-  p ← field 1 s 8
-  demand (leb p 32) Limit
-  t ← field 4 s 9
-  demand (leb t 65535) Limit
+  n ← countAt 2 s 6 1 256
+  p ← countAt 1 s 8 0 32
+  t ← countAt 4 s 9 0 65535
   demand (eqb (length s) (13 + n * 4 + t * 8)) Length
   good (record { states = n; propositions = p; transitions = t })
 

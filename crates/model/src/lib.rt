@@ -7,6 +7,7 @@ ghost use Rattle.wire.specs.Step.{step};
 ghost use Rattle.model.specs.Message as m;
 ghost use Rattle.model.specs.Answers as answers;
 use refusal::Refusal;
+use wire::Counted;
 use wire::Field;
 use wire::Opened;
 use wire::State;
@@ -149,27 +150,18 @@ fn header(s: &[u8]) -> Checked
     if let Opened::Refused(e) = wire::open(s, 13, 1, 2) {
         return Checked::Refused(e);
     }
-    let Field::Number(n) = wire::read(s, 6, Width::Two) else {
-        return Checked::Refused(Refusal::Length);
+    let n = match wire::count_at(s, 6, Width::Two, 1, 256) {
+        Counted::Count(n) => n,
+        Counted::Refused(e) => return Checked::Refused(e),
     };
-    if n < 1 {
-        return Checked::Refused(Refusal::Limit);
-    }
-    if 256 < n {
-        return Checked::Refused(Refusal::Limit);
-    }
-    let Field::Number(p) = wire::read(s, 8, Width::One) else {
-        return Checked::Refused(Refusal::Length);
+    let p = match wire::count_at(s, 8, Width::One, 0, 32) {
+        Counted::Count(p) => p,
+        Counted::Refused(e) => return Checked::Refused(e),
     };
-    if 32 < p {
-        return Checked::Refused(Refusal::Limit);
-    }
-    let Field::Number(t) = wire::read(s, 9, Width::Four) else {
-        return Checked::Refused(Refusal::Length);
+    let t = match wire::count_at(s, 9, Width::Four, 0, 65535) {
+        Counted::Count(t) => t,
+        Counted::Refused(e) => return Checked::Refused(e),
     };
-    if 65535 < t {
-        return Checked::Refused(Refusal::Limit);
-    }
     let end = 13 + (n as usize) * 4 + (t as usize) * 8;
     if s.len() != end {
         return Checked::Refused(Refusal::Length);

@@ -8,6 +8,7 @@
 --     Stride     records of one width by position
 --     Turns      the turns of a loop over records
 --     Start      the reading of a message's start, from the answer
+--     Counts     counts in a header: the reading from the answer, and what a good one says
 --     Stands     bytes that stand in a message at a position
 --     Exact      readers that read exactly what is written, and the start of a message
 --     Written    records that are written one behind the other
@@ -24,6 +25,7 @@ pub mod Turns
 pub mod Start
 pub mod Stands
 pub mod Exact
+pub mod Counts
 pub mod Written
 pub mod Laid
 pub mod Spans

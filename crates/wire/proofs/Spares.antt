@@ -14,6 +14,7 @@ use Rattle.wire.specs.declared.Field.the-variants.{Number, Short}
 use Rattle.wire.specs.Read.{Read, good, bad, _>>=_, _>>_, demand, ofField}
 use Rattle.wire.specs.Reader.{Reader, readAll}
 use Rattle.wire.specs.Start.{readStart}
+use Rattle.wire.specs.Counts.{countAt}
 use Rattle.wire.proofs.Reading.{never, bad-same}
 
 pub record Spares {A : Type 0} (x : Read A) : Type 0 where
@@ -66,6 +67,11 @@ pub all : {S A : Type 0} (R : Reader S A) → ((st : S) → Spares (R .read st))
 unfolding readAll
 all R each zero st = fine
 all R each (suc k) st = then (each st) (λ a. then (all R each k (R .next st a)) (λ xs. fine))
+
+-- a count in a header
+pub limited : (k : ℕ) (s : List ℕ) (at least most : ℕ) → Spares (countAt k s at least most)
+unfolding countAt
+limited k s at least most = taken _ (λ n. asked _ _ refl (asked _ _ refl fine))
 
 -- the start of a message
 pub started : (s : List ℕ) (header version kind : ℕ) → Spares (readStart s header version kind)

@@ -4,6 +4,7 @@ pub mod Field
 pub mod Read
 pub mod Reader
 pub mod Start
+pub mod Counts
 pub mod Write
 pub mod Layout
 pub mod Step

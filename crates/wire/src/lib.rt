@@ -5,6 +5,7 @@ ghost use lib.ListN.{length};
 ghost use Rattle.wire.specs.Bytes.{number, put};
 ghost use Rattle.wire.specs.Field.{widthOf, fieldAt};
 ghost use Rattle.wire.specs.Start.{readStart, openedOf};
+ghost use Rattle.wire.specs.Counts.{countAt, countedOf};
 use refusal::Refusal;
 
 // How many bytes a field has.
@@ -36,6 +37,12 @@ pub enum Field {
 // The start of a message is as it should be, or its first fault.
 pub enum Opened {
     Open,
+    Refused(Refusal),
+}
+
+// A count as it should be, or its fault.
+pub enum Counted {
+    Count(u32),
     Refused(Refusal),
 }
 
@@ -120,4 +127,20 @@ pub fn open(s: &[u8], header: usize, version: u32, kind: u32) -> Opened
         return Opened::Refused(Refusal::Version);
     }
     Opened::Open
+}
+
+// The count at a position of a header, from `least` to `most`.
+pub fn count_at(s: &[u8], at: usize, width: Width, least: u32, most: u32) -> Counted
+    ensures { λ r. ⌜ r ≡ countedOf (countAt (widthOf width) (now (s .entry)) at least most) ⌝ }
+{
+    let Field::Number(n) = read(s, at, width) else {
+        return Counted::Refused(Refusal::Length);
+    };
+    if n < least {
+        return Counted::Refused(Refusal::Limit);
+    }
+    if most < n {
+        return Counted::Refused(Refusal::Limit);
+    }
+    Counted::Count(n)
 }

@@ -84,7 +84,7 @@ enum-told-2 c = search needs
 used-once-requires : tie.Need-used-once-requires
 used-once-requires c κs =
     let head = header-good _ _ (head-good (c .before .before .before)) in
-    (rows-got c .sound, (head .f-least, head .f-most))
+    (rows-got c .sound, (head .f-counted .no-less, head .f-counted .no-more))
 
 returns-4 : tie.Need-returns-4
 unfolding readFormula checked

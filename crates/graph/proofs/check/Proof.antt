@@ -29,7 +29,7 @@ head-good : (c : tie.After-known-told) → let k = c .before .head .given .0 in
 head-good c = counted-graph _ (by (c .before .before .before .header .ensures) (c .before .head .given .1))
 
 fourteen : (c : tie.After-known-told) → 14 ≤ length (now (c .before .before .before .before .before .args .s))
-fourteen c = value-inside 2 (now (c .before .before .before .before .before .args .s)) 12 (header-good _ _ (head-good c) .c-there)
+fourteen c = value-inside 2 (now (c .before .before .before .before .before .args .s)) 12 (header-good _ _ (head-good c) .c-counted .there)
 
 hypers-next : (c : tie.After-known-told2) → let k = c .before .before .before .before .before .head .given .0 in
     run (m.hypers (now (c .before .before .before .before .before .before .before .before .before .args .s)) (k .0)) (k .1 .0) (start 14) ≡ good (c .before .st .given .0 .0)

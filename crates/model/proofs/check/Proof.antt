@@ -41,7 +41,7 @@ dead-is : (c : tie.After-known-told3) → let k = c .before .before .before .bef
     noneDead (k .0) (run-good _ _ _ _ (transitions-next c) .got) ≡ leb (k .0) (c .before .st .given .0 .0 .tally)
 dead-is c =
     let h = c .before .before .before .before .before .before .before in
-    let small = header-good _ _ (head-good h) .states-most in
+    let small = header-good _ _ (head-good h) .states-counted .no-more in
     dead-known _ (λ i. omega (arith, h .before .before .before .before .shared-slice-known .given i)) _ _ _ _ (omega arith) (run-good _ _ _ _ (transitions-next c))
 
 header-requires : tie.Need-header-requires
@@ -60,7 +60,7 @@ returns c =
     c .enum-told .given .1 ∙ simp (reading, refused)
 
 labels-requires : tie.Need-labels-requires
-labels-requires c κs = let h = header-good _ _ (head-good c) in (omega (arith, h .long), h .propositions-most)
+labels-requires c κs = let h = header-good _ _ (head-good c) in (omega (arith, h .long), h .propositions-counted .no-more)
 
 enum-known-e : tie.Need-enum-known-e
 enum-known-e c = search needs
@@ -84,7 +84,7 @@ add-middle : tie.Need-add-middle
 add-middle c = search needs
 
 transitions-requires : tie.Need-transitions-requires
-transitions-requires c κs = let h = header-good _ _ (head-good (c .before .before .before)) in (omega (arith, h .long), h .states-most, omega arith)
+transitions-requires c κs = let h = header-good _ _ (head-good (c .before .before .before)) in (omega (arith, h .long), h .states-counted .no-more, omega arith)
 
 enum-known-st : tie.Need-enum-known-st
 enum-known-st c = search needs
