@@ -1,8 +1,8 @@
 -- Laws of the rounds in a room.
---     Room       a pass over the next round's numbers: a turn that stores one, a turn that stores none; copying
+--     Room       the halves; a pass over the next round's numbers: a turn that stores one, a turn that stores none; clearing
 --     Scan       a scan over the records of a message: a turn takes the next record in
---     Next       cleared, with the hyperedges, with the cover edges: the round
---     Loop       the loop over rounds: where a turn begins, when the next round is worked out, and how a turn ends
+--     Next       with the hyperedges, with the cover edges: the round
+--     Loop       the loop over rounds: which half a round stands in, where a turn begins, when the next round is worked out, and how a turn ends
 --     Promised   what the customer is promised follows from the definitions
 --     Laws       one answer, two budgets that settle, when BUDGET is given
 --     Budget     BUDGET has its number to itself

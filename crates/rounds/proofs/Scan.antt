@@ -3,7 +3,7 @@ use Prim.Native.Nat.{ℕ, _+_, _*_, _-_, _<_, _≤_, min, max}
 use mathlib.Core.List.{List, _∷_}
 use mathlib.Core.Bool.{Bool, true, false, cond, _||_, _&&_}
 use mathlib.Core.Path.{_≡_, refl, sym, ap, subst}
-use lib.ListN.{length, getD, set, take}
+use lib.ListN.{length, getD, set}
 use lib.Dec.{eqb}
 use borrow.Author.Tests.{eq-eqb, ne-eqb}
 use native.Mathlib.Omega.{arith}
@@ -18,7 +18,7 @@ use Rattle.rules.specs.Graph.{Target, Hyper, Cover}
 use Rattle.rules.specs.Rounds.{Assignment, holds, worst, best, covered}
 use Rattle.value.specs.Coded.{boundOf}
 use Rattle.graph.specs.Layouts.{targetLayout, hyperLayout, coverLayout, HyperOk, CoverOk}
-use Rattle.rounds.specs.Room.{held, hyperIn, Going, Done}
+use Rattle.rounds.specs.Room.{held, Sides, half, hyperIn, Going, Done}
 use Rattle.rounds.proofs.Room.{going-on, going-set}
 
 -- the greatest so far, and that of the targets left, make the whole
@@ -78,45 +78,45 @@ module _ (x : Assignment) where
       go false = refl
 
 -- a turn takes the next hyperedge in; at the end nothing is left to do
-module _ (s : List ℕ) (n : ℕ) (x : Assignment) (i p : ℕ) {b₀ b : List ℕ} {all : ℕ → ℕ}
-    (g : Going n b₀ b (leftHypers x (items (hyperLayout s n) i p)) all) where
-  pub hypers-turn : n + n ≤ length b₀ → 0 < i → HyperOk s n p → held (take n b) ≡ x
-      → Going n b₀ (hyperIn s n p b) (leftHypers x (items (hyperLayout s n) (i - 1) (p + 4 + number 2 s (p + 2) * 6))) all
-  hypers-turn room h ok this =
-      let g′ = subst (λ (l : List Hyper). Going n b₀ b (leftHypers x l) all) (items-more (hyperLayout s n) i p h) g in
-      let new = ap (λ (y : Assignment). min (getD b (n + number 2 s p) 0) (stored (worst y (items (targetLayout s n) (number 2 s (p + 2)) (p + 4))))) this in
-      going-set g′ room _ _ (ok .named) (best-here x _ _ _ _ _ refl new) (λ v a ne. best-there x _ _ v a (λ q. ne (sym q)))
+module _ (s : List ℕ) (n from to : ℕ) (x : Assignment) (i p : ℕ) {b₀ b : List ℕ} {all : ℕ → ℕ}
+    (g : Going n from to b₀ b (leftHypers x (items (hyperLayout s n) i p)) all) where
+  pub hypers-turn : Sides n from to → n + n ≤ length b₀ → 0 < i → HyperOk s n p → held (half n from b) ≡ x
+      → Going n from to b₀ (hyperIn s n from to p b) (leftHypers x (items (hyperLayout s n) (i - 1) (p + 4 + number 2 s (p + 2) * 6))) all
+  hypers-turn sides room h ok this =
+      let g′ = subst (λ (l : List Hyper). Going n from to b₀ b (leftHypers x l) all) (items-more (hyperLayout s n) i p h) g in
+      let new = ap (λ (y : Assignment). min (getD b (to + number 2 s p) 0) (stored (worst y (items (targetLayout s n) (number 2 s (p + 2)) (p + 4))))) this in
+      going-set g′ sides room _ _ (ok .named) (best-here x _ _ _ _ _ refl new) (λ v a ne. best-there x _ _ v a (λ q. ne (sym q)))
 
-  pub hypers-end : i ≡ 0 → ((v : ℕ) → getD b v 0 ≤ infinite) → Done n b₀ b all
+  pub hypers-end : i ≡ 0 → ((v : ℕ) → getD b v 0 ≤ infinite) → Done n from to b₀ b all
   unfolding items best stored
   hypers-end h fits =
-      let g′ = subst (λ (j : ℕ). Going n b₀ b (leftHypers x (items (hyperLayout s n) j p)) all) h g in
+      let g′ = subst (λ (j : ℕ). Going n from to b₀ b (leftHypers x (items (hyperLayout s n) j p)) all) h g in
       record {
         same-length = g .same-length;
-        first = g .first;
+        this = g .this;
         past = g .past;
-        each = λ v l. omega (arith, g′ .each v l, fits (n + v));
+        each = λ v l. omega (arith, g′ .each v l, fits (to + v));
       }
 
 -- a turn takes the next cover edge in, whether it holds or not; at the end nothing is left to do
-module _ (s : List ℕ) (n : ℕ) (x : Assignment) (i p : ℕ) {b₀ b : List ℕ} {all : ℕ → ℕ}
-    (g : Going n b₀ b (leftCovers x (items (coverLayout s n) i p)) all) where
+module _ (s : List ℕ) (n from to : ℕ) (x : Assignment) (i p : ℕ) {b₀ b : List ℕ} {all : ℕ → ℕ}
+    (g : Going n from to b₀ b (leftCovers x (items (coverLayout s n) i p)) all) where
   abbrev pub Met : Bool → Type 0
   Met t = meets (boundOf (number 4 s (p + 2))) (x (number 2 s (p + 6))) ≡ t
 
-  pub covers-met : n + n ≤ length b₀ → 0 < i → CoverOk s n p → Met true
-      → Going n b₀ (set b (n + number 2 s p) 0) (leftCovers x (items (coverLayout s n) (i - 1) (p + 8))) all
-  covers-met room h ok met =
-      let g′ = subst (λ (l : List Cover). Going n b₀ b (leftCovers x l) all) (items-more (coverLayout s n) i p h) g in
-      going-set g′ room _ 0 (ok .named) (covered-here x _ _ _ _ refl met) (λ v a ne. covered-there x _ _ v a (λ q. ne (sym q)))
+  pub covers-met : Sides n from to → n + n ≤ length b₀ → 0 < i → CoverOk s n p → Met true
+      → Going n from to b₀ (set b (to + number 2 s p) 0) (leftCovers x (items (coverLayout s n) (i - 1) (p + 8))) all
+  covers-met sides room h ok met =
+      let g′ = subst (λ (l : List Cover). Going n from to b₀ b (leftCovers x l) all) (items-more (coverLayout s n) i p h) g in
+      going-set g′ sides room _ 0 (ok .named) (covered-here x _ _ _ _ refl met) (λ v a ne. covered-there x _ _ v a (λ q. ne (sym q)))
 
-  pub covers-unmet : 0 < i → Met false → Going n b₀ b (leftCovers x (items (coverLayout s n) (i - 1) (p + 8))) all
+  pub covers-unmet : 0 < i → Met false → Going n from to b₀ b (leftCovers x (items (coverLayout s n) (i - 1) (p + 8))) all
   covers-unmet h unmet =
-      let g′ = subst (λ (l : List Cover). Going n b₀ b (leftCovers x l) all) (items-more (coverLayout s n) i p h) g in
+      let g′ = subst (λ (l : List Cover). Going n from to b₀ b (leftCovers x l) all) (items-more (coverLayout s n) i p h) g in
       going-on g′ (λ v a l. covered-unmet x _ _ v a unmet)
 
-  pub covers-end : i ≡ 0 → Done n b₀ b all
+  pub covers-end : i ≡ 0 → Done n from to b₀ b all
   unfolding items covered any
   covers-end h =
-      let g′ = subst (λ (j : ℕ). Going n b₀ b (leftCovers x (items (coverLayout s n) j p)) all) h g in
+      let g′ = subst (λ (j : ℕ). Going n from to b₀ b (leftCovers x (items (coverLayout s n) j p)) all) h g in
       going-on g′ (λ v a l. refl)

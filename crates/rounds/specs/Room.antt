@@ -3,7 +3,7 @@ use Prim.Native.Nat.{ℕ, _+_, _<_, min}
 use mathlib.Core.List.{List}
 use mathlib.Core.Path.{_≡_}
 use lib.ListN.{length, getD, set, take, drop}
-use Rattle.value.specs.Stored.{meaning, stored}
+use Rattle.value.specs.Stored.{meaning, stored, infinite}
 use Rattle.wire.specs.Bytes.{number}
 use Rattle.wire.specs.Layout.{items}
 use Rattle.rules.specs.Rounds.{Assignment, worst}
@@ -13,29 +13,42 @@ use Rattle.graph.specs.Layouts.{targetLayout}
 abbrev pub held : List ℕ → Assignment
 held b v = meaning (getD b v 0)
 
--- the room with the hyperedge at a position taken into the n numbers of the next round
-abbrev pub hyperIn : List ℕ → (n at : ℕ) → List ℕ → List ℕ
-hyperIn s n at b =
-    let j = n + number 2 s at in
-    set b j (min (getD b j 0) (stored (worst (held (take n b)) (items (targetLayout s n) (number 2 s (at + 2)) (at + 4)))))
+-- this round stands in the one half of the room, the next in the other
+pub data Sides (n from to : ℕ) : Type 0 where
+  forth : from ≡ 0 → to ≡ n → Sides n from to
+  back : from ≡ n → to ≡ 0 → Sides n from to
 
--- b is b₀ but for the n numbers from n on; what is left to do to each of those makes it what it is to be
-pub record Going (n : ℕ) (b₀ b : List ℕ) (left : ℕ → ℕ → ℕ) (all : ℕ → ℕ) : Type 0 where
+-- the n numbers of a half
+abbrev pub half : (n from : ℕ) → List ℕ → List ℕ
+half n from b = take n (drop from b)
+
+-- the room with the hyperedge at a position taken into the n numbers of the next round
+abbrev pub hyperIn : List ℕ → (n from to at : ℕ) → List ℕ → List ℕ
+hyperIn s n from to at b =
+    let j = to + number 2 s at in
+    set b j (min (getD b j 0) (stored (worst (held (half n from b)) (items (targetLayout s n) (number 2 s (at + 2)) (at + 4)))))
+
+-- b is b₀ but for the n numbers of the next round; what is left to do to each of those makes it what it is to be
+pub record Going (n from to : ℕ) (b₀ b : List ℕ) (left : ℕ → ℕ → ℕ) (all : ℕ → ℕ) : Type 0 where
   pub same-length : length b ≡ length b₀
-  pub first : take n b ≡ take n b₀
+  pub this : half n from b ≡ half n from b₀
   pub past : drop (n + n) b ≡ drop (n + n) b₀
-  pub each : (v : ℕ) → v < n → left v (getD b (n + v) 0) ≡ all v
+  pub each : (v : ℕ) → v < n → left v (getD b (to + v) 0) ≡ all v
 
 -- nothing is left to do
-abbrev pub Done : ℕ → List ℕ → List ℕ → (ℕ → ℕ) → Type 0
-Done n b₀ b all = Going n b₀ b (λ v a. a) all
+abbrev pub Done : (n from to : ℕ) → List ℕ → List ℕ → (ℕ → ℕ) → Type 0
+Done n from to b₀ b all = Going n from to b₀ b (λ v a. a) all
 
--- the next round is this one
+-- the first i numbers are infinity, and all from i on stays
+pub record Cleared (i : ℕ) (b₀ b : List ℕ) : Type 0 where
+  pub same-length : length b ≡ length b₀
+  pub cleared : (v : ℕ) → v < i → getD b v 0 ≡ infinite
+  pub rest : drop i b ≡ drop i b₀
+
+-- the k numbers at a position are the same in both halves
+abbrev pub Alike : (n at k : ℕ) → List ℕ → Type 0
+Alike n at k b = (v : ℕ) → v < k → getD b (at + v) 0 ≡ getD b (n + (at + v)) 0
+
+-- both halves are the same: the next round is this one
 abbrev pub Same : ℕ → List ℕ → Type 0
 Same n b = (v : ℕ) → v < n → getD b v 0 ≡ getD b (n + v) 0
-
--- the first i numbers of the next round are copied over this one, and all from n on stays
-pub record Copied (n i : ℕ) (b₀ b : List ℕ) : Type 0 where
-  pub same-length : length b ≡ length b₀
-  pub copied : (v : ℕ) → v < i → getD b v 0 ≡ getD b₀ (n + v) 0
-  pub rest : drop n b ≡ drop n b₀

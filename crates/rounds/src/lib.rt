@@ -2,14 +2,15 @@
 ghost use mathlib.Core.Path.{_≡_};
 ghost use mathlib.Core.Bool.{true, false, cond};
 ghost use Prim.Native.Nat.{_+_, _≤_, min};
-ghost use lib.ListN.{length, take, getD};
+ghost use lib.ListN.{length, getD};
 ghost use Rattle.wire.specs.Bytes.{number};
 ghost use Rattle.wire.specs.Layout.{items, end, Sound};
-ghost use Rattle.value.specs.Stored.{stored, infinite};
+ghost use Rattle.value.specs.Value.{plus};
+ghost use Rattle.value.specs.Stored.{stored};
 ghost use Rattle.rules.specs.Rounds as rules;
 ghost use Rattle.graph.specs.Message.{readGraph};
-ghost use Rattle.graph.specs.Layouts.{targetLayout, hyperLayout, coverLayout, decoded, HyperOk, Scannable};
-ghost use Rattle.rounds.specs.Room.{held, hyperIn, Done, Same, Copied};
+ghost use Rattle.graph.specs.Layouts.{targetLayout, hyperLayout, coverLayout, decoded, TargetOk, HyperOk, Scannable};
+ghost use Rattle.rounds.specs.Room.{held, Sides, half, hyperIn, Done, Cleared, Alike, Same};
 ghost use Rattle.rounds.specs.Ready.{Ready};
 ghost use Rattle.rounds.specs.Outcome.{outcomeNumber, outcomeCount, ended, filled, outcomeOf, roomOf};
 ghost use Rattle.rounds.specs.Promise.{Promise};
@@ -50,20 +51,32 @@ impl Outcome {
     }
 }
 
-// The greatest weight plus value over k targets at a position; 0 with none.
+// Weight plus value of the target at a position.
+fn target_sum(s: &[u8], n: usize, x: &[u64], at: usize) -> Value
+    requires { ⌜ TargetOk (now s) n at ⌝ }
+    requires { ⌜ n ≤ length (now x) ⌝ }
+    ensures { λ r. ⌜ r .0 ≡ stored (plus (number 4 (now (s .entry)) at) (held (now (x .entry)) (number 2 (now (s .entry)) (at + 4)))) ⌝ }
+{
+    let weight = wire::number_at(s, at, Width::Four);
+    let node = wire::number_at(s, at + 4, Width::Two) as usize;
+    let value = x[node];
+    Value(value).add(weight)
+}
+
+// The greatest weight plus value over k targets at a position; 0 with none. The first stands before the loop: many have no other.
 fn worst(s: &[u8], n: usize, x: &[u64], k: u32, at: usize) -> Value
     requires { ⌜ Sound (targetLayout (now s) n) k at ⌝ }
     requires { ⌜ n ≤ length (now x) ⌝ }
     ensures { λ r. ⌜ r .0 ≡ stored (rules.worst (held (now (x .entry))) (items (targetLayout (now (s .entry)) n) k at)) ⌝ }
 {
-    let mut most = Value(0);
-    let mut i = k;
-    let mut p = at;
+    if k == 0 {
+        return Value(0);
+    }
+    let mut most = target_sum(s, n, x, at);
+    let mut i = k - 1;
+    let mut p = at + 6;
     while 0 < i {
-        let weight = wire::number_at(s, p, Width::Four);
-        let node = wire::number_at(s, p + 4, Width::Two) as usize;
-        let value = x[node];
-        let sum = Value(value).add(weight);
+        let sum = target_sum(s, n, x, p);
         most = most.greatest(sum);
         p += 6;
         i -= 1;
@@ -72,15 +85,17 @@ fn worst(s: &[u8], n: usize, x: &[u64], k: u32, at: usize) -> Value
 }
 
 // Takes a hyperedge of k targets at a position into the n values of the next round.
-fn take_hyper(s: &[u8], n: usize, k: u32, at: usize, room: &mut [u64])
+fn take_hyper(s: &[u8], n: usize, from: usize, to: usize, k: u32, at: usize, room: &mut [u64])
     requires { ⌜ HyperOk (now s) n at ⌝ }
     requires { ⌜ k ≡ number 2 (now s) (at + 2) ⌝ }
+    requires { ⌜ Sides n from to ⌝ }
     requires { ⌜ n + n ≤ length (now room) ⌝ }
-    ensures { λ _. ⌜ now (room .exit) ≡ hyperIn (now (s .entry)) n at (now (room .entry)) ⌝ }
+    ensures { λ _. ⌜ now (room .exit) ≡ hyperIn (now (s .entry)) n from to at (now (room .entry)) ⌝ }
 {
     let source = wire::number_at(s, at, Width::Two) as usize;
-    let value = worst(s, n, &room[..n], k, at + 4);
-    let j = n + source;
+    let stop = from + n;
+    let value = worst(s, n, &room[from..stop], k, at + 4);
+    let j = to + source;
     let before = room[j];
     let least = Value(before).least(value);
     room[j] = least.0;
@@ -89,13 +104,22 @@ fn take_hyper(s: &[u8], n: usize, k: u32, at: usize, room: &mut [u64])
 // Takes k hyperedges at a position into the n values of the next round, and gives the position past them.
 // Where counts repeat, the next position need not wait for the count: the stride stands ready (the call is in both arms, or a
 // compiler would choose between the strides by the count).
-fn take_hypers(s: &[u8], n: usize, k: u32, at: usize, room: &mut [u64]) -> usize
+fn take_hypers(
+    s: &[u8],
+    n: usize,
+    from: usize,
+    to: usize,
+    k: u32,
+    at: usize,
+    room: &mut [u64],
+) -> usize
     requires { ⌜ Sound (hyperLayout (now s) n) k at ⌝ }
+    requires { ⌜ Sides n from to ⌝ }
     requires { ⌜ n + n ≤ length (now room) ⌝ }
     ensures { λ r. ⌜ r ≡ end (hyperLayout (now (s .entry)) n) k at ⌝ }
-    ensures { λ _. ⌜ Done n (now (room .entry)) (now (room .exit)) (λ v.
-        min (getD (now (room .entry)) (n + v) 0)
-        (stored (rules.best (held (take n (now (room .entry)))) v (items (hyperLayout (now (s .entry)) n) k at)))) ⌝ }
+    ensures { λ _. ⌜ Done n from to (now (room .entry)) (now (room .exit)) (λ v.
+        min (getD (now (room .entry)) (to + v) 0)
+        (stored (rules.best (held (half n from (now (room .entry)))) v (items (hyperLayout (now (s .entry)) n) k at)))) ⌝ }
 {
     let mut i = k;
     let mut p = at;
@@ -105,10 +129,10 @@ fn take_hypers(s: &[u8], n: usize, k: u32, at: usize, room: &mut [u64]) -> usize
         let count = wire::number_at(s, p + 2, Width::Two);
         i -= 1;
         if count == last {
-            take_hyper(s, n, last, p, room);
+            take_hyper(s, n, from, to, last, p, room);
             p += stride;
         } else {
-            take_hyper(s, n, count, p, room);
+            take_hyper(s, n, from, to, count, p, room);
             last = count;
             stride = 4 + (count as usize) * 6;
             p += stride;
@@ -118,21 +142,22 @@ fn take_hypers(s: &[u8], n: usize, k: u32, at: usize, room: &mut [u64]) -> usize
 }
 
 // Takes k cover edges at a position into the n values of the next round.
-fn take_covers(s: &[u8], n: usize, k: u32, at: usize, room: &mut [u64])
+fn take_covers(s: &[u8], n: usize, from: usize, to: usize, k: u32, at: usize, room: &mut [u64])
     requires { ⌜ Sound (coverLayout (now s) n) k at ⌝ }
+    requires { ⌜ Sides n from to ⌝ }
     requires { ⌜ n + n ≤ length (now room) ⌝ }
-    ensures { λ _. ⌜ Done n (now (room .entry)) (now (room .exit)) (λ v.
-        cond (rules.covered (held (take n (now (room .entry)))) v (items (coverLayout (now (s .entry)) n) k at)) 0
-        (getD (now (room .entry)) (n + v) 0)) ⌝ }
+    ensures { λ _. ⌜ Done n from to (now (room .entry)) (now (room .exit)) (λ v.
+        cond (rules.covered (held (half n from (now (room .entry)))) v (items (coverLayout (now (s .entry)) n) k at)) 0
+        (getD (now (room .entry)) (to + v) 0)) ⌝ }
 {
     let mut i = k;
     let mut p = at;
     while 0 < i {
         let source = wire::number_at(s, p, Width::Two) as usize;
         let bound = Bound::coded(wire::number_at(s, p + 2, Width::Four));
-        let target = wire::number_at(s, p + 6, Width::Two) as usize;
+        let target = from + (wire::number_at(s, p + 6, Width::Two) as usize);
         let value = room[target];
-        let own = n + source;
+        let own = to + source;
         p += 8;
         i -= 1;
         if Value(value).within(bound) {
@@ -141,79 +166,97 @@ fn take_covers(s: &[u8], n: usize, k: u32, at: usize, room: &mut [u64])
     }
 }
 
-// Sets the n values of the next round to infinity.
-fn clear(n: usize, room: &mut [u64])
+// Takes the next round into the n values at `to`, from the n of this one at `from`: rounds fall, so older values may stand there.
+fn next_round(s: &[u8], n: usize, h: u32, c: u32, from: usize, to: usize, room: &mut [u64])
+    requires { ⌜ Scannable (now s) n h c ⌝ }
+    requires { ⌜ Sides n from to ⌝ }
     requires { ⌜ n + n ≤ length (now room) ⌝ }
-    ensures { λ _. ⌜ Done n (now (room .entry)) (now (room .exit)) (λ v. infinite) ⌝ }
+    ensures { λ _. ⌜ Done n from to (now (room .entry)) (now (room .exit)) (λ v.
+        min (getD (now (room .entry)) (to + v) 0)
+        (stored (rules.round (decoded (now (s .entry)) n h c) (held (half n from (now (room .entry)))) v))) ⌝ }
+{
+    let middle = take_hypers(s, n, from, to, h, 14, room);
+    take_covers(s, n, from, to, c, middle, room);
+}
+
+// Sets the first k values to infinity.
+fn clear(k: usize, room: &mut [u64])
+    requires { ⌜ k ≤ length (now room) ⌝ }
+    ensures { λ _. ⌜ Cleared k (now (room .entry)) (now (room .exit)) ⌝ }
 {
     let mut i = 0;
-    while i < n {
-        let j = n + i;
-        room[j] = Value::INFINITE.0;
+    while i < k {
+        room[i] = Value::INFINITE.0;
         i += 1;
     }
 }
 
-// Works out the n values of the next round from the n of this one.
-fn next_round(s: &[u8], n: usize, h: u32, c: u32, room: &mut [u64])
-    requires { ⌜ Scannable (now s) n h c ⌝ }
-    requires { ⌜ n + n ≤ length (now room) ⌝ }
-    ensures { λ _. ⌜ Done n (now (room .entry)) (now (room .exit)) (λ v.
-        stored (rules.round (decoded (now (s .entry)) n h c) (held (take n (now (room .entry)))) v)) ⌝ }
+// How many of the values left are compared without a stop.
+fn block(left: usize) -> usize
+    ensures { λ r. ⌜ r ≡ min left 128 ⌝ }
 {
-    clear(n, room);
-    let middle = take_hypers(s, n, h, 14, room);
-    take_covers(s, n, c, middle, room);
+    if left < 128 {
+        return left;
+    }
+    128
 }
 
-// Whether the next round is this one.
+// Whether the k values at a position are the same in both halves; it never stops early, so that several are compared at once.
+fn alike(n: usize, at: usize, k: usize, room: &[u64]) -> bool
+    requires { ⌜ at + k ≤ n ⌝ }
+    requires { ⌜ n + n ≤ length (now room) ⌝ }
+    ensures { λ r. ⌜ (r ≡ true → Alike n at k (now (room .entry))) × (r ≡ false → ¬ Alike n at k (now (room .entry))) ⌝ }
+{
+    let mut all = true;
+    let mut i = 0;
+    while i < k {
+        let j = at + i;
+        let other = n + j;
+        i += 1;
+        if room[j] != room[other] {
+            all = false;
+        }
+    }
+    all
+}
+
+// Whether both halves are the same.
 fn same(n: usize, room: &[u64]) -> bool
     requires { ⌜ n + n ≤ length (now room) ⌝ }
     ensures { λ r. ⌜ (r ≡ true → Same n (now (room .entry))) × (r ≡ false → ¬ Same n (now (room .entry))) ⌝ }
 {
     let mut i = 0;
     while i < n {
-        let j = n + i;
-        if room[i] != room[j] {
+        let k = block(n - i);
+        if !alike(n, i, k, room) {
             return false;
         }
-        i += 1;
+        i += k;
     }
     true
 }
 
-// Copies the next round over this one.
-fn copy_down(n: usize, room: &mut [u64])
-    requires { ⌜ n + n ≤ length (now room) ⌝ }
-    ensures { λ _. ⌜ Copied n n (now (room .entry)) (now (room .exit)) ⌝ }
-{
-    let mut i = 0;
-    while i < n {
-        let j = n + i;
-        room[i] = room[j];
-        i += 1;
-    }
-}
-
-// The rounds of a graph that is ready, until one changes nothing or the budget is spent.
-fn run(s: &[u8], n: usize, h: u32, c: u32, budget: u32, room: &mut [u64]) -> Outcome
+// The rounds of a graph that is ready, until one changes nothing or the budget is spent: a leaf, for a caller that has the check's facts.
+// The halves change roles, so begun that the round that spends the budget stands first; where a round changes nothing they are the same.
+pub fn run(s: &[u8], n: usize, h: u32, c: u32, budget: u32, room: &mut [u64]) -> Outcome
     requires { ⌜ Ready (now s) n h c ⌝ }
     requires { ⌜ n + n ≤ length (now room) ⌝ }
     ensures { λ r. ⌜ r ≡ ended (decoded (now (s .entry)) n h c) budget ⌝ }
     ensures { λ r. ⌜ now (room .exit) ≡ filled (decoded (now (s .entry)) n h c) (outcomeCount r) (now (room .entry)) ⌝ }
 {
-    clear(n, room);
-    copy_down(n, room);
+    clear(n + n, room);
+    let mut from = ((budget % 2) as usize) * n;
     let mut i: u32 = 0;
     loop {
-        next_round(s, n, h, c, room);
+        let to = n - from;
+        next_round(s, n, h, c, from, to, room);
         if same(n, room) {
             break Outcome::Settled(i);
         }
         if i == budget {
             break Outcome::Spent(i);
         }
-        copy_down(n, room);
+        from = to;
         i += 1;
     }
 }

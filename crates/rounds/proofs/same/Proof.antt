@@ -1,10 +1,12 @@
 -- `rounds::same` meets its contract: the numbers below i are the same.
 use Prim.Native.Nat.{ℕ, _+_, _-_, _≤_, _<_}
 use mathlib.Core.Path.{_≡_, refl}
+use denote.Ref.{now}
 use native.Mathlib.Omega.{arith}
 use lib.ListN.{getD}
-use borrow.Author.Count.{below-more}
+use borrow.Author.Tests.{not-true, not-false}
 use Rattle.lists.proofs.Tests.{clash}
+use Rattle.rounds.proofs.Room.{same-more}
 use Rattle.rounds.proofs.same.Statement.{statement}
 use Rattle.rounds.proofs.same.Tie as tie
 
@@ -17,23 +19,20 @@ abbrev μ-loop : tie.MeasureT-loop
 loop-holds : tie.Need-loop-holds Inv-loop μ-loop
 loop-holds c = (omega arith, λ v h. absurd (omega arith))
 
-add-j : tie.Need-add-j Inv-loop μ-loop
-add-j c = omega arith
+sub-block : tie.Need-sub-block Inv-loop μ-loop
+sub-block c = omega arith
 
-mul-if1 : tie.Need-mul-if1 Inv-loop μ-loop
-mul-if1 c = omega arith
+block-requires : tie.Need-block-requires Inv-loop μ-loop
+block-requires c κs = tt
 
-shared-slice-read-if1 : tie.Need-shared-slice-read-if1 Inv-loop μ-loop
-shared-slice-read-if1 c = omega arith
-
-mul-if1-2 : tie.Need-mul-if1-2 Inv-loop μ-loop
-mul-if1-2 c = omega arith
-
-shared-slice-read-if1-2 : tie.Need-shared-slice-read-if1-2 Inv-loop μ-loop
-shared-slice-read-if1-2 c = omega arith
+alike-requires : tie.Need-alike-requires Inv-loop μ-loop
+alike-requires c κs = (omega arith, c .before .before .before .before .pre)
 
 returns : tie.Need-returns Inv-loop μ-loop
-returns c = (λ e. clash e refl, λ e all. c .if1 .taken (all _ (c .before .before .before .loop-test .taken)))
+returns c = (
+  λ e. clash e refl,
+  λ e all. c .before .alike .ensures .1 (not-true _ (c .if1 .taken)) (λ v h. all _ (omega (arith, c .before .before .block .ensures, c .before .before .before .loop-test .taken))),
+)
 
 add-i : tie.Need-add-i Inv-loop μ-loop
 add-i c = omega arith
@@ -42,7 +41,10 @@ loop-less : tie.Need-loop-less Inv-loop μ-loop
 loop-less c = omega arith
 
 loop-again : tie.Need-loop-again Inv-loop μ-loop
-loop-again c = (omega arith, below-more _ _ (c .before .before .before .before .loop .inv .1) (c .if1 .left))
+loop-again c =
+    let a = c .before .before .before .before .before .before .args in
+    let l = c .before .before .before .before .loop in
+    (omega arith, same-more (a .n) (l .i) _ (now (a .room)) (l .inv .1) (c .before .alike .ensures .0 (not-false _ (c .if1 .left))))
 
 returns-2 : tie.Need-returns-2 Inv-loop μ-loop
 returns-2 c = (λ e v h. c .before .loop .inv .1 v (omega arith), λ e. clash refl e)
@@ -54,11 +56,9 @@ same-spec =
     Inv-loop
     μ-loop
     loop-holds
-    add-j
-    mul-if1
-    shared-slice-read-if1
-    mul-if1-2
-    shared-slice-read-if1-2
+    sub-block
+    block-requires
+    alike-requires
     returns
     add-i
     loop-less

@@ -4,8 +4,7 @@ use mathlib.Core.List.{List}
 use mathlib.Core.Path.{_≡_, refl, sym, ap, ap₂, _∙_}
 use denote.Ref.{now}
 use native.Mathlib.Omega.{arith}
-use lib.ListN.{length, take, getD}
-use lib.Seq.{getD-take}
+use lib.ListN.{length, getD}
 use borrow.Author.Needs.{needs}
 use Rattle.lists.proofs.Tests.{by}
 use Rattle.value.specs.declared.Bound.{Bound}
@@ -16,29 +15,33 @@ use Rattle.wire.specs.Layout.{items, Sound}
 use Rattle.wire.proofs.Layouts.{sound-more}
 use Rattle.value.specs.Coded.{boundOf}
 use Rattle.graph.specs.Layouts.{coverLayout, CoverOk}
-use Rattle.rounds.specs.Room.{held, Going}
+use Rattle.rounds.specs.Room.{held, half, Going}
+use Rattle.rounds.proofs.Room.{sides-from, sides-to, half-at}
 use Rattle.rounds.proofs.Scan.{leftCovers, covers-met, covers-unmet, covers-end}
 use Rattle.rounds.proofs.take_covers.Statement.{statement}
 use Rattle.rounds.proofs.take_covers.Tie as tie
 
 abbrev Inv-loop : tie.InvT-loop
-Inv-loop s n k at room₀ i₀ p₀ room i p =
+Inv-loop s n from to k at room₀ i₀ p₀ room i p =
     let L = coverLayout s n in
-    let x = held (take n room₀) in
-    Sound L i p × Going n room₀ room (leftCovers x (items L i p)) (λ v. leftCovers x (items L k at) v (getD room₀ (n + v) 0))
+    let x = held (half n from room₀) in
+    Sound L i p × Going n from to room₀ room (leftCovers x (items L i p)) (λ v. leftCovers x (items L k at) v (getD room₀ (to + v) 0))
 
 abbrev μ-loop : tie.MeasureT-loop
-μ-loop s n k at room₀ i₀ p₀ room i p = i
+μ-loop s n from to k at room₀ i₀ p₀ room i p = i
 
 loop-holds : tie.Need-loop-holds Inv-loop μ-loop
-loop-holds c = (c .before .before .pre .0, record { same-length = refl; first = refl; past = refl; each = λ v h. refl })
+loop-holds c = (c .before .before .pre .0, record { same-length = refl; this = refl; past = refl; each = λ v h. refl })
 
 -- the next cover edge is sound, the room is long enough, and source and target name nodes
 here : (c : tie.In-loop Inv-loop μ-loop) → let a = c .before .before .before .before .args in CoverOk (now (a .s)) (a .n) (c .before .loop .p)
 here c = sound-more _ (c .loop-test .taken) (c .before .loop .inv .0) .0
 
 long : (c : tie.In-loop Inv-loop μ-loop) → let a = c .before .before .before .before .args in a .n + a .n ≤ length (c .before .loop .room)
-long c = rw (c .before .loop .inv .1 .same-length) (c .before .before .before .before .pre .1)
+long c = rw (c .before .loop .inv .1 .same-length) (c .before .before .before .before .pre .1 .1)
+
+beside : (c : tie.In-loop Inv-loop μ-loop) → let a = c .before .before .before .before .args in (a .from ≤ a .n) × (a .to ≤ a .n)
+beside c = let sides = c .before .before .before .before .pre .1 .0 in (sides-from sides, sides-to sides)
 
 source-named : (c : tie.After-number-at Inv-loop μ-loop) → c .number-at .result < c .before .before .before .before .before .args .n
 source-named c = rw (c .number-at .ensures) (here (c .before) .named)
@@ -51,17 +54,17 @@ asked : (c : tie.After-within Inv-loop μ-loop) →
     let a = c .before .before .before .before .before .before .before .before .before .before .args in
     let s = now (a .s) in
     let p = c .before .before .before .before .before .before .before .loop .p in
-    c .within .result ≡ meets (boundOf (number 4 s (p + 2))) (held (take (a .n) (now (a .room))) (number 2 s (p + 6)))
+    c .within .result ≡ meets (boundOf (number 4 s (p + 2))) (held (half (a .n) (a .from) (now (a .room))) (number 2 s (p + 6)))
 asked c =
     let a = c .before .before .before .before .before .before .before .before .before .before .args in
     let s = now (a .s) in
     let l = c .before .before .before .before .before .before .before .loop in
     let t = number 2 s (l .p + 6) in
-    let same : getD (l .room) t 0 ≡ getD (take (a .n) (now (a .room))) t 0 =
-    sym (getD-take (a .n) (l .room) t 0 (here (c .before .before .before .before .before .before) .target-named)) ∙ ap (λ (xs : List ℕ). getD xs t 0) (l .inv .1 .first) in
+    let same : getD (l .room) (a .from + t) 0 ≡ getD (half (a .n) (a .from) (now (a .room))) t 0 =
+    sym (half-at (a .n) (a .from) (l .room) t (here (c .before .before .before .before .before .before) .target-named)) ∙ ap (λ (xs : List ℕ). getD xs t 0) (l .inv .1 .this) in
     let bound = c .before .before .before .coded .ensures ∙ ap boundOf (c .before .before .before .before .number-at2 .ensures) in
     c .within .ensures
-    ∙ ap₂ (λ (b : Bound) (v : ℕ). meets b (held (l .room) v)) bound (c .before .before .number-at3 .ensures)
+    ∙ ap₂ (λ (b : Bound) (v : ℕ). meets b (held (l .room) (a .from + v))) bound (c .before .before .number-at3 .ensures)
     ∙ ap (λ (k : ℕ). meets (boundOf (number 4 s (l .p + 2))) (meaning k)) same
 
 number-at-requires : tie.Need-number-at-requires Inv-loop μ-loop
@@ -88,14 +91,17 @@ number-at-requires-3 c κs = omega (arith, here (c .before .before .before) .ins
 cast-target : tie.Need-cast-target Inv-loop μ-loop
 cast-target c = search needs
 
+add-target : tie.Need-add-target Inv-loop μ-loop
+add-target c = omega (arith, target-named c, long (c .before .before .before .before), beside (c .before .before .before .before))
+
 mul-value : tie.Need-mul-value Inv-loop μ-loop
-mul-value c = omega (arith, target-named c, long (c .before .before .before .before))
+mul-value c = omega (arith, target-named c, long (c .before .before .before .before), beside (c .before .before .before .before))
 
 slice-read-value : tie.Need-slice-read-value Inv-loop μ-loop
-slice-read-value c = omega (arith, target-named (c .before), long (c .before .before .before .before .before))
+slice-read-value c = omega (arith, target-named (c .before), long (c .before .before .before .before .before), beside (c .before .before .before .before .before))
 
 add-own : tie.Need-add-own Inv-loop μ-loop
-add-own c = omega (arith, source-named (c .before .before .before .before), long (c .before .before .before .before .before))
+add-own c = omega (arith, source-named (c .before .before .before .before), long (c .before .before .before .before .before), beside (c .before .before .before .before .before))
 
 add-p : tie.Need-add-p Inv-loop μ-loop
 add-p c = omega (arith, here (c .before .before .before .before .before) .inside)
@@ -107,10 +113,10 @@ within-requires : tie.Need-within-requires Inv-loop μ-loop
 within-requires c κs = tt
 
 mul-room : tie.Need-mul-room Inv-loop μ-loop
-mul-room c = omega (arith, source-named (c .before .before .before .before .before .before), long (c .before .before .before .before .before .before .before))
+mul-room c = omega (arith, source-named (c .before .before .before .before .before .before), long (c .before .before .before .before .before .before .before), beside (c .before .before .before .before .before .before .before))
 
 slice-write-room : tie.Need-slice-write-room Inv-loop μ-loop
-slice-write-room c = omega (arith, source-named (c .before .before .before .before .before .before), long (c .before .before .before .before .before .before .before))
+slice-write-room c = omega (arith, source-named (c .before .before .before .before .before .before), long (c .before .before .before .before .before .before .before), beside (c .before .before .before .before .before .before .before))
 
 loop-less : tie.Need-loop-less Inv-loop μ-loop
 loop-less c = omega arith
@@ -122,7 +128,7 @@ loop-again c =
     let h = turn .loop-test .taken in (
       sound-more _ h (l .inv .0) .1,
       rw (c .before .before .before .before .before .before .number-at .ensures)
-          (covers-met _ _ _ (l .i) (l .p) (l .inv .1) (turn .before .before .before .before .pre .1) h (here turn) (by (asked (c .before)) (c .if1 .taken))),
+          (covers-met _ _ _ _ _ (l .i) (l .p) (l .inv .1) (turn .before .before .before .before .pre .1 .0) (turn .before .before .before .before .pre .1 .1) h (here turn) (by (asked (c .before)) (c .if1 .taken))),
     )
 
 loop-less-2 : tie.Need-loop-less-2 Inv-loop μ-loop
@@ -133,13 +139,13 @@ loop-again-2 c =
     let turn = c .before .before .before .before .before .before .before in
     let l = turn .before .loop in
     let h = turn .loop-test .taken in
-    (sound-more _ h (l .inv .0) .1, covers-unmet _ _ _ (l .i) (l .p) (l .inv .1) h (by (asked (c .before)) (c .if1 .left)))
+    (sound-more _ h (l .inv .0) .1, covers-unmet _ _ _ _ _ (l .i) (l .p) (l .inv .1) h (by (asked (c .before)) (c .if1 .left)))
 
 same-length : tie.Need-same-length Inv-loop μ-loop
 same-length c = c .before .loop .inv .1 .same-length
 
 returns : tie.Need-returns Inv-loop μ-loop
-returns c = covers-end _ _ _ _ _ (c .before .loop .inv .1) (omega arith)
+returns c = covers-end _ _ _ _ _ _ _ (c .before .loop .inv .1) (omega arith)
 
 pub take-covers-spec : {M : Type 1} → statement M
 take-covers-spec =
@@ -156,6 +162,7 @@ take-covers-spec =
     add-number-at-2
     number-at-requires-3
     cast-target
+    add-target
     mul-value
     slice-read-value
     add-own

@@ -1,13 +1,10 @@
 -- `rounds::worst` meets its contract: the greatest so far, and that of the targets left, make the whole.
-use Prim.Native.Nat.{ℕ, _+_, _≤_, _<_, max}
-use mathlib.Core.Path.{_≡_, ap, ap₂, _∙_}
+use Prim.Native.Nat.{_+_, _-_, _≤_, _<_, max}
+use mathlib.Core.Path.{_≡_, ap, _∙_}
 use denote.Ref.{now}
 use native.Mathlib.Omega.{arith}
-use borrow.Author.Needs.{needs}
-use Rattle.value.specs.Value.{plus}
 use Rattle.value.specs.Stored.{stored, infinite}
 use Rattle.value.proofs.Stored.{greatest-max, is-stored-le}
-use Rattle.wire.specs.Bytes.{number}
 use Rattle.wire.specs.Layout.{items, Sound}
 use Rattle.wire.proofs.Layouts.{sound-more}
 use Rattle.rules.specs.Rounds as rules
@@ -25,65 +22,67 @@ Inv-loop s n x k at most₀ i₀ p₀ most i p =
 abbrev μ-loop : tie.MeasureT-loop
 μ-loop s n x k at most₀ i₀ p₀ most i p = i
 
+returns : tie.Need-returns Inv-loop μ-loop
+returns c =
+    let a = c .before .before .before .args in
+    worst-end (now (a .s)) (a .n) (held (now (a .x))) (a .k) (a .at) 0 _ (omega arith) (c .if1 .taken)
+
+-- the first target is sound, and so are those behind it
+first : (c : tie.Else1 Inv-loop μ-loop) → let a = c .before .before .before .args in
+    TargetOk (now (a .s)) (a .n) (a .at) × Sound (targetLayout (now (a .s)) (a .n)) (a .k - 1) (a .at + 6)
+first c =
+    let some : 0 < c .before .before .before .args .k = omega arith in sound-more _ some (c .before .before .before .pre .0)
+
+target-sum-requires : tie.Need-target-sum-requires Inv-loop μ-loop
+target-sum-requires c κs = (first c .0, c .before .before .before .pre .1)
+
+sub-i : tie.Need-sub-i Inv-loop μ-loop
+sub-i c = omega arith
+
+add-p : tie.Need-add-p Inv-loop μ-loop
+add-p c = omega (arith, first (c .before) .0 .inside)
+
 loop-holds : tie.Need-loop-holds Inv-loop μ-loop
-loop-holds c = (c .before .before .pre .0, omega arith, omega arith)
+loop-holds c =
+    let a = c .before .before .before .before .args in
+    let some : 0 < a .k = omega arith in (
+      first (c .before) .1,
+      is-stored-le _ (c .target-sum .ensures),
+      worst-turn (now (a .s)) (a .n) (held (now (a .x))) (a .k) (a .at) 0 _ _ (omega arith) some (c .target-sum .ensures ∙ omega arith),
+    )
 
 -- the next target is sound
-here : (c : tie.In-loop Inv-loop μ-loop) → let a = c .before .before .before .before .args in TargetOk (now (a .s)) (a .n) (c .before .loop .p)
+here : (c : tie.In-loop Inv-loop μ-loop) → let a = c .before .before .before .before .before .before .args in TargetOk (now (a .s)) (a .n) (c .before .loop .p)
 here c = sound-more _ (c .loop-test .taken) (c .before .loop .inv .0) .0
 
-number-at-requires : tie.Need-number-at-requires Inv-loop μ-loop
-number-at-requires c κs = omega (arith, here c .inside)
-
-add-number-at : tie.Need-add-number-at Inv-loop μ-loop
-add-number-at c = omega (arith, here (c .before) .inside)
-
-number-at-requires-2 : tie.Need-number-at-requires-2 Inv-loop μ-loop
-number-at-requires-2 c κs = omega (arith, here (c .before) .inside)
-
-cast-node : tie.Need-cast-node Inv-loop μ-loop
-cast-node c = search needs
-
-node-named : (c : tie.After-number-at2 Inv-loop μ-loop) → c .number-at2 .result < c .before .before .before .before .before .before .args .n
-node-named c = rw (c .number-at2 .ensures) (here (c .before .before) .named)
-
-mul-value : tie.Need-mul-value Inv-loop μ-loop
-mul-value c = omega (arith, node-named c)
-
-shared-slice-read-value : tie.Need-shared-slice-read-value Inv-loop μ-loop
-shared-slice-read-value c = omega (arith, node-named (c .before))
-
-add-requires : tie.Need-add-requires Inv-loop μ-loop
-add-requires c κs = tt
+target-sum-requires-2 : tie.Need-target-sum-requires-2 Inv-loop μ-loop
+target-sum-requires-2 c κs = (here c, c .before .before .before .before .before .before .pre .1)
 
 greatest-requires : tie.Need-greatest-requires Inv-loop μ-loop
 greatest-requires c κs = tt
 
-add-p : tie.Need-add-p Inv-loop μ-loop
-add-p c = omega (arith, here (c .before .before .before .before .before) .inside)
+add-p-2 : tie.Need-add-p-2 Inv-loop μ-loop
+add-p-2 c = omega (arith, here (c .before .before) .inside)
 
-sub-i : tie.Need-sub-i Inv-loop μ-loop
-sub-i c = omega arith
+sub-i-2 : tie.Need-sub-i-2 Inv-loop μ-loop
+sub-i-2 c = omega arith
 
 loop-less : tie.Need-loop-less Inv-loop μ-loop
 loop-less c = omega arith
 
 loop-again : tie.Need-loop-again Inv-loop μ-loop
 loop-again c =
-    let n2 = c .before .before .before in
-    let turn = n2 .before .before in
+    let turn = c .before .before in
     let l = turn .before .loop in
-    let a = turn .before .before .before .before .args in
-    let sum : c .before .add .result .0 ≡ stored (plus (number 4 (now (a .s)) (l .p)) (held (now (a .x)) (number 2 (now (a .s)) (l .p + 4)))) =
-    c .before .add .ensures ∙ ap₂ (λ (w v : ℕ). stored (plus w (held (now (a .x)) v))) (n2 .before .number-at .ensures) (n2 .number-at2 .ensures) in
-    let most = c .greatest .ensures ∙ greatest-max (l .most .0) (c .before .add .result .0) (l .inv .1) (is-stored-le _ sum) in (
+    let sum = c .before .target-sum2 .ensures in
+    let most = c .greatest .ensures ∙ greatest-max (l .most .0) (c .before .target-sum2 .result .0) (l .inv .1) (is-stored-le _ sum) in (
       sound-more _ (turn .loop-test .taken) (l .inv .0) .1,
       is-stored-le _ (c .greatest .ensures),
       worst-turn _ _ _ _ _ _ _ _ (l .inv .2) (turn .loop-test .taken) (most ∙ ap (max (l .most .0)) sum),
     )
 
-returns : tie.Need-returns Inv-loop μ-loop
-returns c = worst-end _ _ _ _ _ _ _ (c .before .loop .inv .2) (omega arith)
+returns-2 : tie.Need-returns-2 Inv-loop μ-loop
+returns-2 c = worst-end _ _ _ _ _ _ _ (c .before .loop .inv .2) (omega arith)
 
 pub worst-spec : {M : Type 1} → statement M
 worst-spec =
@@ -91,17 +90,15 @@ worst-spec =
     (tie.spec
     Inv-loop
     μ-loop
-    loop-holds
-    number-at-requires
-    add-number-at
-    number-at-requires-2
-    cast-node
-    mul-value
-    shared-slice-read-value
-    add-requires
-    greatest-requires
-    add-p
+    returns
+    target-sum-requires
     sub-i
+    add-p
+    loop-holds
+    target-sum-requires-2
+    greatest-requires
+    add-p-2
+    sub-i-2
     loop-less
     loop-again
-    returns)
+    returns-2)
