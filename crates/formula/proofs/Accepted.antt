@@ -16,13 +16,18 @@ use Rattle.formula.specs.Message.{readRow, rows, readFormula}
 use Rattle.formula.specs.Layouts.{rowAt, rowLayout}
 use Rattle.formula.proofs.Good.{row-good, header-good, formula-good}
 
--- a row that is read stands there, and its operands are among the 64 rows that there are at most
+-- a row that is read stands there
+pub row-is : (s : List ℕ) (p : ℕ) (st : State) (row : Row) → readRow s p st ≡ good row → row ≡ rowAt s (st .at)
+row-is s p st row e =
+    let g = row-good s p st row e in
+    rw (value-is 1 s _ (g .operator-there), value-is 1 s _ (g .left-there), value-is 1 s _ (g .right-there), value-is 4 s _ (g .bound-there)) (sym (g .fine .is))
+
+-- and its operands are among the 64 rows that there are at most
 row-reads : (s : List ℕ) (p k : ℕ) (st : State) (row : Row) → st .tally + suc k ≤ 64 → readRow s p st ≡ good row
     → Reads (rowLayout s) (rows s p) st row × (st .tally + 1 + k ≤ 64)
 row-reads s p k st row few e =
     let g = row-good s p st row e in
-    let there : row ≡ rowAt s (st .at) =
-    rw (value-is 1 s _ (g .operator-there), value-is 1 s _ (g .left-there), value-is 1 s _ (g .right-there), value-is 4 s _ (g .bound-there)) (sym (g .fine .is)) in (
+    let there = row-is s p st row e in (
       record {
         item-is = there;
         next-is = refl;

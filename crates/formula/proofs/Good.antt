@@ -113,13 +113,13 @@ module _ (s : List ℕ) (p : ℕ) where
         fine = judge-good _ _ _ _ _ _ _ row (b .rest);
       }
 
-  -- the state past a good row lies inside the message, at the next place
-  pub rows-stay : (st next : State) → one (rows s p) st ≡ good next → (next .at ≤ length s) × (next .tally ≡ st .tally + 1)
+  -- the state past a good row is 8 bytes on, inside the message, at the next place
+  pub rows-stay : (st next : State) → one (rows s p) st ≡ good next → (next .at ≡ st .at + 8) × (next .at ≤ length s) × (next .tally ≡ st .tally + 1)
   rows-stay st next e =
       let r = bind-good _ _ e in
       let g = row-good st (r .value) (r .first) in
       let is = good-same (r .rest) in
-      (rw (← is) (omega (arith, value-inside 4 s (st .at + 4) (g .bound-there))), rw (← is))
+      (rw (← is), rw (← is) (omega (arith, value-inside 4 s (st .at + 4) (g .bound-there))), rw (← is))
 
 -- what a good header says of the bytes
 pub record HeaderAt (s : List ℕ) (f : ℕ) : Type 0 where

@@ -15,11 +15,11 @@ use Rattle.formula.specs.declared.Row.{Row}
 use Rattle.formula.specs.Rows.{rowOf, spareZero, named, usedOnce}
 
 -- unknown operator FORM; an unused field not zero FORM; then left and right NAME
-unfoldable pub judgeRow : (p place operator left right zero bound : ℕ) → Read Row
-judgeRow p place operator left right zero bound = do
+unfoldable pub judgeRow : (p place operator left right spare bound : ℕ) → Read Row
+judgeRow p place operator left right spare bound = do
   demand (leb operator 9) Form
   let row = rowOf operator left right bound
-  demand (spareZero row left right zero bound) Form
+  demand (spareZero row left right spare bound) Form
   demand (named p place row) Name
   good row
 
@@ -29,9 +29,9 @@ readRow s p st = do
   operator ← field 1 s (st .at)
   left ← field 1 s (st .at + 1)
   right ← field 1 s (st .at + 2)
-  zero ← field 1 s (st .at + 3)
+  spare ← field 1 s (st .at + 3)
   bound ← field 4 s (st .at + 4)
-  judgeRow p (st .tally) operator left right zero bound
+  judgeRow p (st .tally) operator left right spare bound
 
 abbrev pub rows : List ℕ → ℕ → Reader State Row
 rows s p = record {

@@ -2,15 +2,18 @@
 ghost use mathlib.Core.Path.{_≡_};
 ghost use Prim.Native.Nat.{ℕ, _+_, _≤_, _<_};
 ghost use mathlib.Core.Bool.{_&&_};
-ghost use mathlib.Core.List.{[], _∷_};
+ghost use mathlib.Core.List.{List, [], _∷_};
 ghost use lib.Dec.{eqb, ltb};
 ghost use lib.ListN.{length, getD};
 ghost use Rattle.lists.specs.Lists.{_∈_};
 ghost use Rattle.refusal.specs.declared.Refusal.the-variants as fault;
-ghost use Rattle.wire.specs.Layout.{items, Sound};
+ghost use Rattle.wire.specs.declared.State.{State};
+ghost use Rattle.wire.specs.declared.Step.the-variants.{Next};
+ghost use Rattle.wire.specs.Layout.{items};
 ghost use Rattle.wire.specs.Read as read;
 ghost use Rattle.wire.specs.Reader.{one, run};
 ghost use Rattle.wire.specs.Step.{step};
+ghost use Rattle.formula.specs.declared.Row.{Row};
 ghost use Rattle.formula.specs.Rows as rows;
 ghost use Rattle.formula.specs.Message as m;
 ghost use Rattle.formula.specs.Layouts.{rowAt, rowLayout};
@@ -139,53 +142,6 @@ fn judge(p: u32, place: u32, operator: u32, left: u32, right: u32, zero: u32, bo
     }
 }
 
-// One row: where its last field fits, so do those before it.
-fn one_row(s: &[u8], p: u32, st: State) -> Step
-    requires { ⌜ (st .at ≤ length (now s)) × (st .tally ≤ 64) ⌝ }
-    ensures { λ r. ⌜ r ≡ step (one (m.rows (now (s .entry)) p) st) ⌝ }
-{
-    let at = st.at;
-    let bound_at = at + 4;
-    let Field::Number(bound) = wire::read(s, bound_at, Width::Four) else {
-        return Step::Refused(Refusal::Length);
-    };
-    let operator = wire::number_at(s, at, Width::One);
-    let left_at = at + 1;
-    let left = wire::number_at(s, left_at, Width::One);
-    let right_at = at + 2;
-    let right = wire::number_at(s, right_at, Width::One);
-    let zero_at = at + 3;
-    let zero = wire::number_at(s, zero_at, Width::One);
-    if let Judged::Refused(e) = judge(p, st.tally, operator, left, right, zero, bound) {
-        return Step::Refused(e);
-    }
-    let end = at + 8;
-    let place = st.tally + 1;
-    Step::Next(State {
-        at: end,
-        prev: st.prev,
-        tally: place,
-    })
-}
-
-// k rows.
-fn all_rows(s: &[u8], p: u32, k: u32, first: State) -> Step
-    requires { ⌜ (first .at ≤ length (now s)) × (first .tally + k ≤ 64) ⌝ }
-    ensures { λ r. ⌜ r ≡ step (run (m.rows (now (s .entry)) p) k first) ⌝ }
-{
-    let mut st = first;
-    let mut i = k;
-    while 0 < i {
-        let read = one_row(s, p, st);
-        let Step::Next(next) = read else {
-            return read;
-        };
-        st = next;
-        i -= 1;
-    }
-    Step::Next(st)
-}
-
 // The header, and that the message is as long as its count says.
 fn header(s: &[u8]) -> Checked
     ensures { λ r. ⌜ r ≡ answers.counted (m.readHeader (now (s .entry))) ⌝ }
@@ -216,8 +172,8 @@ pub fn row_at(s: &[u8], at: usize) -> Row
 }
 
 // One use more of a row.
-fn count_use(counts: &mut [u32], row: u32)
-    requires { ⌜ (row < length (now counts)) × (getD (now counts) row 0 < 256) ⌝ }
+fn count_use(counts: &mut [u8], row: u32)
+    requires { ⌜ (row < length (now counts)) × (getD (now counts) row 0 < 255) ⌝ }
     ensures { λ _. ⌜ ((i : ℕ) → getD (now (counts .exit)) i 0 ≡ getD (now (counts .entry)) i 0 + rows.times i (row ∷ [])) ⌝ }
 {
     let k = row as usize;
@@ -225,8 +181,8 @@ fn count_use(counts: &mut [u32], row: u32)
 }
 
 // The uses that a row makes of others.
-fn count_row(counts: &mut [u32], row: Row)
-    requires { ⌜ ((l : ℕ) → l ∈ rows.operands row → l < length (now counts)) × ((i : ℕ) → getD (now counts) i 0 < 255) ⌝ }
+fn count_row(counts: &mut [u8], row: Row)
+    requires { ⌜ ((l : ℕ) → l ∈ rows.operands row → l < length (now counts)) × ((i : ℕ) → getD (now counts) i 0 < 254) ⌝ }
     ensures { λ _. ⌜ ((i : ℕ) → getD (now (counts .exit)) i 0 ≡ getD (now (counts .entry)) i 0 + rows.times i (rows.operands row)) ⌝ }
 {
     match row {
@@ -239,39 +195,75 @@ fn count_row(counts: &mut [u32], row: Row)
     }
 }
 
-// How often each row is an operand.
-fn count_rows(s: &[u8], f: u32) -> [u32; 64]
-    requires { ⌜ Sound (rowLayout (now s)) f 7 ⌝ }
-    requires { ⌜ f ≤ 64 ⌝ }
-    ensures { λ r. ⌜ ((i : ℕ) → getD r i 0 ≡ rows.uses i (items (rowLayout (now (s .entry))) f 7)) ⌝ }
+// One row, and the uses that it makes of others: where its last field fits, so do those before it.
+fn one_row(s: &[u8], p: u32, st: State, counts: &mut [u8]) -> Step
+    requires { ⌜ (st .at ≤ length (now s)) × (st .tally < 64) ⌝ }
+    requires { ⌜ (length (now counts) ≡ 64) × ((i : ℕ) → getD (now counts) i 0 < 254) ⌝ }
+    ensures { λ r. ⌜ r ≡ step (one (m.rows (now (s .entry)) p) st) ⌝ }
+    ensures { λ r. ⌜ ((next : State) → r ≡ Next next → (i : ℕ)
+        → getD (now (counts .exit)) i 0 ≡ getD (now (counts .entry)) i 0 + rows.times i (rows.operands (rowAt (now (s .entry)) (st .at)))) ⌝ }
 {
-    let mut counts = [0u32; 64];
-    let mut at = 7;
-    let mut k = f;
-    while 0 < k {
-        let row = row_at(s, at);
-        count_row(&mut counts, row);
-        at += 8;
-        k -= 1;
-    }
-    counts
+    let at = st.at;
+    let bound_at = at + 4;
+    let Field::Number(bound) = wire::read(s, bound_at, Width::Four) else {
+        return Step::Refused(Refusal::Length);
+    };
+    let operator = wire::number_at(s, at, Width::One);
+    let left_at = at + 1;
+    let left = wire::number_at(s, left_at, Width::One);
+    let right_at = at + 2;
+    let right = wire::number_at(s, right_at, Width::One);
+    let zero_at = at + 3;
+    let zero = wire::number_at(s, zero_at, Width::One);
+    let row = match judge(p, st.tally, operator, left, right, zero, bound) {
+        Judged::Fine(row) => row,
+        Judged::Refused(e) => return Step::Refused(e),
+    };
+    count_row(counts, row);
+    let end = at + 8;
+    let place = st.tally + 1;
+    Step::Next(State {
+        at: end,
+        prev: st.prev,
+        tally: place,
+    })
 }
 
-// Whether every row but the last is an operand exactly once.
-fn used_once(s: &[u8], f: u32) -> bool
-    requires { ⌜ Sound (rowLayout (now s)) f 7 ⌝ }
-    requires { ⌜ (1 ≤ f) × (f ≤ 64) ⌝ }
-    ensures { λ r. ⌜ r ≡ rows.usedOnce (items (rowLayout (now (s .entry))) f 7) ⌝ }
+// k rows, and how often each row is an operand.
+fn all_rows(s: &[u8], p: u32, k: u32, first: State, counts: &mut [u8]) -> Step
+    requires { ⌜ (first .at ≤ length (now s)) × (first .tally + k ≤ 64) ⌝ }
+    requires { ⌜ (length (now counts) ≡ 64) × ((i : ℕ) → getD (now counts) i 0 ≡ 0) ⌝ }
+    ensures { λ r. ⌜ r ≡ step (run (m.rows (now (s .entry)) p) k first) ⌝ }
+    ensures { λ r. ⌜ ((last : State) → r ≡ Next last → (i : ℕ)
+        → getD (now (counts .exit)) i 0 ≡ rows.uses i (items (rowLayout (now (s .entry))) k (first .at))) ⌝ }
 {
-    let counts = count_rows(s, f);
+    let mut st = first;
+    let mut i = k;
+    while 0 < i {
+        let read = one_row(s, p, st, counts);
+        let Step::Next(next) = read else {
+            return read;
+        };
+        st = next;
+        i -= 1;
+    }
+    Step::Next(st)
+}
+
+// Whether every row but the last of f rows, which are operands so often, is one exactly once. All are looked at, so that none waits for another.
+fn used_once(counts: &[u8], f: u32) -> bool
+    requires { ⌜ (length (now counts) ≡ 64) × (1 ≤ f) × (f ≤ 64) ⌝ }
+    ensures { λ r. ⌜ ((rs : List Row) → length rs ≡ f → ((i : ℕ) → getD (now (counts .entry)) i 0 ≡ rows.uses i rs) → r ≡ rows.usedOnce rs) ⌝ }
+{
+    let mut fine = true;
     let mut i = (f - 1) as usize;
     while 0 < i {
         i -= 1;
         if counts[i] != 1 {
-            return false;
+            fine = false;
         }
     }
-    true
+    fine
 }
 
 // A whole formula message, with the number of propositions it may name: how many rows it has, or its first fault.
@@ -285,6 +277,7 @@ pub fn check(s: &[u8], p: u32) -> Checked
     let Checked::Formula(f) = head else {
         return head;
     };
+    let mut counts = [0u8; 64];
     if let Step::Refused(e) = all_rows(
         s,
         p,
@@ -294,10 +287,11 @@ pub fn check(s: &[u8], p: u32) -> Checked
             prev: 0,
             tally: 0,
         },
+        &mut counts,
     ) {
         return Checked::Refused(e);
     }
-    if !used_once(s, f) {
+    if !used_once(&counts, f) {
         return Checked::Refused(Refusal::Form);
     }
     head

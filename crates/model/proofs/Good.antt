@@ -1,24 +1,23 @@
 -- What a good reading says: each field is there, each demand is met. Assumes nothing.
 use Prim.Native.Nat.{ℕ, _+_, _*_, _^_, _<_, _≤_}
 use mathlib.Core.List.{List}
-use mathlib.Core.Bool.{true}
-use mathlib.Core.Path.{_≡_, sym, ap, subst, _∙_}
+use mathlib.Core.Bool.{Bool, true, _&&_}
+use mathlib.Core.Path.{_≡_, refl, sym, ap, subst, _∙_}
 use lib.ListN.{length}
-use lib.Dec.{eqb}
-use borrow.Author.Tests.{ltb-true, leb-true, eqb-true}
+use lib.Dec.{eqb, ltb}
+use borrow.Author.Tests.{ltb-true, leb-true, eqb-true, lt-ltb, le-leb, ne-eqb}
 use native.Mathlib.Omega.{arith}
-use Rattle.lists.proofs.Tests.{by-test}
-use Rattle.refusal.specs.declared.Refusal.the-variants.{Length}
-use Rattle.wire.specs.declared.Field.the-variants.{Number, Short}
+use Rattle.lists.proofs.Tests.{by-test, by, and-left, and-right}
+use Rattle.wire.specs.declared.Field.the-variants.{Number}
 use Rattle.wire.specs.declared.State.{State}
 use Rattle.wire.specs.Field.{fieldAt}
-use Rattle.wire.specs.Read.{good, bad}
+use Rattle.wire.specs.Read.{good}
 use Rattle.wire.specs.Reader.{readAll, one}
 use Rattle.wire.specs.Start.{readStart}
 use Rattle.wire.proofs.Counts.{CountAt, count-good}
 use Rattle.wire.proofs.Fields.{value-inside}
 use Rattle.wire.proofs.Exact.{all-there}
-use Rattle.wire.proofs.Reading.{reading, length-after, bind-good, and-good, demand-good, field-good, good-same}
+use Rattle.wire.proofs.Reading.{reading, bind-good, and-good, demand-good, field-good, good-same}
 use Rattle.wire.proofs.Readers.{all-length}
 use Rattle.model.specs.Model.{Model, Transition, noneDead}
 use Rattle.wire.specs.Step.{start}
@@ -30,11 +29,6 @@ after-from-most {n} {first} {from} most named =
     by-test (eqb from first) (λ e. rw e (omega (arith, eqb-true))) (λ e. rw e most)
 
 module _ (s : List ℕ) where
-  -- a transition is as long as its `to` says
-  pub transition-short : (n : ℕ) (st : State) → fieldAt 2 s (st .at + 6) ≡ Short → readTransition s n st ≡ bad Length
-  unfolding readTransition
-  transition-short n st e = length-after 2 s (st .at) _ (λ from. length-after 4 s (st .at + 2) _ (λ weight. simp (reading, e)))
-
   -- what a good label says of the bytes
   pub record LabelAt (p : ℕ) (st : State) (l : ℕ) : Type 0 where
     pub label-there : fieldAt 4 s (st .at) ≡ Number l
@@ -86,12 +80,26 @@ module _ (s : List ℕ) where
       let l = label-good p st (r .value) (r .first) in
       omega (arith, value-inside 4 s (st .at) (l .label-there), ap (λ (u : State). u .at) (good-same (r .rest)))
 
-  -- and the first state that none leaves is at most their number
-  pub transitions-stay : (n : ℕ) (st next : State) → st .tally ≤ n → one (transitions s n) st ≡ good next → (next .at ≤ length s) × (next .tally ≤ n)
+  -- a transition moves the position by its 8 bytes, and the first state that none leaves is at most their number
+  pub transitions-stay : (n : ℕ) (st next : State) → st .tally ≤ n → one (transitions s n) st ≡ good next → (st .at + 8 ≡ next .at) × (next .at ≤ length s) × (next .tally ≤ n)
   transitions-stay n st next most e =
       let r = bind-good _ _ e in
       let t = transition-good n st (r .value) (r .first) in
-      rw (← good-same (r .rest)) (omega (arith, value-inside 2 s (st .at + 6) (t .to-there)), after-from-most most (t .from-named))
+      rw (← good-same (r .rest)) (refl, omega (arith, value-inside 2 s (st .at + 6) (t .to-there)), after-from-most most (t .from-named))
+
+  -- one from the same state as the one before it, which is counted already, moves the position only
+  pub transition-goes-on : (n : ℕ) (st : State) {from weight to : ℕ} {r : Bool} → st .tally ≤ n → fieldAt 2 s (st .at) ≡ Number from → fieldAt 4 s (st .at + 2) ≡ Number weight
+      → fieldAt 2 s (st .at + 6) ≡ Number to → r ≡ (eqb from (st .prev) && (ltb from (st .tally) && ltb to n)) → r ≡ true
+      → one (transitions s n) st ≡ good (record { at = st .at + 8; prev = st .prev; tally = st .tally })
+  unfolding readTransition afterFrom
+  transition-goes-on n st {from} {weight} {to} most from-there weight-there to-there tests passed =
+      let all = by tests passed in
+      let rest = and-right (eqb from (st .prev)) _ all in
+      let same : from ≡ st .prev = eqb-true _ _ (and-left _ (ltb from (st .tally) && ltb to n) all) in
+      let low : from < st .tally = ltb-true _ _ (and-left _ (ltb to n) rest) in
+      let to-named = and-right (ltb from (st .tally)) _ rest in
+      simp (reading, from-there, weight-there, to-there, lt-ltb from n (omega arith), le-leb (st .prev) from (omega arith), to-named, ne-eqb from (st .tally) (omega arith))
+      (λ i. good (record { at = st .at + 8; prev = same i; tally = st .tally }))
 
 -- what a good header says of the bytes
 pub record HeaderAt (s : List ℕ) (k : Counts) : Type 0 where

@@ -1,7 +1,11 @@
 // The check of a model message: the first fault in the paper's order, or the counts of its header.
 ghost use mathlib.Core.Path.{_≡_};
-ghost use Prim.Native.Nat.{_+_, _*_, _≤_, _^_};
+ghost use Prim.Native.Nat.{ℕ, _+_, _*_, _≤_, _^_};
+ghost use mathlib.Core.Bool.{_&&_};
+ghost use lib.Dec.{eqb, ltb};
 ghost use lib.ListN.{length};
+ghost use Rattle.wire.specs.declared.Field.the-variants.{Number};
+ghost use Rattle.wire.specs.Field.{fieldAt};
 ghost use Rattle.wire.specs.Reader.{one, run};
 ghost use Rattle.wire.specs.Step.{step};
 ghost use Rattle.model.specs.Message as m;
@@ -85,17 +89,29 @@ fn labels(s: &[u8], p: u32, k: u32, first: State) -> Step
     Step::Next(st)
 }
 
-// One transition of a model with n states: where its last field fits, so do those before it.
-fn transition(s: &[u8], n: u32, st: State) -> Step
-    requires { ⌜ (st .at ≤ length (now s)) × (n ≤ 256) × (st .tally ≤ n) ⌝ }
+// Whether a transition leaves the same state as the one before it, which is counted already, to one of the n states.
+fn goes_on(n: u32, st: State, from: u32, to: u32) -> bool
+    ensures { λ r. ⌜ r ≡ (eqb from (st .prev) && (ltb from (st .tally) && ltb to n)) ⌝ }
+{
+    from == st.prev && (from < st.tally && to < n)
+}
+
+// One transition of a model with n states, whose last field is there, and so are those before it. One that goes on moves the position only.
+fn transition(s: &[u8], n: u32, to: u32, st: State) -> Step
+    requires { ⌜ fieldAt 2 (now s) (st .at + 6) ≡ Number to ⌝ }
+    requires { ⌜ (n ≤ 256) × (st .tally ≤ n) ⌝ }
     ensures { λ r. ⌜ r ≡ step (one (m.transitions (now (s .entry)) n) st) ⌝ }
 {
     let at = st.at;
-    let to_at = at + 6;
-    let Field::Number(to) = wire::read(s, to_at, Width::Two) else {
-        return Step::Refused(Refusal::Length);
-    };
     let from = wire::number_at(s, at, Width::Two);
+    let end = at + 8;
+    if goes_on(n, st, from, to) {
+        return Step::Next(State {
+            at: end,
+            prev: st.prev,
+            tally: st.tally,
+        });
+    }
     if n <= from {
         return Step::Refused(Refusal::Name);
     }
@@ -105,7 +121,6 @@ fn transition(s: &[u8], n: u32, st: State) -> Step
     if n <= to {
         return Step::Refused(Refusal::Name);
     }
-    let end = at + 8;
     let first = after_from(st.tally, from);
     Step::Next(State {
         at: end,
@@ -125,22 +140,23 @@ fn after_from(first: u32, from: u32) -> u32
     first
 }
 
-// k transitions.
-fn transitions(s: &[u8], n: u32, k: u32, start: State) -> Step
+// The k transitions up to the end of the message: where no last field fits, none is left.
+fn transitions(s: &[u8], n: u32, start: State) -> Step
     requires { ⌜ (start .at ≤ length (now s)) × (n ≤ 256) × (start .tally ≤ n) ⌝ }
-    ensures { λ r. ⌜ r ≡ step (run (m.transitions (now (s .entry)) n) k start) ⌝ }
+    ensures { λ r. ⌜ ((k : ℕ) → start .at + k * 8 ≡ length (now (s .entry)) → r ≡ step (run (m.transitions (now (s .entry)) n) k start)) ⌝ }
 {
     let mut st = start;
-    let mut i = k;
-    while 0 < i {
-        let read = transition(s, n, st);
+    loop {
+        let to_at = st.at + 6;
+        let Field::Number(to) = wire::read(s, to_at, Width::Two) else {
+            return Step::Next(st);
+        };
+        let read = transition(s, n, to, st);
         let Step::Next(next) = read else {
             return read;
         };
         st = next;
-        i -= 1;
     }
-    Step::Next(st)
 }
 
 // The header, and that the message is as long as its counts say.
@@ -174,7 +190,7 @@ pub fn check(s: &[u8]) -> Checked
     ensures { λ r. ⌜ r ≡ answers.checked (m.readModel (now (s .entry))) ⌝ }
 {
     let head = header(s);
-    let Checked::Model(n, p, t) = head else {
+    let Checked::Model(n, p, _) = head else {
         return head;
     };
     if let Step::Refused(e) = labels(
@@ -193,7 +209,6 @@ pub fn check(s: &[u8]) -> Checked
     let first = match transitions(
         s,
         n,
-        t,
         State {
             at: middle,
             prev: 0,

@@ -5,7 +5,7 @@ use mathlib.Core.List.{List}
 use mathlib.Core.Bool.{Bool, true, false, cond}
 use lib.ListN.{length}
 use lib.Dec.{leb}
-use borrow.Author.Tests.{lt-leb, le-leb, leb-true}
+use borrow.Author.Tests.{lt-leb, le-leb, leb-true, leb-false}
 use native.Mathlib.Omega.{arith}
 use Rattle.wire.specs.Bytes.{number}
 use Rattle.wire.specs.Field.{widthOf, fieldAt}
@@ -30,7 +30,16 @@ value-inside k s at {n} e = go (leb (at + k) (length s)) refl e
     go true h e′ = leb-true (at + k) (length s) h
     go false h e′ = let z : _≡_ {A = ℕ} 0 1 = cc in omega arith
 
--- and is the number that stands there
+-- one that is too short runs past the end
+pub short-past : (k : ℕ) (s : List ℕ) (at : ℕ) → fieldAt k s at ≡ Short → length s < at + k
+unfolding fieldAt
+short-past k s at e = go (leb (at + k) (length s)) refl e
+  where
+    go : (t : Bool) → leb (at + k) (length s) ≡ t → cond t (Number (number k s at)) Short ≡ Short → length s < at + k
+    go true h e′ = let z : _≡_ {A = ℕ} 0 1 = cc in omega arith
+    go false h e′ = leb-false (at + k) (length s) h
+
+-- one with a value is the number that stands there
 pub value-is : (k : ℕ) (s : List ℕ) (at : ℕ) {n : ℕ} → fieldAt k s at ≡ Number n → number k s at ≡ n
 value-is k s at {n} e = let there : Number n ≡ Number (number k s at) = sym e ∙ field-value k s at (value-inside k s at e) in cc
 

@@ -1,6 +1,7 @@
 -- The reading from the answer, and the turns of a loop over records. Assumes nothing.
 use Prim.Native.Nat.{ℕ, _-_, _<_}
 use mathlib.Core.Path.{_≡_, sym, ap, _∙_}
+use native.Mathlib.Omega.{arith}
 use Rattle.refusal.specs.declared.Refusal.{Refusal}
 use Rattle.wire.specs.Read.{Read, good, bad}
 use Rattle.wire.specs.Reader.{Reader, one, run}
@@ -21,6 +22,10 @@ pub step-refused : (x : Read State) {f : Refusal} → step x ≡ Refused f → x
 unfolding step
 step-refused (good a) e = cc
 step-refused (bad a) e = cc
+
+-- no answer is both
+pub not-next : {A : Type 0} {f : Refusal} {st : State} → Refused f ≡ Next st → A
+not-next e = let z : _≡_ {A = ℕ} 0 1 = cc in absurd (omega arith)
 
 -- a loop over records, whose answer is w: where its next record is good, where it is not, and at its end
 module _ (A : Type 0) (R : Reader State A) (i : ℕ) (st : State) {w : Step} (whole : step (run R i st) ≡ w) where

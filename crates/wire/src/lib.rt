@@ -74,14 +74,16 @@ pub fn number_at(s: &[u8], at: usize, width: Width) -> u32
     n
 }
 
-// The field at a position.
+// The field at a position. The last position where one fits does not depend on this one, so a loop needs a single test for each.
 pub fn read(s: &[u8], at: usize, width: Width) -> Field
     ensures { λ r. ⌜ r ≡ fieldAt (widthOf width) (now (s .entry)) at ⌝ }
 {
-    if s.len() < at {
+    let k = width.bytes();
+    if s.len() < k {
         return Field::Short;
     }
-    if s.len() - at < width.bytes() {
+    let last = s.len() - k;
+    if last < at {
         return Field::Short;
     }
     Field::Number(number_at(s, at, width))

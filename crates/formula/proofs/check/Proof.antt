@@ -2,26 +2,27 @@
 use Prim.Native.Nat.{ℕ}
 use mathlib.Core.Bool.{true, false}
 use mathlib.Core.List.{List}
-use mathlib.Core.Path.{_≡_, _∙_}
+use mathlib.Core.Path.{_≡_, refl, _∙_}
 use denote.Ref.{now}
+use lib.ListN.{length, getD}
 use native.Mathlib.Omega.{arith}
 use borrow.Author.Needs.{needs}
 use borrow.Author.Tests.{lt-leb, le-leb, not-true, not-false}
 use Rattle.lists.proofs.Tests.{by}
-use Rattle.wire.specs.Read.{good}
-use Rattle.wire.specs.Reader.{readAll}
-use Rattle.wire.specs.Layout.{items, Sound}
+use Rattle.wire.specs.declared.State.{State}
+use Rattle.wire.specs.Read.{Read, good}
+use Rattle.wire.specs.Reader.{readAll, run}
+use Rattle.wire.specs.Step.{start, step}
 use Rattle.wire.proofs.Reading.{reading}
 use Rattle.wire.proofs.Readers.{run-good, run-bad, all-length}
 use Rattle.wire.proofs.Turns.{step-next, step-refused}
-use Rattle.wire.specs.Step.{start}
 use Rattle.formula.specs.declared.Row.{Row}
-use Rattle.formula.specs.Rows.{usedOnce}
+use Rattle.formula.specs.Rows.{uses, usedOnce}
 use Rattle.formula.specs.Message.{readHeader, readFormula, rows}
-use Rattle.formula.specs.Layouts.{rowLayout}
 use Rattle.formula.specs.Answers.{checked}
 use Rattle.formula.proofs.Good.{header-good}
 use Rattle.formula.proofs.Accepted.{rows-hold}
+use Rattle.formula.proofs.Uses.{none-counted}
 use Rattle.formula.proofs.Answered.{counted-formula, counted-refused}
 use Rattle.formula.proofs.check.Statement.{statement}
 use Rattle.formula.proofs.check.Tie as tie
@@ -30,20 +31,27 @@ use Rattle.formula.proofs.check.Tie as tie
 head-good : (c : tie.After-known-told) → readHeader (now (c .before .before .before .before .before .before .args .s)) ≡ good (c .before .head .given .0 .0)
 head-good c = counted-formula _ (by (c .before .before .before .header .ensures) (c .before .head .given .1))
 
--- the rows that were read, which stand one after another
-record Rows (s : List ℕ) (p f : ℕ) : Type 0 where
+-- the reading of all rows
+abbrev all-read : tie.After-known-told → Read State
+all-read k = let a = k .before .before .before .before .before .before .args in run (rows (now (a .s)) (a .p)) (k .before .head .given .0 .0) (start 7)
+
+-- the rows that were read, and how often each of them is an operand
+record Rows (s counts : List ℕ) (p f : ℕ) : Type 0 where
   got : List Row
   there : readAll (rows s p) f (start 7) ≡ good got
-  are : got ≡ items (rowLayout s) f 7
-  sound : Sound (rowLayout s) f 7
+  long : length got ≡ f
+  uses-are : (i : ℕ) → getD counts i 0 ≡ uses i got
 
-rows-got : (c : tie.After-enum-told2) → let k = c .before .before .before in let a = k .before .before .before .before .before .before .args in Rows (now (a .s)) (a .p) (k .before .head .given .0 .0)
+rows-got : (c : tie.After-enum-told2) → let r = c .before .before .before in let k = r .before .before in let a = k .before .before .before .before .before .before .args in
+    Rows (now (a .s)) (r .all-rows .last .1 .1 .1 .1 .0) (a .p) (k .before .head .given .0 .0)
 rows-got c =
-    let k = c .before .before .before in
+    let r = c .before .before .before in
+    let k = r .before .before in
     let a = k .before .before .before .before .before .before .args in
-    let ran = run-good _ _ _ _ (step-next _ (by (c .before .before .all-rows .ensures) (c .enum-told2 .given .1))) in
+    let told = c .enum-told2 .given .1 in
+    let ran = run-good _ _ _ _ (step-next (all-read k) (by {b = step (all-read k)} (r .all-rows .ensures .0) told)) in
     let hold = rows-hold (now (a .s)) (a .p) (k .before .head .given .0 .0) (start 7) (ran .got) (omega (arith, header-good _ _ (head-good k))) (ran .there) in
-    record { got = ran .got; there = ran .there; are = hold .items-are; sound = hold .sound }
+    record { got = ran .got; there = ran .there; long = all-length _ _ _ _ (ran .there); uses-are = λ i. rw (hold .items-are) (r .all-rows .ensures .1 _ told i) }
 
 returns : tie.Need-returns
 unfolding readFormula checked
@@ -65,8 +73,11 @@ returns-2 c =
     let refused = counted-refused _ (by (h .header .ensures) (c .enum-told .given .1)) in
     c .enum-told .given .1 ∙ simp (reading, le-leb _ _ (h .before .if1 .left), refused)
 
+slice-aggregate-all-rows : tie.Need-slice-aggregate-all-rows
+slice-aggregate-all-rows c = search needs
+
 all-rows-requires : tie.Need-all-rows-requires
-all-rows-requires c κs = omega (arith, header-good _ _ (head-good c))
+all-rows-requires c κs = let h = header-good _ _ (head-good (c .before)) in ((omega (arith, h .long), omega (arith, h .f-counted .no-more)), (refl, none-counted 64))
 
 enum-known-e : tie.Need-enum-known-e
 enum-known-e c = search needs
@@ -74,35 +85,41 @@ enum-known-e c = search needs
 returns-3 : tie.Need-returns-3
 unfolding readFormula checked
 returns-3 c =
-    let r = c .before .before .before in
-    let k = r .before in
-    simp (reading, le-leb _ _ (k .before .before .before .before .if1 .left), head-good k, run-bad _ _ _ _ (step-refused _ (by (r .all-rows .ensures) (c .before .e .given .1))))
+    let r = c .before .before .before .before in
+    let k = r .before .before in
+    let refused = step-refused (all-read k) (by {b = step (all-read k)} (r .all-rows .ensures .0) (c .before .e .given .1)) in
+    simp (reading, le-leb _ _ (k .before .before .before .before .if1 .left), head-good k, run-bad _ _ _ _ refused)
 
 enum-told-2 : tie.Need-enum-told-2
 enum-told-2 c = search needs
 
+slice-aggregate-used-once : tie.Need-slice-aggregate-used-once
+slice-aggregate-used-once c = search needs
+
 used-once-requires : tie.Need-used-once-requires
 used-once-requires c κs =
-    let head = header-good _ _ (head-good (c .before .before .before)) in
-    (rows-got c .sound, (head .f-counted .no-less, head .f-counted .no-more))
+    let head = header-good _ _ (head-good (c .before .before .before .before .before .before)) in
+    (c .before .before .before .counts2 .given, head .f-counted .no-less, head .f-counted .no-more)
 
 returns-4 : tie.Need-returns-4
 unfolding readFormula checked
 returns-4 c =
     let u = c .before in
-    let k = u .before .before .before .before in
-    let rs = rows-got (u .before) in
-    let unused : usedOnce (rs .got) ≡ false = rw (rs .are) (by (u .used-once .ensures) (not-true _ (c .if2 .taken))) in
+    let t = u .before .before in
+    let k = t .before .before .before .before .before in
+    let rs = rows-got t in
+    let unused : usedOnce (rs .got) ≡ false = by (u .used-once .ensures (rs .got) (rs .long) (rs .uses-are)) (not-true _ (c .if2 .taken)) in
     simp (reading, le-leb _ _ (k .before .before .before .before .if1 .left), head-good k, rs .there, unused)
 
 returns-5 : tie.Need-returns-5
 unfolding readFormula checked
 returns-5 c =
     let u = c .before in
-    let k = u .before .before .before .before in
-    let rs = rows-got (u .before) in
-    let used : usedOnce (rs .got) ≡ true = rw (rs .are) (by (u .used-once .ensures) (not-false _ (c .if2 .left))) in
-    simp (reading, le-leb _ _ (k .before .before .before .before .if1 .left), head-good k, rs .there, used, all-length _ _ _ _ (rs .there))
+    let t = u .before .before in
+    let k = t .before .before .before .before .before in
+    let rs = rows-got t in
+    let used : usedOnce (rs .got) ≡ true = by (u .used-once .ensures (rs .got) (rs .long) (rs .uses-are)) (not-false _ (c .if2 .left)) in
+    simp (reading, le-leb _ _ (k .before .before .before .before .if1 .left), head-good k, rs .there, used, rs .long)
 
 pub check-spec : {M : Type 1} → statement M
 check-spec =
@@ -113,10 +130,12 @@ check-spec =
     enum-known-head
     enum-told
     returns-2
+    slice-aggregate-all-rows
     all-rows-requires
     enum-known-e
     returns-3
     enum-told-2
+    slice-aggregate-used-once
     used-once-requires
     returns-4
     returns-5)

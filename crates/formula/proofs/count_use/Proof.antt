@@ -5,9 +5,6 @@ use Rattle.formula.proofs.Uses.{one-counted}
 use Rattle.formula.proofs.count_use.Statement.{statement}
 use Rattle.formula.proofs.count_use.Tie as tie
 
-mul-counts : tie.Need-mul-counts
-mul-counts c = search needs
-
 slice-read-counts : tie.Need-slice-read-counts
 slice-read-counts c = search needs
 
@@ -24,4 +21,4 @@ returns : tie.Need-returns
 returns c i = let s = c .before in one-counted (now (s .args .counts)) (s .args .row) i (s .pre .0)
 
 pub count-use-spec : {M : Type 1} → statement M
-count-use-spec = tie.close (tie.spec mul-counts slice-read-counts add-counts slice-write-counts same-length returns)
+count-use-spec = tie.close (tie.spec slice-read-counts add-counts slice-write-counts same-length returns)

@@ -1,6 +1,6 @@
 -- `formula::one_row` meets its contract: each `return` is the reading under the tests that led there.
 use Prim.Native.Nat.{_+_, _≤_}
-use mathlib.Core.Path.{_≡_}
+use mathlib.Core.Path.{_≡_, _∙_}
 use denote.Ref.{now}
 use lib.ListN.{length}
 use borrow.Author.Needs.{needs}
@@ -8,18 +8,23 @@ use native.Mathlib.Omega.{arith}
 use Rattle.lists.proofs.Tests.{by}
 use Rattle.wire.specs.declared.Field.the-variants.{Number}
 use Rattle.wire.specs.Field.{fieldAt}
+use Rattle.wire.specs.Read.{Read, good}
 use Rattle.wire.specs.Step.{step}
 use Rattle.wire.proofs.Fields.{value-inside, value-is}
 use Rattle.wire.proofs.Reading.{reading}
+use Rattle.wire.proofs.Turns.{not-next}
+use Rattle.formula.specs.declared.Row.{Row}
 use Rattle.formula.specs.Message.{readRow, judgeRow}
+use Rattle.formula.specs.Answers.{judged}
 use Rattle.formula.proofs.Answered.{judged-fine, judged-refused}
-use Rattle.formula.proofs.Good.{row-short, row-inside}
+use Rattle.formula.proofs.Good.{row-short, row-inside, row-good}
+use Rattle.formula.proofs.Accepted.{row-is}
 use Rattle.formula.proofs.one_row.Statement.{statement}
 use Rattle.formula.proofs.one_row.Tie as tie
 
 -- where the function starts, and where the bound was found
 abbrev start : tie.After-known-told → tie.Start
-start c = c .before .before .before .before .before
+start c = c .before .before .before .before .before .before
 
 abbrev found : tie.After-number-at4 → tie.After-known-told
 found c = c .before .before .before .before
@@ -32,12 +37,22 @@ inside : (c : tie.After-known-told) → let a = start c .args in a .st .at + 8 �
 inside c = let a = start c .args in omega (arith, value-inside 4 (now (a .s)) (a .st .at + 4) (bound-there c))
 
 -- the reading judges the fields that were read
-fields-judged : (c : tie.After-number-at4) → let k = found c in let a = start k .args in
-    readRow (now (a .s)) (a .p) (a .st) ≡ judgeRow (a .p) (a .st .tally) (c .before .before .before .number-at .result) (c .before .before .number-at2 .result) (c .before .number-at3 .result) (c .number-at4 .result) (k .before .bound .given .0 .0)
+abbrev judgement : tie.After-number-at4 → Read Row
+judgement c =
+    let a = start (found c) .args in
+    judgeRow (a .p) (a .st .tally) (c .before .before .before .number-at .result) (c .before .before .number-at2 .result) (c .before .number-at3 .result) (c .number-at4 .result) (found c .before .bound .given .0 .0)
+
+fields-judged : (c : tie.After-number-at4) → let a = start (found c) .args in readRow (now (a .s)) (a .p) (a .st) ≡ judgement c
 fields-judged c =
     let k = found c in
     let a = start k .args in
     simp (row-inside (now (a .s)) (a .p) (a .st) (inside k), c .before .before .before .number-at .ensures, c .before .before .number-at2 .ensures, c .before .number-at3 .ensures, c .number-at4 .ensures, value-is 4 (now (a .s)) (a .st .at + 4) (bound-there k))
+
+-- the row that was read
+row-read : (c : tie.After-known-told2) → let a = start (found (c .before .before .before .before)) .args in readRow (now (a .s)) (a .p) (a .st) ≡ good (c .before .row .given .0 .0)
+row-read c =
+    let j = c .before .before .before in
+    fields-judged (j .before) ∙ judged-fine (judgement (j .before)) (by {b = judged (judgement (j .before))} (j .judge .ensures) (c .before .row .given .1))
 
 add-bound-at : tie.Need-add-bound-at
 add-bound-at c = search needs
@@ -54,8 +69,8 @@ enum-told c = search needs
 returns : tie.Need-returns
 unfolding step
 returns c =
-    let a = c .before .before .before .before .args in
-    simp (reading, row-short (now (a .s)) (a .p) (a .st) (by (c .before .before .read .ensures) (c .enum-told .given .1)))
+    let a = c .before .before .before .before .before .args in
+    (simp (reading, row-short (now (a .s)) (a .p) (a .st) (by (c .before .before .read .ensures) (c .enum-told .given .1))), λ next e. not-next e)
 
 number-at-requires : tie.Need-number-at-requires
 number-at-requires c κs = omega (arith, inside c)
@@ -81,6 +96,9 @@ number-at-requires-4 c κs = omega (arith, inside (c .before .before .before))
 judge-requires : tie.Need-judge-requires
 judge-requires c κs = search needs
 
+enum-known-row : tie.Need-enum-known-row
+enum-known-row c = search needs
+
 enum-known-e : tie.Need-enum-known-e
 enum-known-e c = search needs
 
@@ -88,22 +106,29 @@ returns-2 : tie.Need-returns-2
 unfolding step
 returns-2 c =
     let j = c .before .before .before in
-    simp (reading, fields-judged (j .before), judged-refused _ (by (j .judge .ensures) (c .before .e .given .1)))
+    (simp (reading, fields-judged (j .before), judged-refused (judgement (j .before)) (by {b = judged (judgement (j .before))} (j .judge .ensures) (c .before .e .given .1))), λ next e. not-next e)
 
-enum-told-2 : tie.Need-enum-told-2
-enum-told-2 c = search needs
+count-row-requires : tie.Need-count-row-requires
+count-row-requires c κs =
+    let k = c .before in
+    let pre = start (found (k .before .before .before .before)) .pre in
+    (λ l m. omega (arith, row-good _ _ _ _ (row-read k) .fine .names .earlier m, pre .0 .1, pre .1 .0), pre .1 .1)
 
 add-end : tie.Need-add-end
-add-end c = let k = found (c .before .before .before) in omega (arith, start k .good, inside k)
+add-end c = let k = found (c .before .before .before .before .before .before .before .before) in omega (arith, start k .good, inside k)
 
 add-place : tie.Need-add-place
-add-place c = omega (arith, start (found (c .before .before .before .before)) .pre)
+add-place c = omega (arith, start (found (c .before .before .before .before .before .before .before .before .before)) .pre .0)
+
+same-length : tie.Need-same-length
+same-length c = search needs
 
 returns-3 : tie.Need-returns-3
 unfolding step
 returns-3 c =
-    let j = c .before .before .before in
-    simp (reading, fields-judged (j .before), judged-fine _ (by (j .judge .ensures) (c .before .enum-told2 .given .1)))
+    let put = c .before .before .before in
+    let k = put .before .before in
+    (simp (reading, row-read k), λ next e i. rw (← row-is _ _ _ _ (row-read k)) (put .count-row .ensures i))
 
 pub one-row-spec : {M : Type 1} → statement M
 one-row-spec =
@@ -122,9 +147,11 @@ one-row-spec =
     add-zero-at
     number-at-requires-4
     judge-requires
+    enum-known-row
     enum-known-e
     returns-2
-    enum-told-2
+    count-row-requires
     add-end
     add-place
+    same-length
     returns-3)

@@ -1,6 +1,6 @@
 -- `model::check` meets its contract: the header, the labels, the transitions, and whether a state is dead.
 use Prim.Native.Nat.{_+_, _*_}
-use mathlib.Core.Path.{_≡_, _∙_}
+use mathlib.Core.Path.{_≡_, sym, _∙_}
 use denote.Ref.{now}
 use borrow.Author.Tests.{lt-leb, le-leb}
 use borrow.Author.Needs.{needs}
@@ -34,7 +34,9 @@ labels-next c = step-next _ (by (c .before .before .labels .ensures) (c .enum-to
 
 transitions-next : (c : tie.After-known-told3) → let k = c .before .before .before .before .before .before .before .before .head .given .0 in
     run (m.transitions (now (c .before .before .before .before .before .before .before .before .before .before .before .before .args .s)) (k .0)) (k .1 .1 .0) (start (13 + k .0 * 4)) ≡ good (c .before .st .given .0 .0)
-transitions-next c = step-next _ (by (c .before .before .before .transitions .ensures) (c .before .st .given .1))
+transitions-next c =
+    let h = c .before .before .before .before .before .before .before in
+    step-next _ (by (c .before .before .before .transitions .ensures _ (sym (header-good _ _ (head-good h) .long))) (c .before .st .given .1))
 
 -- the first state that none leaves tells whether one is dead
 dead-is : (c : tie.After-known-told3) → let k = c .before .before .before .before .before .before .before .before .head .given .0 in
@@ -96,8 +98,10 @@ returns-3 : tie.Need-returns-3
 unfolding readModel checked
 returns-3 c =
     let r = c .before .before .before in
+    let h = head-good (r .before .before .before .before) in
     let ls = run-good _ _ _ _ (labels-next (r .before)) in
-    simp (reading, head-good (r .before .before .before .before), ls .there, run-bad _ _ _ _ (step-refused _ (by (r .transitions .ensures) (c .before .e2 .given .1))))
+    let refused = by (r .transitions .ensures _ (sym (header-good _ _ h .long))) (c .before .e2 .given .1) in
+    simp (reading, h, ls .there, run-bad _ _ _ _ (step-refused _ refused))
 
 returns-4 : tie.Need-returns-4
 unfolding readModel checked

@@ -7,14 +7,14 @@ use Rattle.wire.proofs.Fields.{field-short, field-value}
 use Rattle.wire.proofs.read.Statement.{statement}
 use Rattle.wire.proofs.read.Tie as tie
 
+bytes-requires : tie.Need-bytes-requires
+bytes-requires c κs = search needs
+
 returns : tie.Need-returns
 returns c = sym (field-short _ _ _ (omega arith))
 
-sub-if2 : tie.Need-sub-if2
-sub-if2 c = search needs
-
-bytes-requires : tie.Need-bytes-requires
-bytes-requires c κs = search needs
+sub-last : tie.Need-sub-last
+sub-last c = search needs
 
 returns-2 : tie.Need-returns-2
 returns-2 c = sym (field-short _ _ _ (omega arith))
@@ -27,4 +27,4 @@ returns-3 c = ap Number (c .number-at .ensures) ∙ sym (field-value _ _ _ (omeg
 
 pub read-spec : {M : Type 1} → statement M
 read-spec =
-    tie.close (tie.spec returns sub-if2 bytes-requires returns-2 number-at-requires returns-3)
+    tie.close (tie.spec bytes-requires returns sub-last returns-2 number-at-requires returns-3)
