@@ -196,7 +196,7 @@ fn copy_down(n: usize, room: &mut [u64])
 }
 
 // The rounds of a graph that is ready, until one changes nothing or the budget is spent.
-fn run(s: &[u8], n: usize, h: u32, c: u32, budget: u32, room: &mut [u64]) -> Outcome
+pub fn run(s: &[u8], n: usize, h: u32, c: u32, budget: u32, room: &mut [u64]) -> Outcome
     requires { ⌜ Ready (now s) n h c ⌝ }
     requires { ⌜ n + n ≤ length (now room) ⌝ }
     ensures { λ r. ⌜ r ≡ ended (decoded (now (s .entry)) n h c) budget ⌝ }
