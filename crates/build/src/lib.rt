@@ -124,17 +124,17 @@ fn transition_at(n: u32, first: u32) -> usize
     13 + (n as usize) * 4 + (first as usize) * 8
 }
 
-// How many of these transitions are within the bound.
-fn near_count(m: &[u8], n: u32, first: u32, many: u32, bound: Bound) -> u32
+// How many of these transitions are within the bound. A count of 32 bits would have the compiler gather the weights byte by byte.
+fn near_count(m: &[u8], n: u32, first: u32, many: u32, bound: Bound) -> u64
     requires { ⌜ 13 + n * 4 + (first + many) * 8 ≤ length (now m) ⌝ }
     ensures { λ r. ⌜ r ≡ length (keep (λ u. inside bound (u .weight)) (transitionsFrom (now (m .entry)) n first many)) ⌝ }
 {
     let Bound::Within(most) = bound else {
-        return many;
+        return many as u64;
     };
     let mut at = transition_at(n, first);
     let mut i = many;
-    let mut near: u32 = 0;
+    let mut near: u64 = 0;
     while 0 < i {
         let weight = wire::number_at(m, at + 2, Width::Four);
         at += 8;
@@ -196,7 +196,7 @@ fn row_size(m: &[u8], n: u32, p: u32, t: u32, a: u32, first: u32, many: u32, row
             targets: 2,
             most: 1,
         },
-        Row::Next(q, _, b) => next_size(q, near_count(m, n, first, many, b) as u64),
+        Row::Next(q, _, b) => next_size(q, near_count(m, n, first, many, b)),
         Row::Until(_, _, _, _) => Size::NONE,
     }
 }
@@ -363,7 +363,7 @@ fn put_some_next(
     v: u32,
     first: u32,
     many: u32,
-    near: u32,
+    near: u64,
     most: u32,
     shift: u32,
 ) -> usize
@@ -398,7 +398,7 @@ fn put_every_next(
     n: u32,
     first: u32,
     many: u32,
-    near: u32,
+    near: u64,
     most: u32,
     shift: u32,
 ) -> usize
@@ -517,7 +517,7 @@ fn put_next(
     match q {
         Quantifier::Some => put_some_next(room, at, m, n, v, first, many, near, most, shift),
         Quantifier::Every => {
-            let targets = put_head(room, at, v, near);
+            let targets = put_head(room, at, v, near as u32);
             put_every_next(room, targets, m, n, first, many, near, most, shift)
         }
     }

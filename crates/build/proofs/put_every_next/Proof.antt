@@ -45,7 +45,7 @@ whole-long s =
     ap length (whole-is s) ∙ near-length (one (a .shift)) (a .most) 6 (λ u. target-length _) _ ∙ ap (λ (k : ℕ). k * 6) (sym (s .pre .1 .0))
 
 mul-end : tie.Need-mul-end Inv-loop μ-loop
-mul-end c = omega arith
+mul-end c = let s = c .before .before in omega (arith, whole-long s, s .pre .1 .1)
 
 add-end : tie.Need-add-end Inv-loop μ-loop
 add-end c = let s = c .before .before in omega (arith, whole-long s, s .pre .1 .1)

@@ -1,5 +1,5 @@
 -- `build::put_next` meets its contract: a hyperedge for each transition, or a head with all their targets behind it.
-use Prim.Native.Nat.{ℕ, _+_, _≤_}
+use Prim.Native.Nat.{ℕ, _+_, _*_, _≤_}
 use mathlib.Core.List.{List, [], _∷_, _++_, map}
 use mathlib.Core.Path.{_≡_, refl, sym, ap, subst, _∙_}
 use denote.Ref.{now}
@@ -18,9 +18,9 @@ use Rattle.rules.specs.Graph.{Target}
 use Rattle.graph.specs.Write.{writeTarget, writeHyper}
 use Rattle.model.specs.Model.{Transition}
 use Rattle.reduction.specs.Built.{to, hyper}
-use Rattle.build.specs.Held.{transitionsFrom}
+use Rattle.build.specs.Held.{transitionLayout, transitionsFrom}
 use Rattle.build.specs.Bytes.{hypersBytes, someNext, everyNext}
-use Rattle.build.proofs.Counting.{coded-keep}
+use Rattle.build.proofs.Counting.{passing-le, coded-keep}
 use Rattle.build.proofs.Edges.{head-length, hypers-one, one-laid, hyper-laid, every-count}
 use Rattle.build.proofs.put_next.Statement.{statement}
 use Rattle.build.proofs.put_next.Tie as tie
@@ -79,6 +79,12 @@ all-fit c =
     let s = c .before .before .before .before .before .before in
     rw (hypers-one (s .args .v) (targets s)) at (rw (c .enum-told2 .given .1) at (s .pre .1))
 
+cast-put-head : tie.Need-cast-put-head
+cast-put-head c =
+    let code = c .before .before .before in
+    let s = start code in
+    omega (arith, code .before .near-count .ensures, passing-le (transitionLayout (now (s .args .m))) (λ u. inside (s .args .bound) (u .weight)) (s .args .many) (13 + s .args .n * 4 + s .args .first * 8))
+
 put-head-requires : tie.Need-put-head-requires
 put-head-requires c κs =
     let s = start (c .before .before .before) in
@@ -131,6 +137,7 @@ put-next-spec =
     enum-told
     put-some-next-requires
     enum-told-2
+    cast-put-head
     put-head-requires
     put-every-next-requires
     same-length
