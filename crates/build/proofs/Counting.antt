@@ -1,18 +1,23 @@
 -- A loop that counts the records that pass a test; the test of a transition's weight. Assumes nothing.
-use Prim.Native.Nat.{ℕ, _+_, _-_, _<_, _≤_}
+use Prim.Native.Nat.{ℕ, zero, suc, _+_, _-_, _<_, _≤_}
+use mathlib.Core.List.{List, [], _∷_}
 use mathlib.Core.Bool.{Bool, true, false}
-use mathlib.Core.Path.{_≡_, ap, _∙_}
+use mathlib.Core.Path.{_≡_, refl, ap, _∙_}
 use native.Mathlib.Omega.{arith}
 use lib.ListN.{length}
+use lib.Dec.{leb}
+use borrow.Author.Tests.{le-leb}
 use Rattle.lists.specs.Making.{keep}
 use Rattle.lists.proofs.Kept.{keep-length, keep-pass, keep-fail}
 use Rattle.value.specs.declared.Bound.{Bound}
 use Rattle.value.specs.declared.Bound.the-variants.{Within, Unbounded}
-use Rattle.value.specs.Value.{inside, meets}
-use Rattle.value.specs.Stored.{infinite, meaning}
-use Rattle.value.proofs.Stored.{meaning-finite}
+use Rattle.value.specs.Value.{inside}
+use Rattle.value.specs.Coded.{noBound, codeOf}
+use Rattle.wire.specs.Bytes.{number, Bytes}
 use Rattle.wire.specs.Layout.{Layout, items}
+use Rattle.wire.proofs.Bytes.{number-below}
 use Rattle.wire.proofs.Layouts.{items-more, items-length}
+use Rattle.build.specs.Held.{transitionLayout}
 
 module _ {A : Type 0} (L : Layout A) (p : A → Bool) where
   -- the records that pass, among so many from a position
@@ -34,7 +39,18 @@ module _ {A : Type 0} (L : Layout A) (p : A → Bool) where
     pub passing-there : p (L .item at) ≡ false → passing k at ≡ passing (k - 1) (L .next at)
     passing-there e = ap (λ l. length (keep p l)) (items-more L k at some) ∙ ap length (keep-fail p (L .item at) (items L (k - 1) (L .next at)) e)
 
--- a weight is within a bound as a number exactly when it is as a value
-pub weight-within : (b : Bound) {w : ℕ} → w < infinite → meets b (meaning w) ≡ inside b w
-weight-within (Within k) {w} h = rw (meaning-finite {k = w} (omega arith))
-weight-within Unbounded {w} h = rw (meaning-finite {k = w} (omega arith))
+-- transitions with weights of 4 bytes are within a bound exactly when they are within the number that says it
+pub coded-keep : (m : List ℕ) → Bytes m → (b : Bound) (k at : ℕ)
+    → keep (λ u. inside b (u .weight)) (items (transitionLayout m) k at) ≡ keep (λ u. leb (u .weight) (codeOf b)) (items (transitionLayout m) k at)
+unfolding items keep
+coded-keep m bytes (Within most) k at = refl
+coded-keep m bytes Unbounded zero at = refl
+coded-keep m bytes Unbounded (suc k) at =
+    let small : number 4 m (at + 2) ≤ noBound = omega (arith, number-below 4 m (at + 2) bytes) in
+    rw (le-leb (number 4 m (at + 2)) noBound small) (ap (λ l. transitionLayout m .item at ∷ l) (coded-keep m bytes Unbounded k (at + 8)))
+
+-- all are within no bound
+pub unbounded-all : {A : Type 0} (l : List A) → length (keep (λ a. true) l) ≡ length l
+unfolding keep
+unbounded-all [] = refl
+unbounded-all (a ∷ l) = ap suc (unbounded-all l)

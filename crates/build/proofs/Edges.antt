@@ -1,15 +1,13 @@
 -- Edges laid into the room one after another, and the loops over transitions that do so. Assumes nothing.
 use Prim.Native.Nat.{ℕ, _+_, _*_, _-_, _<_, _≤_}
 use mathlib.Core.List.{List, [], _∷_, _++_, append-nil, List·Memᴰ·head, List·Memᴰ·tail}
-use mathlib.Core.Bool.{Bool, true, false, cond}
 use mathlib.Core.Path.{_≡_, refl, sym, ap, subst, _∙_}
 use native.Mathlib.Omega.{arith}
 use lib.ListN.{length, length-append, length-map}
 use Rattle.lists.specs.Lists.{_∈_}
 use Rattle.lists.specs.Making.{keep}
 use Rattle.value.specs.declared.Bound.{Bound}
-use Rattle.value.specs.Value.{inside, meets}
-use Rattle.value.specs.Stored.{infinite, meaning}
+use Rattle.value.specs.Value.{inside}
 use Rattle.wire.specs.Bytes.{bytes, number}
 use Rattle.wire.specs.Laid.{Laid}
 use Rattle.wire.specs.Layout.{items}
@@ -24,7 +22,6 @@ use Rattle.model.specs.Model.{Transition}
 use Rattle.reduction.specs.Built.{to, hyper}
 use Rattle.build.specs.Held.{transitionLayout, transitionsFrom, Reads}
 use Rattle.build.specs.Bytes.{hypersBytes, everyNext}
-use Rattle.build.proofs.Counting.{weight-within}
 
 -- ---- lists of records
 
@@ -109,33 +106,6 @@ module _ (m : List ℕ) (n : ℕ) (one : Transition → List ℕ) where
           named = λ {u} e. f .named {u = u} (rw here (List·Memᴰ·tail e));
           left = left-then (f .left) made _ parts l;
         }
-
--- ---- the same, with nothing made of a transition beyond a bound
-
--- what is made of a transition within the bound
-unfoldable pub near : Bound → (Transition → List ℕ) → Transition → List ℕ
-near limit one u = cond (inside limit (u .weight)) (one u) []
-
-module _ (m : List ℕ) (n : ℕ) (one : Transition → List ℕ) (limit : Bound) {b : List ℕ} {at : ℕ} {whole b′ : List ℕ} {next p i : ℕ}
-    (f : Filling m n (near limit one) b at whole b′ next p i) (h : 0 < i) {w v : ℕ} (weight-is : w ≡ number 4 m (p + 2))
-    (to-is : v ≡ number 2 m (p + 6)) (small : w < infinite) {test : Bool} (is : test ≡ meets limit (meaning w)) where
-  abbrev it : List ℕ
-  it = one (record { from = number 2 m p; weight = w; to = v })
-
-  bytes-are : {t : Bool} → test ≡ t → cond (inside limit w) it [] ≡ cond t it []
-  bytes-are e = ap (λ (t : Bool). cond t it []) (sym (weight-within limit small) ∙ sym is ∙ e)
-
-  pub near-fits : test ≡ true → (k : ℕ) → length it ≡ k → next + k ≤ length b′
-  unfolding near
-  near-fits e k l = next-fits m n (near limit one) f h weight-is to-is k (ap length (bytes-are e) ∙ l)
-
-  pub near-filled : test ≡ true → {b″ : List ℕ} {end : ℕ} → Laid b′ next it b″ end → Filling m n (near limit one) b at whole b″ end (p + 8) (i - 1)
-  unfolding near
-  near-filled e l = next-filled m n (near limit one) f h weight-is to-is (said l (bytes-are e) refl refl)
-
-  pub far-filled : test ≡ false → Filling m n (near limit one) b at whole b′ next (p + 8) (i - 1)
-  unfolding near
-  far-filled e = next-filled m n (near limit one) f h weight-is to-is (said (nothing b′ next (omega (arith, f .left .next-is, f .left .length-is, f .left .whole-fits))) (bytes-are e) refl refl)
 
 -- ---- the hyperedges of a node, part by part
 

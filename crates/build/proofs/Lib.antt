@@ -7,6 +7,7 @@
 --     Sizes      how much room hyperedges take, of a row and of all
 --     Whole      the size of a graph that is built, and of its message
 --     Edges      edges laid into the room one after another, and the loops over transitions that do so
+--     Nearby     the loop over the transitions within a bound, which writes first and asks after
 --     Nodes      the edges of a node, from its state's transitions; rows one after another
 --     Helpers    the hyperedges of helper nodes, and the loop over rows that lays them in
 --     Covers     the bytes of cover edges, state by state and row by row
@@ -21,6 +22,7 @@ pub mod Untils
 pub mod Sizes
 pub mod Whole
 pub mod Edges
+pub mod Nearby
 pub mod Nodes
 pub mod Helpers
 pub mod Covers

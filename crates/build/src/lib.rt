@@ -4,8 +4,10 @@ ghost use mathlib.Core.Path.{_≡_};
 ghost use Prim.Native.Nat.{_+_, _*_, _-_, _≤_, _<_};
 ghost use mathlib.Core.List.{_++_, _∷_, []};
 ghost use lib.ListN.{length};
+ghost use lib.Dec.{leb};
 ghost use Rattle.lists.specs.Making.{keep, span};
 ghost use Rattle.value.specs.Value.{inside};
+ghost use Rattle.value.specs.declared.Bound.the-variants.{Within};
 ghost use Rattle.wire.specs.Bytes.{bytes};
 ghost use Rattle.wire.specs.Laid.{laid, Laid};
 ghost use Rattle.wire.specs.Write.{writeAll};
@@ -20,7 +22,6 @@ use formula::Quantifier;
 use formula::Row;
 use refusal::Refusal;
 use value::Bound;
-use value::Value;
 use wire::Width;
 
 // How many hyperedges, how many targets in all, and in the one with the most.
@@ -116,19 +117,29 @@ fn starts(m: &[u8], n: u32, p: u32, t: u32) -> [u32; 257]
     table
 }
 
-// How many of these transitions are within the bound.
-fn near_count(m: &[u8], n: u32, first: u32, many: u32, bound: Bound) -> u32
+// Where a transition of the model stands.
+fn transition_at(n: u32, first: u32) -> usize
+    ensures { λ r. ⌜ r ≡ 13 + n * 4 + first * 8 ⌝ }
+{
+    13 + (n as usize) * 4 + (first as usize) * 8
+}
+
+// How many of these transitions are within the bound. A count of 32 bits would have the compiler gather the weights byte by byte.
+fn near_count(m: &[u8], n: u32, first: u32, many: u32, bound: Bound) -> u64
     requires { ⌜ 13 + n * 4 + (first + many) * 8 ≤ length (now m) ⌝ }
     ensures { λ r. ⌜ r ≡ length (keep (λ u. inside bound (u .weight)) (transitionsFrom (now (m .entry)) n first many)) ⌝ }
 {
-    let mut at = 13 + (n as usize) * 4 + (first as usize) * 8;
+    let Bound::Within(most) = bound else {
+        return many as u64;
+    };
+    let mut at = transition_at(n, first);
     let mut i = many;
-    let mut near: u32 = 0;
+    let mut near: u64 = 0;
     while 0 < i {
         let weight = wire::number_at(m, at + 2, Width::Four);
         at += 8;
         i -= 1;
-        if Value(weight as u64).within(bound) {
+        if weight <= most {
             near += 1;
         }
     }
@@ -136,6 +147,13 @@ fn near_count(m: &[u8], n: u32, first: u32, many: u32, bound: Bound) -> u32
 }
 
 impl Size {
+    // Of no hyperedge.
+    const NONE: Size = Size {
+        hypers: 0,
+        targets: 0,
+        most: 0,
+    };
+
     // The sizes of two lists of hyperedges, one behind the other.
     fn plus(self, other: Size) -> Size
         requires { ⌜ (self .hypers + other .hypers < 1000000000000) × (self .targets + other .targets < 1000000000000) ⌝ }
@@ -165,11 +183,7 @@ fn row_size(m: &[u8], n: u32, p: u32, t: u32, a: u32, first: u32, many: u32, row
             targets: 0,
             most: 0,
         },
-        Row::False => Size {
-            hypers: 0,
-            targets: 0,
-            most: 0,
-        },
+        Row::False => Size::NONE,
         Row::Proposition(i) => leaf_size(holds(m, n, p, t, a, i)),
         Row::Negation(i) => leaf_size(!holds(m, n, p, t, a, i)),
         Row::And(_, _) => Size {
@@ -182,12 +196,8 @@ fn row_size(m: &[u8], n: u32, p: u32, t: u32, a: u32, first: u32, many: u32, row
             targets: 2,
             most: 1,
         },
-        Row::Next(q, _, b) => next_size(q, near_count(m, n, first, many, b) as u64),
-        Row::Until(_, _, _, _) => Size {
-            hypers: 0,
-            targets: 0,
-            most: 0,
-        },
+        Row::Next(q, _, b) => next_size(q, near_count(m, n, first, many, b)),
+        Row::Until(_, _, _, _) => Size::NONE,
     }
 }
 
@@ -202,11 +212,7 @@ fn leaf_size(one: bool) -> Size
             most: 0,
         }
     } else {
-        Size {
-            hypers: 0,
-            targets: 0,
-            most: 0,
-        }
+        Size::NONE
     }
 }
 
@@ -234,11 +240,7 @@ fn helper_size(row: Row, many: u64) -> Size
     ensures { λ r. ⌜ r ≡ helperSize row many ⌝ }
 {
     let Row::Until(q, _, _, _) = row else {
-        return Size {
-            hypers: 0,
-            targets: 0,
-            most: 0,
-        };
+        return Size::NONE;
     };
     match q {
         Quantifier::Some => Size {
@@ -260,11 +262,7 @@ fn states_size(m: &[u8], n: u32, p: u32, t: u32, table: &[u32], row: Row) -> Siz
     requires { ⌜ (n < length (now table)) × Starts (now m) n t (now table) ⌝ }
     ensures { λ r. ⌜ r ≡ sizeOf (span (stateEdges (heldModel (now (m .entry)) n p t) row) 0 n) ⌝ }
 {
-    let mut sum = Size {
-        hypers: 0,
-        targets: 0,
-        most: 0,
-    };
+    let mut sum = Size::NONE;
     let mut a: u32 = 0;
     while a < n {
         let i = a as usize;
@@ -285,11 +283,7 @@ fn total_size(m: &[u8], n: u32, p: u32, t: u32, table: &[u32], f: &[u8], k: u32)
     requires { ⌜ HoldsRows (now f) k p ⌝ }
     ensures { λ r. ⌜ r ≡ sizeOf (rowsEdges (heldModel (now (m .entry)) n p t) (heldRows (now (f .entry)) k)) ⌝ }
 {
-    let mut sum = Size {
-        hypers: 0,
-        targets: 0,
-        most: 0,
-    };
+    let mut sum = Size::NONE;
     let mut at: usize = 7;
     let mut i = k;
     while 0 < i {
@@ -359,15 +353,8 @@ fn put_pair(room: &mut [u8], at: usize, v: u32, node: u32, weight: u32, other: u
     put_target(room, second, weight, other)
 }
 
-// Where a transition of the model stands.
-fn transition_at(n: u32, first: u32) -> usize
-    requires { ⌜ (n ≤ 256) × (first ≤ 65535) ⌝ }
-    ensures { λ r. ⌜ r ≡ 13 + n * 4 + first * 8 ⌝ }
-{
-    13 + (n as usize) * 4 + (first as usize) * 8
-}
-
-// EX: a hyperedge for each of these transitions within the bound, with the successor's node, shift further on.
+// EX: a hyperedge for each of these transitions within the bound, near of them, with the successor's node, shift further on. That of
+// every transition is written where the next one belongs, and stays there if it is within the bound: no jump waits for a weight.
 fn put_some_next(
     room: &mut [u8],
     at: usize,
@@ -376,31 +363,34 @@ fn put_some_next(
     v: u32,
     first: u32,
     many: u32,
-    bound: Bound,
+    near: u64,
+    most: u32,
     shift: u32,
 ) -> usize
     requires { ⌜ Reads (now m) n first many shift ⌝ }
-    requires { ⌜ at + length (hypersBytes v (someNext (transitionsFrom (now m) n first many) bound shift)) ≤ length (now room) ⌝ }
-    ensures { λ r. ⌜ Laid (now (room .entry)) at (hypersBytes v (someNext (transitionsFrom (now (m .entry)) n first many) bound shift))
+    requires { ⌜ near ≡ length (keep (λ u. leb (u .weight) most) (transitionsFrom (now m) n first many)) ⌝ }
+    requires { ⌜ at + length (hypersBytes v (someNext (transitionsFrom (now m) n first many) (Within most) shift)) ≤ length (now room) ⌝ }
+    ensures { λ r. ⌜ Laid (now (room .entry)) at (hypersBytes v (someNext (transitionsFrom (now (m .entry)) n first many) (Within most) shift))
         (now (room .exit)) r ⌝ }
 {
+    let end = at + (near as usize) * 10;
     let mut next = at;
     let mut p = transition_at(n, first);
     let mut i = many;
-    while 0 < i {
+    while next < end {
         let weight = wire::number_at(m, p + 2, Width::Four);
         let to = wire::number_at(m, p + 6, Width::Two);
         p += 8;
         i -= 1;
-        let wide = weight as u64;
-        if Value(wide).within(bound) {
-            next = put_single(room, next, v, to + shift);
+        let past = put_single(room, next, v, to + shift);
+        if weight <= most {
+            next = past;
         }
     }
     next
 }
 
-// AX: the targets for each of these transitions within the bound.
+// AX: the targets for each of these transitions within the bound, near of them, written in the same way.
 fn put_every_next(
     room: &mut [u8],
     at: usize,
@@ -408,25 +398,28 @@ fn put_every_next(
     n: u32,
     first: u32,
     many: u32,
-    bound: Bound,
+    near: u64,
+    most: u32,
     shift: u32,
 ) -> usize
     requires { ⌜ Reads (now m) n first many shift ⌝ }
-    requires { ⌜ at + length (writeAll writeTarget (everyNext (transitionsFrom (now m) n first many) bound shift)) ≤ length (now room) ⌝ }
-    ensures { λ r. ⌜ Laid (now (room .entry)) at (writeAll writeTarget (everyNext (transitionsFrom (now (m .entry)) n first many) bound shift))
+    requires { ⌜ near ≡ length (keep (λ u. leb (u .weight) most) (transitionsFrom (now m) n first many)) ⌝ }
+    requires { ⌜ at + length (writeAll writeTarget (everyNext (transitionsFrom (now m) n first many) (Within most) shift)) ≤ length (now room) ⌝ }
+    ensures { λ r. ⌜ Laid (now (room .entry)) at (writeAll writeTarget (everyNext (transitionsFrom (now (m .entry)) n first many) (Within most) shift))
         (now (room .exit)) r ⌝ }
 {
+    let end = at + (near as usize) * 6;
     let mut next = at;
     let mut p = transition_at(n, first);
     let mut i = many;
-    while 0 < i {
+    while next < end {
         let weight = wire::number_at(m, p + 2, Width::Four);
         let to = wire::number_at(m, p + 6, Width::Two);
         p += 8;
         i -= 1;
-        let wide = weight as u64;
-        if Value(wide).within(bound) {
-            next = put_target(room, next, 0, to + shift);
+        let past = put_target(room, next, 0, to + shift);
+        if weight <= most {
+            next = past;
         }
     }
     next
@@ -519,11 +512,13 @@ fn put_next(
     ensures { λ r. ⌜ Laid (now (room .entry)) at (hypersBytes v (nextEdges q (transitionsFrom (now (m .entry)) n first many) bound shift))
         (now (room .exit)) r ⌝ }
 {
+    let near = near_count(m, n, first, many, bound);
+    let most = bound.code();
     match q {
-        Quantifier::Some => put_some_next(room, at, m, n, v, first, many, bound, shift),
+        Quantifier::Some => put_some_next(room, at, m, n, v, first, many, near, most, shift),
         Quantifier::Every => {
-            let targets = put_head(room, at, v, near_count(m, n, first, many, bound));
-            put_every_next(room, targets, m, n, first, many, bound, shift)
+            let targets = put_head(room, at, v, near as u32);
+            put_every_next(room, targets, m, n, first, many, near, most, shift)
         }
     }
 }

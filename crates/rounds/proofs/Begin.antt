@@ -1,23 +1,27 @@
--- An accepted message is ready for the rounds. Assumes nothing.
+-- An accepted message is ready for the rounds, and so is the writing of a well-formed graph. Assumes nothing.
 use Prim.Native.Nat.{ℕ, _+_, _≤_, _<_}
 use mathlib.Core.List.{List}
-use mathlib.Core.Path.{_≡_, refl, ap, subst, _∙_}
+use mathlib.Core.Path.{_≡_, refl, sym, ap, subst, _∙_}
 use lib.ListN.{length}
 use native.Mathlib.Omega.{arith}
 use borrow.Author.Tests.{lt-ltb, le-ltb}
 use Rattle.refusal.specs.declared.Refusal.{Refusal}
 use Rattle.refusal.specs.declared.Refusal.the-variants.{Room}
-use Rattle.wire.specs.Bytes.{Bytes}
+use Rattle.wire.specs.Bytes.{Bytes, number}
 use Rattle.wire.specs.Read.{Read, good, bad}
+use Rattle.wire.proofs.Fields.{value-inside, value-is}
 use Rattle.rules.specs.Graph.{Graph, Closed}
 use Rattle.graph.specs.declared.Checked.{Checked}
 use Rattle.graph.specs.declared.Checked.the-variants as Checked
 use Rattle.graph.specs.Message.{readGraph}
 use Rattle.graph.specs.Answers.{checked}
+use Rattle.graph.specs.WellFormed.{WellFormed}
+use Rattle.graph.specs.Write.{writeGraph}
 use Rattle.graph.specs.Layouts.{decoded}
 use Rattle.graph.proofs.Accepted.{holds}
 use Rattle.graph.proofs.Answered.{checked-refused}
-use Rattle.graph.proofs.Exact.{accepted-written}
+use Rattle.graph.proofs.Exact.{accepted-written, written-accepted}
+use Rattle.graph.proofs.Good.{HeaderAt, header-good, counts, graph-good}
 use Rattle.rounds.specs.declared.Outcome.{Outcome}
 use Rattle.rounds.specs.declared.Outcome.the-variants.{Refused}
 use Rattle.rounds.specs.Outcome.{outcomeCount, ended, filled, outcomeOn, roomOn, outcomeOf, roomOf}
@@ -52,6 +56,38 @@ begin s {n} {h} {c} bytes e = go (readGraph s) refl e
           };
         } in
         rw (nodes, hypers, covers) at base
+
+-- bytes that a well-formed graph is written as hold it with the counts of their header, and are ready for the rounds
+pub record Written (s : List ℕ) (g : Graph) (n h c : ℕ) : Type 0 where
+  pub nodes : n ≡ g .nodes
+  pub is : decoded s n h c ≡ g
+  pub ready : Ready s n h c
+
+module _ (s : List ℕ) (g : Graph) (wf : WellFormed g) (e : s ≡ writeGraph g) where
+  accepted : readGraph s ≡ good g
+  accepted = ap readGraph e ∙ written-accepted g wf
+
+  header : HeaderAt s (counts g)
+  header = header-good s _ (graph-good {s = s} {g = g} accepted .header)
+
+  pub header-inside : 14 ≤ length s
+  header-inside = omega (arith, value-inside 2 s 12 (header .c-there))
+
+  pub written-ready : {n h c : ℕ} → n ≡ number 2 s 6 → h ≡ number 4 s 8 → c ≡ number 2 s 12 → Written s g n h c
+  written-ready {n} {h} {c} n-read h-read c-read =
+      let n-is : n ≡ g .nodes = n-read ∙ value-is 2 s 6 (header .n-there) in
+      let h-is : h ≡ length (g .hypers) = h-read ∙ value-is 4 s 8 (header .h-there) in
+      let c-is : c ≡ length (g .covers) = c-read ∙ value-is 2 s 12 (header .c-there) in
+      let held = holds s g accepted in
+      rw (n-is, h-is, c-is) (record {
+        nodes = refl;
+        is = sym (held .is);
+        ready = record {
+          sound = held .sound;
+          closed = subst Closed (held .is) (wf .closed);
+          storable = subst Storable (held .is) (rounds-fit g wf);
+        };
+      })
 
 -- what is shown of a call: its answer, its room, and so the promise
 abbrev pub Shown : (s : List ℕ) (budget : ℕ) (before after : List ℕ) → Outcome → Type 0

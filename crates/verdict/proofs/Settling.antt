@@ -2,23 +2,22 @@
 use Prim.Native.Nat.{ℕ, _+_, _*_, _-_, _≤_, min}
 use mathlib.Core.List.{List, _++_}
 use mathlib.Core.Bool.{Bool, true, false, cond}
-use mathlib.Core.Path.{_≡_, refl, ap, _∙_}
+use mathlib.Core.Path.{_≡_, refl, sym, ap, _∙_}
 use lib.ListN.{length, take, drop, length-append}
 use lib.Seq.{take-at}
 use lib.Dec.{leb}
-use borrow.Author.Tests.{leb-true, le-ltb}
+use borrow.Author.Tests.{leb-true}
 use native.Mathlib.Omega.{arith}
 use Rattle.lists.proofs.Tests.{and-right}
 use Rattle.refusal.specs.declared.Refusal.{Refusal}
 use Rattle.refusal.specs.declared.Refusal.the-variants.{Room, Size}
-use Rattle.wire.specs.Read.{good}
 use Rattle.rules.specs.Graph.{Graph}
 use Rattle.rules.specs.Count.{count}
-use Rattle.graph.specs.Message.{readGraph}
 use Rattle.graph.specs.Write.{writeGraph}
 use Rattle.rounds.specs.declared.Outcome.{Outcome}
 use Rattle.rounds.specs.declared.Outcome.the-variants as Outcome
 use Rattle.rounds.specs.Outcome as rounds
+use Rattle.rounds.proofs.Laws.{count-reported}
 use Rattle.build.specs.declared.Built.{Built}
 use Rattle.build.specs.declared.Built.the-variants as Built
 use Rattle.build.specs.Held.{heldModel}
@@ -56,6 +55,11 @@ module _ {g : Graph} {b : List ℕ} {n long : ℕ} (built : WasBuilt g b n long)
   unfolding roomOf
   front-inside r = rw (r, built .fitting, built .room, built .long-is, length-append (writeGraph g)) (omega arith)
 
+  -- and two rounds fit theirs
+  pub values-inside : g .nodes + g .nodes ≤ n
+  unfolding roomy
+  values-inside = leb-true _ _ (and-right (leb (length (writeGraph g)) (length b)) _ (built .room))
+
 -- how an outcome of the rounds is passed on
 abbrev pub passed : Question → ℕ → Outcome → Settled
 passed q long (Outcome.Settled m) = Settled.Done m long (rootNode q 0) (q .model .states)
@@ -92,27 +96,16 @@ module _ (q : Question) (budget : ℕ) (b v : List ℕ) where
       go true false z r = let k : e ≡ Room = cc in (ap Settled.Refused k, (r, refl))
       go false u z r = let k : e ≡ Size = cc in (ap Settled.Refused k, (r, refl))
 
-  -- the graph was built, and the rounds on its message ended
-  module _ (reads : readGraph (writeGraph (graphFor q)) ≡ good (graphFor q)) {long : ℕ} (built : WasBuilt (graphFor q) b (length v) long) where
-    long-room : graphFor q .nodes + graphFor q .nodes ≤ length v
-    unfolding roomy
-    long-room = leb-true _ _ (and-right (leb (length (writeGraph (graphFor q))) (length b)) _ (built .room))
-
-    -- the outcome is that of the rounds on the graph
-    outcome-is : (s : List ℕ) → s ≡ writeGraph (graphFor q) → rounds.outcomeOf (readGraph s) budget v ≡ rounds.ended (graphFor q) budget
-    unfolding rounds.outcomeOf rounds.outcomeOn
-    outcome-is s e = rw (e, reads, le-ltb (length v) _ long-room)
-
-    room-is : (s : List ℕ) → s ≡ writeGraph (graphFor q) → rounds.roomOf (readGraph s) budget v ≡ rounds.filled (graphFor q) (min (count (graphFor q)) budget) v
-    unfolding rounds.roomOf rounds.roomOn
-    room-is s e = rw (e, reads, le-ltb (length v) _ long-room)
-
-    pub shows-ran : (s b′ v′ : List ℕ) (r : Outcome) → s ≡ writeGraph (graphFor q) → b′ ≡ roomOf (graphFor q) b (length v)
-        → r ≡ rounds.outcomeOf (readGraph s) budget v → v′ ≡ rounds.roomOf (readGraph s) budget v → Shows (passed q long r) b′ v′
+  -- the graph was built, and the rounds on it ended
+  module _ {long : ℕ} (built : WasBuilt (graphFor q) b (length v) long) where
+    pub shows-ran : {d : Graph} {b′ v′ : List ℕ} {r r′ : Outcome} → d ≡ graphFor q → b′ ≡ roomOf (graphFor q) b (length v)
+        → r ≡ rounds.ended d budget → v′ ≡ rounds.filled d (rounds.outcomeCount r) v → r ≡ r′ → Shows (passed q long r′) b′ v′
     unfolding settledFor bytesFor valuesFor roomOf rounds.ended
-    shows-ran s b′ v′ r e rb ro rv =
+    shows-ran {d} {b′} {v′} {r} is rb ro rv same =
+        let ended : r ≡ rounds.ended (graphFor q) budget = rw is at ro in
+        let count-is = ap rounds.outcomeCount ended ∙ count-reported (graphFor q) budget in
         rw (built .fitting, built .room)
-        (ap (passed q long) (ro ∙ outcome-is s e) ∙ go (leb (count (graphFor q)) budget), (rb ∙ rw (built .fitting, built .room), rv ∙ room-is s e))
+        (ap (passed q long) (sym same ∙ ended) ∙ go (leb (count (graphFor q)) budget), (rb ∙ rw (built .fitting, built .room), rv ∙ rw (is, count-is)))
       where
         go : (t : Bool) → passed q long (cond t (Outcome.Settled (count (graphFor q))) (Outcome.Spent budget))
             ≡ cond t (Settled.Done (count (graphFor q)) (length (writeGraph (graphFor q))) (rootNode q 0) (q .model .states)) (Settled.Spent budget (length (writeGraph (graphFor q))))

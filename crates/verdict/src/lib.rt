@@ -8,6 +8,7 @@ ghost use Rattle.verdict.specs.Question.{readQuestion, readAsked};
 use build::Built;
 use refusal::Refusal;
 use rounds::Outcome;
+use wire::Width;
 
 // Yes, no, or none where there is no verdict.
 pub enum Verdict {
@@ -144,7 +145,8 @@ pub fn graph(m: &[u8], f: &[u8], room: &mut [u8]) -> Built
     }
 }
 
-// Builds the graph of an accepted question and settles it, once for all states.
+// Builds the graph of an accepted question and settles it, once for all states. What was built is not checked again: its header tells
+// the counts, and the rounds themselves refuse nothing.
 fn settle_question(
     m: &[u8],
     n: u32,
@@ -169,7 +171,11 @@ fn settle_question(
         Built::Refused(e) => return Settled::Refused(e),
     };
     let first = n * (k - 1);
-    match rounds::solve(&bytes[..long], budget, values) {
+    let message = &bytes[..long];
+    let nodes = wire::number_at(message, 6, Width::Two) as usize;
+    let hypers = wire::number_at(message, 8, Width::Four);
+    let covers = wire::number_at(message, 12, Width::Two);
+    match rounds::run(message, nodes, hypers, covers, budget, values) {
         Outcome::Settled(count) => Settled::Done(count, long, first, n),
         Outcome::Spent(count) => Settled::Spent(count, long),
         Outcome::Refused(e) => Settled::Refused(e),

@@ -1,54 +1,60 @@
--- `build::near_count` meets its contract: those counted, and those to come, make the whole.
-use Prim.Native.Nat.{_+_, _*_, _≤_}
+-- `build::near_count` meets its contract: with no bound all are near; else those counted, and those to come, make the whole.
+use Prim.Native.Nat.{ℕ, _+_, _*_, _-_, _≤_}
 use mathlib.Core.Bool.{Bool}
-use mathlib.Core.Path.{_≡_, ap, _∙_}
+use mathlib.Core.Path.{_≡_, sym, ap, _∙_}
 use denote.Ref.{now}
 use native.Mathlib.Omega.{arith}
 use lib.ListN.{length}
+use lib.Dec.{leb}
 use borrow.Author.Needs.{needs}
-use Rattle.lists.proofs.Tests.{by}
-use Rattle.value.specs.declared.Bound.{Bound}
-use Rattle.value.specs.Value.{inside}
+use borrow.Author.Tests.{le-leb, lt-leb}
 use Rattle.wire.specs.Bytes.{number}
+use Rattle.wire.proofs.Layouts.{items-length}
 use Rattle.model.specs.Model.{Transition}
-use Rattle.build.specs.Held.{transitionLayout}
-use Rattle.build.proofs.Counting.{passing, passing-le, passing-none, passing-here, passing-there, weight-within}
+use Rattle.build.specs.Held.{transitionLayout, transitionsFrom}
+use Rattle.build.proofs.Counting.{passing, passing-le, passing-none, passing-here, passing-there, unbounded-all}
 use Rattle.build.proofs.near_count.Statement.{statement}
 use Rattle.build.proofs.near_count.Tie as tie
 
-abbrev test : Bound → Transition → Bool
-test b u = inside b (u .weight)
+abbrev test : ℕ → Transition → Bool
+test most u = leb (u .weight) most
 
 abbrev Inv-loop : tie.InvT-loop
-Inv-loop m n first many bound at₀ i₀ near₀ at i near =
+Inv-loop m n first many most at₀ i₀ near₀ at i near =
     let L = transitionLayout m in
-    (at + i * 8 ≤ length m) × (near + passing L (test bound) i at ≡ passing L (test bound) many (13 + n * 4 + first * 8))
+    (at + i * 8 ≤ length m) × (near + passing L (test most) i at ≡ passing L (test most) many (13 + n * 4 + first * 8))
 
 abbrev μ-loop : tie.MeasureT-loop
-μ-loop m n first many bound at₀ i₀ near₀ at i near = i
+μ-loop m n first many most at₀ i₀ near₀ at i near = i
 
--- what was asked of the weight is the test of the next transition
-asked : (c : tie.After-within Inv-loop μ-loop) →
-    let a = c .before .before .before .before .before .args in
-    c .within .result ≡ inside (a .bound) (number 4 (now (a .m)) (c .before .before .before .loop .at + 2))
-asked c =
-    let a = c .before .before .before .before .before .args in
-    c .within .ensures ∙ weight-within (a .bound) (omega arith) ∙ ap (inside (a .bound)) (c .before .number-at .ensures)
+enum-known-bound : tie.Need-enum-known-bound Inv-loop μ-loop
+enum-known-bound c = search needs
 
-mul-at : tie.Need-mul-at Inv-loop μ-loop
-mul-at c = omega arith
+enum-told : tie.Need-enum-told Inv-loop μ-loop
+enum-told c = search needs
 
-add-at : tie.Need-add-at Inv-loop μ-loop
-add-at c = omega arith
+returns : tie.Need-returns Inv-loop μ-loop
+returns c =
+    let a = c .before .before .before .args in
+    let us = transitionsFrom (now (a .m)) (a .n) (a .first) (a .many) in
+    rw (c .enum-told .given .1) (sym (unbounded-all us ∙ items-length _ _ _))
 
-mul-at-2 : tie.Need-mul-at-2 Inv-loop μ-loop
-mul-at-2 c = omega arith
-
-add-at-2 : tie.Need-add-at-2 Inv-loop μ-loop
-add-at-2 c = omega arith
+transition-at-requires : tie.Need-transition-at-requires Inv-loop μ-loop
+transition-at-requires c κs = tt
 
 loop-holds : tie.Need-loop-holds Inv-loop μ-loop
-loop-holds c = (omega arith, omega arith)
+loop-holds c =
+    let a = c .before .before .before .before .before .args in
+    let most = c .before .before .bound .given .0 .0 in
+    let same = ap (passing (transitionLayout (now (a .m))) (test most) (a .many)) (c .transition-at .ensures) in
+    (omega (arith, c .transition-at .ensures), omega (arith, same))
+
+-- where a turn begins
+abbrev start : tie.In-loop Inv-loop μ-loop → tie.Start Inv-loop μ-loop
+start c = c .before .before .before .before .before .before .before
+
+abbrev most : tie.In-loop Inv-loop μ-loop → ℕ
+most c = c .before .before .before .before .bound .given .0 .0
 
 add-number-at : tie.Need-add-number-at Inv-loop μ-loop
 add-number-at c = omega arith
@@ -56,47 +62,52 @@ add-number-at c = omega arith
 number-at-requires : tie.Need-number-at-requires Inv-loop μ-loop
 number-at-requires c κs = omega arith
 
-add-at-3 : tie.Need-add-at-3 Inv-loop μ-loop
-add-at-3 c = omega arith
+add-at : tie.Need-add-at Inv-loop μ-loop
+add-at c = omega arith
 
 sub-i : tie.Need-sub-i Inv-loop μ-loop
 sub-i c = omega arith
 
-cast-t19 : tie.Need-cast-t19 Inv-loop μ-loop
-cast-t19 c = search needs
+-- one more is near, or not
+near-here : (c : tie.Then1 Inv-loop μ-loop) → let t = c .before .before in let l = t .before .loop in let L = transitionLayout (now (start t .args .m)) in
+    passing L (test (most t)) (l .i) (l .at) ≡ 1 + passing L (test (most t)) (l .i - 1) (l .at + 8)
+near-here c =
+    let t = c .before .before in
+    let l = t .before .loop in
+    passing-here (transitionLayout (now (start t .args .m))) (test (most t)) (l .i) (l .at) (omega arith) (le-leb (number 4 (now (start t .args .m)) (l .at + 2)) (most t) (omega (arith, c .before .number-at .ensures, c .if1 .taken)))
 
-within-requires : tie.Need-within-requires Inv-loop μ-loop
-within-requires c κs = tt
+near-there : (c : tie.Else1 Inv-loop μ-loop) → let t = c .before .before in let l = t .before .loop in let L = transitionLayout (now (start t .args .m)) in
+    passing L (test (most t)) (l .i) (l .at) ≡ passing L (test (most t)) (l .i - 1) (l .at + 8)
+near-there c =
+    let t = c .before .before in
+    let l = t .before .loop in
+    passing-there (transitionLayout (now (start t .args .m))) (test (most t)) (l .i) (l .at) (omega arith) (lt-leb (number 4 (now (start t .args .m)) (l .at + 2)) (most t) (omega (arith, c .before .number-at .ensures, c .if1 .left)))
 
 add-near : tie.Need-add-near Inv-loop μ-loop
 add-near c =
-    let l = c .before .before .before .before .loop in
-    let a = c .before .before .before .before .before .before .args in
-    omega (arith, passing-here (transitionLayout (now (a .m))) (test (a .bound)) (l .i) (l .at) (omega arith) (by (asked (c .before)) (c .if1 .taken)), passing-le (transitionLayout (now (a .m))) (test (a .bound)) (a .many) (13 + a .n * 4 + a .first * 8))
+    let t = c .before .before in
+    let a = start t .args in
+    omega (arith, near-here c, passing-le (transitionLayout (now (a .m))) (test (most t)) (a .many) (13 + a .n * 4 + a .first * 8))
 
 loop-less : tie.Need-loop-less Inv-loop μ-loop
 loop-less c = omega arith
 
 loop-again : tie.Need-loop-again Inv-loop μ-loop
-loop-again c =
-    let l = c .before .before .before .before .loop in
-    let a = c .before .before .before .before .before .before .args in
-    (omega arith, omega (arith, passing-here (transitionLayout (now (a .m))) (test (a .bound)) (l .i) (l .at) (omega arith) (by (asked (c .before)) (c .if1 .taken))))
+loop-again c = (omega arith, omega (arith, near-here c))
 
 loop-less-2 : tie.Need-loop-less-2 Inv-loop μ-loop
 loop-less-2 c = omega arith
 
 loop-again-2 : tie.Need-loop-again-2 Inv-loop μ-loop
-loop-again-2 c =
-    let l = c .before .before .before .before .loop in
-    let a = c .before .before .before .before .before .before .args in
-    (omega arith, omega (arith, passing-there (transitionLayout (now (a .m))) (test (a .bound)) (l .i) (l .at) (omega arith) (by (asked (c .before)) (c .if1 .left))))
+loop-again-2 c = (omega arith, omega (arith, near-there c))
 
-returns : tie.Need-returns Inv-loop μ-loop
-returns c =
+returns-2 : tie.Need-returns-2 Inv-loop μ-loop
+returns-2 c =
     let l = c .before .loop in
-    let a = c .before .before .before .args in
-    omega (arith, passing-none (transitionLayout (now (a .m))) (test (a .bound)) (l .i) (l .at) (omega arith))
+    let told = c .before .before .before .before in
+    let a = told .before .before .before .args in
+    rw (told .bound .given .1)
+    (omega (arith, passing-none (transitionLayout (now (a .m))) (test (told .bound .given .0 .0)) (l .i) (l .at) (omega arith)))
 
 pub near-count-spec : {M : Type 1} → statement M
 near-count-spec =
@@ -104,20 +115,18 @@ near-count-spec =
     (tie.spec
     Inv-loop
     μ-loop
-    mul-at
-    add-at
-    mul-at-2
-    add-at-2
+    enum-known-bound
+    enum-told
+    returns
+    transition-at-requires
     loop-holds
     add-number-at
     number-at-requires
-    add-at-3
+    add-at
     sub-i
-    cast-t19
-    within-requires
     add-near
     loop-less
     loop-again
     loop-less-2
     loop-again-2
-    returns)
+    returns-2)

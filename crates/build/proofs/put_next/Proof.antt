@@ -1,72 +1,119 @@
 -- `build::put_next` meets its contract: a hyperedge for each transition, or a head with all their targets behind it.
-use Prim.Native.Nat.{ℕ, _+_, _≤_}
-use mathlib.Core.List.{List, _++_}
-use mathlib.Core.Path.{_≡_, refl, sym, ap, _∙_}
+use Prim.Native.Nat.{ℕ, _+_, _*_, _≤_}
+use mathlib.Core.List.{List, [], _∷_, _++_, map}
+use mathlib.Core.Path.{_≡_, refl, sym, ap, subst, _∙_}
 use denote.Ref.{now}
 use native.Mathlib.Omega.{arith}
 use lib.ListN.{length, length-append}
+use lib.Dec.{leb}
 use borrow.Author.Needs.{needs}
-use Rattle.wire.specs.Bytes.{bytes}
+use Rattle.lists.specs.Making.{keep}
+use Rattle.value.specs.Value.{inside}
+use Rattle.value.specs.declared.Bound.the-variants.{Within}
+use Rattle.wire.specs.Bytes.{bytes, Bytes}
 use Rattle.wire.specs.Laid.{Laid}
 use Rattle.wire.specs.Write.{writeAll}
 use Rattle.wire.proofs.Laid.{fits, said}
 use Rattle.rules.specs.Graph.{Target}
 use Rattle.graph.specs.Write.{writeTarget, writeHyper}
-use Rattle.reduction.specs.Built.{hyper}
-use Rattle.build.specs.Held.{transitionsFrom}
-use Rattle.build.specs.Bytes.{everyNext}
+use Rattle.model.specs.Model.{Transition}
+use Rattle.reduction.specs.Built.{to, hyper}
+use Rattle.build.specs.Held.{transitionLayout, transitionsFrom}
+use Rattle.build.specs.Bytes.{hypersBytes, someNext, everyNext}
+use Rattle.build.proofs.Counting.{passing-le, coded-keep}
 use Rattle.build.proofs.Edges.{head-length, hypers-one, one-laid, hyper-laid, every-count}
 use Rattle.build.proofs.put_next.Statement.{statement}
 use Rattle.build.proofs.put_next.Tie as tie
+
+near-count-requires : tie.Need-near-count-requires
+near-count-requires c κs = search needs
+
+code-requires : tie.Need-code-requires
+code-requires c κs = search needs
+
+-- the transitions of the state; the targets of the one hyperedge of AX
+abbrev own : tie.Start → List Transition
+own s = let a = s .args in transitionsFrom (now (a .m)) (a .n) (a .first) (a .many)
+
+abbrev targets : tie.Start → List Target
+targets s = everyNext (own s) (s .args .bound) (s .args .shift)
+
+-- those within the bound are those within the number that says it
+abbrev start : tie.After-code → tie.Start
+start c = c .before .before .before .before
+
+bytes-are : (c : tie.After-code) → Bytes (now (start c .args .m))
+bytes-are c i = omega (arith, c .before .before .shared-slice-known .given i)
+
+kept : (c : tie.After-code) → keep (λ u. inside (start c .args .bound) (u .weight)) (own (start c)) ≡ keep (λ u. leb (u .weight) (c .code .result)) (own (start c))
+kept c = coded-keep _ (bytes-are c) (start c .args .bound) _ _ ∙ ap (λ (most : ℕ). keep (λ u. leb (u .weight) most) (own (start c))) (sym (c .code .ensures))
+
+many-are : (c : tie.After-code) → c .before .near-count .result ≡ length (keep (λ u. leb (u .weight) (c .code .result)) (own (start c)))
+many-are c = c .before .near-count .ensures ∙ ap length (kept c)
+
+some-bytes : (c : tie.After-code) → let a = start c .args in
+    hypersBytes (a .v) (someNext (own (start c)) (a .bound) (a .shift)) ≡ hypersBytes (a .v) (someNext (own (start c)) (Within (c .code .result)) (a .shift))
+some-bytes c = let a = start c .args in ap (λ (l : List Transition). hypersBytes (a .v) (map (λ u. to 0 (u .to + a .shift) ∷ []) l)) (kept c)
+
+every-bytes : (c : tie.After-code) →
+    writeAll writeTarget (targets (start c)) ≡ writeAll writeTarget (everyNext (own (start c)) (Within (c .code .result)) (start c .args .shift))
+every-bytes c = let a = start c .args in ap (λ (l : List Transition). writeAll writeTarget (map (λ u. to 0 (u .to + a .shift)) l)) (kept c)
 
 enum-told : tie.Need-enum-told
 enum-told c = search needs
 
 put-some-next-requires : tie.Need-put-some-next-requires
 put-some-next-requires c κs =
-    let s = c .before .before .before .before .before in
-    (s .pre .0, rw (c .before .enum-told .given .1) at (s .pre .1))
+    let told = c .before in
+    let code = told .before .before in
+    let s = c .before .before .before .before .before .before .before in
+    (s .pre .0, (many-are code, subst (λ (w : List ℕ). s .args .at + length w ≤ length (now (s .args .room))) (some-bytes code) (rw (told .enum-told .given .1) at (s .pre .1))))
 
 enum-told-2 : tie.Need-enum-told-2
 enum-told-2 c = search needs
 
-near-count-requires : tie.Need-near-count-requires
-near-count-requires c κs = search needs
-
--- the targets of the one hyperedge of AX, and that it fits
-abbrev targets : tie.Start → List Target
-targets s = let a = s .args in everyNext (transitionsFrom (now (a .m)) (a .n) (a .first) (a .many)) (a .bound) (a .shift)
-
-all-fit : (c : tie.After-enum-told2) → let s = c .before .before .before .before in
+-- the hyperedge of AX fits
+all-fit : (c : tie.After-enum-told2) → let s = start (c .before .before) in
     s .args .at + length ((bytes 2 (s .args .v) ++ bytes 2 (length (targets s))) ++ writeAll writeTarget (targets s)) ≤ length (now (s .args .room))
 all-fit c =
-    let s = c .before .before .before .before in
+    let s = c .before .before .before .before .before .before in
     rw (hypers-one (s .args .v) (targets s)) at (rw (c .enum-told2 .given .1) at (s .pre .1))
+
+cast-put-head : tie.Need-cast-put-head
+cast-put-head c =
+    let code = c .before .before .before in
+    let s = start code in
+    omega (arith, code .before .near-count .ensures, passing-le (transitionLayout (now (s .args .m))) (λ u. inside (s .args .bound) (u .weight)) (s .args .many) (13 + s .args .n * 4 + s .args .first * 8))
 
 put-head-requires : tie.Need-put-head-requires
 put-head-requires c κs =
-    let s = c .before .before .before .before .before .before in
-    omega (arith, all-fit (c .before .before), head-length (s .args .v) (length (targets s)), length-append (bytes 2 (s .args .v) ++ bytes 2 (length (targets s))) (writeAll writeTarget (targets s)))
+    let s = start (c .before .before .before) in
+    omega (arith, all-fit (c .before), head-length (s .args .v) (length (targets s)), length-append (bytes 2 (s .args .v) ++ bytes 2 (length (targets s))) (writeAll writeTarget (targets s)))
 
-head-laid : (c : tie.After-put-head) → let s = c .before .before .before .before .before .before .before in
+head-laid : (c : tie.After-put-head) → let s = start (c .before .before .before .before) in
     Laid (now (s .args .room)) (s .args .at) (bytes 2 (s .args .v) ++ bytes 2 (length (targets s))) (c .put-head .last .0) (c .put-head .result)
 head-laid c =
-    let s = c .before .before .before .before .before .before .before in
-    let a = s .args in
-    let count : length (targets s) ≡ c .before .near-count .result =
-    every-count (transitionsFrom (now (a .m)) (a .n) (a .first) (a .many)) (a .bound) (a .shift) ∙ sym (c .before .near-count .ensures) in
+    let code = c .before .before .before .before in
+    let s = start code in
+    let count : length (targets s) ≡ code .before .near-count .result = every-count (own s) (s .args .bound) (s .args .shift) ∙ sym (code .before .near-count .ensures) in
     said (c .put-head .ensures) (ap (λ (k : ℕ). bytes 2 (s .args .v) ++ bytes 2 k) count) refl refl
 
 put-every-next-requires : tie.Need-put-every-next-requires
 put-every-next-requires c κs =
     let head = c .before .before .before in
-    (head .before .before .before .before .before .before .before .pre .0, fits (head-laid head) _ (all-fit (head .before .before .before)))
+    let told = head .before .before in
+    let code = told .before .before in
+    let targets-fit = fits (head-laid head) _ (all-fit told) in
+    (start code .pre .0, (many-are code, subst (λ (w : List ℕ). head .put-head .result + length w ≤ length (head .put-head .last .0)) (every-bytes code) targets-fit))
 
 same-length : tie.Need-same-length
 same-length c = search needs
 
 returns : tie.Need-returns
-returns c = let put = c .before .before in rw (put .before .before .enum-told .given .1) (put .put-some-next .ensures)
+returns c =
+    let put = c .before .before in
+    let told = put .before .before in
+    rw (told .enum-told .given .1) (said (put .put-some-next .ensures) (some-bytes (told .before .before)) refl refl)
 
 same-length-2 : tie.Need-same-length-2
 same-length-2 c = search needs
@@ -75,18 +122,22 @@ returns-2 : tie.Need-returns-2
 returns-2 c =
     let put = c .before .before in
     let head = put .before .before .before .before in
-    let s = head .before .before .before .before .before .before .before in
-    rw (head .before .before .before .enum-told2 .given .1)
-    (one-laid writeHyper (hyper (s .args .v) (targets s)) (hyper-laid (s .args .v) (targets s) (head-laid head) (put .put-every-next .ensures)))
+    let told = head .before .before in
+    let code = told .before .before in
+    let s = start code in
+    let laid = said (put .put-every-next .ensures) (every-bytes code) refl refl in
+    rw (told .enum-told2 .given .1) (one-laid writeHyper (hyper (s .args .v) (targets s)) (hyper-laid (s .args .v) (targets s) (head-laid head) laid))
 
 pub put-next-spec : {M : Type 1} → statement M
 put-next-spec =
     tie.close
     (tie.spec
+    near-count-requires
+    code-requires
     enum-told
     put-some-next-requires
     enum-told-2
-    near-count-requires
+    cast-put-head
     put-head-requires
     put-every-next-requires
     same-length

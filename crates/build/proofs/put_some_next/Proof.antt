@@ -1,17 +1,20 @@
 -- `build::put_some_next` meets its contract: the hyperedges of the transitions left, those within the bound, make the whole.
-use Prim.Native.Nat.{ℕ, _+_, _≤_}
+use Prim.Native.Nat.{ℕ, _+_, _*_, _<_, _≤_}
 use mathlib.Core.List.{List, [], _∷_}
+use mathlib.Core.Path.{_≡_, sym, ap, _∙_}
 use denote.Ref.{now}
 use native.Mathlib.Omega.{arith}
-use borrow.Author.Needs.{needs}
 use lib.ListN.{length}
+use Rattle.value.specs.declared.Bound.the-variants.{Within}
+use Rattle.wire.specs.Write.{writeAll}
+use Rattle.wire.proofs.Written.{writeAll-map, writeAll-keep}
 use Rattle.graph.specs.Write.{writeHyper}
 use Rattle.model.specs.Model.{Transition}
 use Rattle.reduction.specs.Built.{to, hyper}
 use Rattle.build.specs.Held.{transitionsFrom}
 use Rattle.build.specs.Bytes.{hypersBytes, someNext}
-use Rattle.wire.proofs.Written.{writeAll-map, writeAll-keep}
-use Rattle.build.proofs.Edges.{single-length, Filling, filling-all, filling-none, next-readable, next-named, near, near-fits, near-filled, far-filled}
+use Rattle.build.proofs.Edges.{single-length, Filling, filling-all, next-readable, next-named}
+use Rattle.build.proofs.Nearby.{near, near-length, near-none, near-some, near-fits, near-stays, near-goes}
 use Rattle.build.proofs.put_some_next.Statement.{statement}
 use Rattle.build.proofs.put_some_next.Tie as tie
 
@@ -20,24 +23,53 @@ abbrev one : (v shift : ℕ) → Transition → List ℕ
 one v shift u = writeHyper (hyper v (to 0 (u .to + shift) ∷ []))
 
 abbrev Inv-loop : tie.InvT-loop
-Inv-loop room₀ at m n v first many bound shift next₀ p₀ i₀ room next p i =
-    Filling m n (near bound (one v shift)) room₀ at (hypersBytes v (someNext (transitionsFrom m n first many) bound shift)) room next p i
+Inv-loop room₀ at m n v first many close most shift end next₀ p₀ i₀ room next p i =
+    Filling m n (near most (one v shift)) room₀ at (hypersBytes v (someNext (transitionsFrom m n first many) (Within most) shift)) room next p i
 
 abbrev μ-loop : tie.MeasureT-loop
-μ-loop room₀ at m n v first many bound shift next₀ p₀ i₀ room next p i = i
+μ-loop room₀ at m n v first many close most shift end next₀ p₀ i₀ room next p i = i
+
+-- what is to be written, transition by transition, and how long that is
+abbrev whole : tie.Start Inv-loop μ-loop → List ℕ
+whole s = let a = s .args in hypersBytes (a .v) (someNext (transitionsFrom (now (a .m)) (a .n) (a .first) (a .many)) (Within (a .most)) (a .shift))
+
+whole-is : (s : tie.Start Inv-loop μ-loop) → let a = s .args in
+    whole s ≡ writeAll (near (a .most) (one (a .v) (a .shift))) (transitionsFrom (now (a .m)) (a .n) (a .first) (a .many))
+unfolding near
+whole-is s = simp (writeAll-map, writeAll-keep)
+
+whole-long : (s : tie.Start Inv-loop μ-loop) → length (whole s) ≡ s .args .near * 10
+whole-long s =
+    let a = s .args in
+    ap length (whole-is s) ∙ near-length (one (a .v) (a .shift)) (a .most) 10 (λ u. single-length _ _) _ ∙ ap (λ (k : ℕ). k * 10) (sym (s .pre .1 .0))
+
+mul-end : tie.Need-mul-end Inv-loop μ-loop
+mul-end c = let s = c .before .before in omega (arith, whole-long s, s .pre .1 .1)
+
+add-end : tie.Need-add-end Inv-loop μ-loop
+add-end c = let s = c .before .before in omega (arith, whole-long s, s .pre .1 .1)
 
 transition-at-requires : tie.Need-transition-at-requires Inv-loop μ-loop
-transition-at-requires c κs = (c .before .before .pre .0 .states, omega (arith, c .before .before .pre .0 .few))
+transition-at-requires c κs = tt
 
 loop-holds : tie.Need-loop-holds Inv-loop μ-loop
-unfolding near
 loop-holds c =
     let s = c .before .before .before in
-    filling-all _ _ _ (s .pre .0) _ _ _ (simp (writeAll-map, writeAll-keep)) (s .pre .1) (c .transition-at .ensures)
+    filling-all _ _ _ (s .pre .0) _ _ _ (whole-is s) (s .pre .1 .1) (c .transition-at .ensures)
 
--- the next transition lies inside
-inside : (c : tie.In-loop Inv-loop μ-loop) → c .before .loop .p + 8 ≤ length (now (c .before .before .before .before .before .args .m))
-inside c = next-readable _ _ _ (c .before .loop .inv) (c .loop-test .taken)
+-- bytes are left, so a transition is
+abbrev start : tie.In-loop Inv-loop μ-loop → tie.Start Inv-loop μ-loop
+start c = c .before .before .before .before .before
+
+short : (c : tie.In-loop Inv-loop μ-loop) → c .before .loop .next < start c .args .at + length (whole (start c))
+short c = omega (arith, whole-long (start c), c .loop-test .taken)
+
+some : (c : tie.In-loop Inv-loop μ-loop) → 0 < c .before .loop .i
+some c = near-some _ _ _ _ 10 (λ u. single-length _ _) (c .before .loop .inv) (short c)
+
+-- it lies inside
+inside : (c : tie.In-loop Inv-loop μ-loop) → c .before .loop .p + 8 ≤ length (now (start c .args .m))
+inside c = next-readable _ _ _ (c .before .loop .inv) (some c)
 
 add-number-at : tie.Need-add-number-at Inv-loop μ-loop
 add-number-at c = omega (arith, inside c)
@@ -55,53 +87,45 @@ add-p : tie.Need-add-p Inv-loop μ-loop
 add-p c = omega (arith, inside (c .before .before))
 
 sub-i : tie.Need-sub-i Inv-loop μ-loop
-sub-i c = omega arith
-
-cast-wide : tie.Need-cast-wide Inv-loop μ-loop
-cast-wide c = search needs
-
-within-requires : tie.Need-within-requires Inv-loop μ-loop
-within-requires c κs = tt
+sub-i c = omega (arith, some (c .before .before))
 
 add-put-single : tie.Need-add-put-single Inv-loop μ-loop
 add-put-single c =
-    let read = c .before .before .before in
-    let turn = read .before .before in
-    omega (arith, next-named _ _ _ (turn .before .loop .inv) (turn .loop-test .taken) (read .number-at2 .ensures), turn .before .before .before .before .before .pre .0 .shift-fits)
+    let turn = c .before .before .before in
+    omega (arith, next-named _ _ _ (turn .before .loop .inv) (some turn) (c .before .number-at2 .ensures), start turn .pre .0 .shift-fits)
 
 put-single-requires : tie.Need-put-single-requires Inv-loop μ-loop
 put-single-requires c κs =
-    let test = c .before .before in
-    let read = test .before in
-    let turn = read .before .before in
-    near-fits _ _ _ _ (turn .before .loop .inv) (turn .loop-test .taken) (read .before .number-at .ensures) (read .number-at2 .ensures) (omega arith) (test .within .ensures) (c .before .if1 .taken) 10 (single-length _ _)
+    let turn = c .before .before .before in
+    near-fits _ _ _ _ 10 (λ u. single-length _ _) (turn .before .loop .inv) (short turn)
 
 loop-less : tie.Need-loop-less Inv-loop μ-loop
-loop-less c = omega arith
+loop-less c = omega (arith, some (c .before .before .before .before .before .before .before))
 
 loop-again : tie.Need-loop-again Inv-loop μ-loop
 loop-again c =
-    let put = c .before .before in
-    let test = put .before .before .before in
-    let read = test .before in
+    let put = c .before .before .before in
+    let read = put .before .before in
     let turn = read .before .before in
-    near-filled _ _ _ _ (turn .before .loop .inv) (turn .loop-test .taken) (read .before .number-at .ensures) (read .number-at2 .ensures) (omega arith) (test .within .ensures) (put .before .before .if1 .taken) (put .put-single .ensures)
+    near-stays _ _ _ _ 10 (λ u. single-length _ _) (turn .before .loop .inv) (short turn) (read .before .number-at .ensures) (read .number-at2 .ensures) (put .put-single .ensures) (c .if1 .taken)
 
 loop-less-2 : tie.Need-loop-less-2 Inv-loop μ-loop
-loop-less-2 c = omega arith
+loop-less-2 c = omega (arith, some (c .before .before .before .before .before .before .before))
 
 loop-again-2 : tie.Need-loop-again-2 Inv-loop μ-loop
 loop-again-2 c =
-    let test = c .before in
-    let read = test .before in
+    let put = c .before .before .before in
+    let read = put .before .before in
     let turn = read .before .before in
-    far-filled _ _ _ _ (turn .before .loop .inv) (turn .loop-test .taken) (read .before .number-at .ensures) (read .number-at2 .ensures) (omega arith) (test .within .ensures) (c .if1 .left)
+    near-goes _ _ _ _ 10 (λ u. single-length _ _) (turn .before .loop .inv) (short turn) (read .before .number-at .ensures) (read .number-at2 .ensures) (put .put-single .ensures) (c .if1 .left)
 
 same-length : tie.Need-same-length Inv-loop μ-loop
 same-length c = c .before .loop .inv .left .length-is
 
 returns : tie.Need-returns Inv-loop μ-loop
-returns c = filling-none _ _ _ (c .before .loop .inv) (omega arith)
+returns c =
+    let s = c .before .before .before .before .before in
+    near-none _ _ _ _ 10 (λ u. single-length _ _) (c .before .loop .inv) (omega (arith, whole-long s, c .loop-test .left))
 
 pub put-some-next-spec : {M : Type 1} → statement M
 put-some-next-spec =
@@ -109,6 +133,8 @@ put-some-next-spec =
     (tie.spec
     Inv-loop
     μ-loop
+    mul-end
+    add-end
     transition-at-requires
     loop-holds
     add-number-at
@@ -117,8 +143,6 @@ put-some-next-spec =
     number-at-requires-2
     add-p
     sub-i
-    cast-wide
-    within-requires
     add-put-single
     put-single-requires
     loop-less

@@ -46,9 +46,6 @@ enum-known-row-3 c = search needs
 near-count-requires : tie.Need-near-count-requires
 near-count-requires c κs = search needs
 
-cast-next-size : tie.Need-cast-next-size
-cast-next-size c = search needs
-
 next-size-requires : tie.Need-next-size-requires
 next-size-requires c κs = search needs
 
@@ -111,7 +108,6 @@ row-size-spec =
     enum-told-4
     enum-known-row-3
     near-count-requires
-    cast-next-size
     next-size-requires
     enum-told-5
     returns

@@ -1,21 +1,21 @@
--- `verdict::settle_question` meets its contract: the graph is refused, or it is built, read back, and the rounds on it are passed on.
+-- `verdict::settle_question` meets its contract: the graph is refused, or it is built, and the rounds on it are passed on.
 use denote.Ref.{now}
-use Prim.Native.Nat.{_*_, _-_, _≤_}
-use mathlib.Core.Path.{_≡_, sym, ap, _∙_}
+use Prim.Native.Nat.{ℕ, _*_, _-_, _≤_}
+use mathlib.Core.Path.{_≡_, refl, sym, ap, _∙_}
 use native.Mathlib.Nat.{mul-le-mul}
 use native.Mathlib.Omega.{arith}
-use lib.ListN.{length}
+use lib.ListN.{length, take}
 use borrow.Author.Needs.{needs}
 use Rattle.lists.proofs.Tests.{by}
-use Rattle.wire.specs.Read.{good}
-use Rattle.graph.specs.Message.{readGraph}
+use Rattle.graph.specs.WellFormed.{WellFormed}
 use Rattle.graph.specs.Write.{writeGraph}
 use Rattle.rounds.specs.declared.Outcome.{Outcome}
+use Rattle.rounds.proofs.Begin.{Written, header-inside, written-ready}
 use Rattle.build.proofs.Accepted.{states-few, rows-length}
 use Rattle.verdict.specs.Question.{Question, graphFor}
 use Rattle.verdict.specs.Asking.{heldQuestion}
-use Rattle.verdict.proofs.Fitting.{reads-back}
-use Rattle.verdict.proofs.Settling.{WasBuilt, was-built, Shows, shows-as, shows-refused, front, front-inside, passed, shows-ran, held-done}
+use Rattle.verdict.proofs.Fitting.{fits-well}
+use Rattle.verdict.proofs.Settling.{WasBuilt, was-built, Shows, shows-as, shows-refused, front, front-inside, values-inside, passed, shows-ran, held-done}
 use Rattle.verdict.proofs.settle_question.Statement.{statement}
 use Rattle.verdict.proofs.settle_question.Tie as tie
 
@@ -34,17 +34,34 @@ built : (c : tie.After-known-told) → let a = start c .args in
     WasBuilt (graphFor (question (start c))) (now (a .bytes)) (length (now (a .values))) (c .before .long .given .0 .0)
 built c = was-built _ _ _ (by (c .before .before .before .before .before .build .ensures .0) (c .before .long .given .1))
 
-reads : (c : tie.After-known-told) → let g = graphFor (question (start c)) in readGraph (writeGraph g) ≡ good g
-reads c = let s = start c in reads-back (question s) (s .pre .0 .well-formed) (s .pre .1 .well-formed) (built c .fitting)
+-- and its message stands at the front of its room
+message : (c : tie.After-known-told) → take (c .before .long .given .0 .0) (c .before .before .before .before .before .build .last .1 .1 .1 .1 .1 .1 .1 .0) ≡ writeGraph (graphFor (question (start c)))
+message c = front (built c) (c .before .before .before .before .before .build .ensures .1)
+
+well : (c : tie.After-known-told) → WellFormed (graphFor (question (start c)))
+well c = let s = start c in fits-well (question s) (s .pre .0 .well-formed) (s .pre .1 .well-formed) (built c .fitting)
+
+header : (c : tie.After-known-told) → 14 ≤ length (take (c .before .long .given .0 .0) (c .before .before .before .before .before .build .last .1 .1 .1 .1 .1 .1 .1 .0))
+header c = header-inside _ _ (well c) (message c)
+
+in-header : {k n : ℕ} → k ≤ 14 → 14 ≤ n → k ≤ n
+in-header p q = omega arith
+
+-- the counts are read from it, so the rounds on it are those on the graph
+counted : (c : tie.After-number-at3) → let k = c .before .before .before .before in
+    Written (take (k .before .long .given .0 .0) (k .before .before .before .before .before .build .last .1 .1 .1 .1 .1 .1 .1 .0)) (graphFor (question (start k)))
+    (c .before .before .number-at .result) (c .before .number-at2 .result) (c .number-at3 .result)
+counted c =
+    let k = c .before .before .before .before in
+    written-ready _ _ (well k) (message k) (c .before .before .number-at .ensures) (c .before .number-at2 .ensures) (c .number-at3 .ensures)
 
 -- what the rounds on it ended in is passed on
-ran : (c : tie.After-solve) (r : Outcome) → c .solve .result ≡ r → let k = c .before .before .before in let s = start k in
+ran : (c : tie.After-run) (r : Outcome) → c .run .result ≡ r → let k = c .before .before .before .before .before .before in let s = start k in
     Shows (question s) (s .args .budget) (now (s .args .bytes)) (now (s .args .values)) (passed (question s) (k .before .long .given .0 .0) r)
-    (k .before .before .before .before .before .build .last .1 .1 .1 .1 .1 .1 .1 .0) (c .solve .last .1 .1 .0)
+    (k .before .before .before .before .before .build .last .1 .1 .1 .1 .1 .1 .1 .0) (c .run .last .1 .1 .1 .1 .1 .0)
 ran c r e =
-    let k = c .before .before .before in
-    let room = k .before .before .before .before .before .build .ensures .1 in
-    shows-ran _ _ _ _ (reads k) (built k) _ _ _ _ (front (built k) room) room (by e (c .solve .ensures .0)) (c .solve .ensures .1 .0)
+    let k = c .before .before .before .before .before .before in
+    shows-ran _ _ _ _ (built k) (counted (c .before .before) .is) (k .before .before .before .before .before .build .ensures .1) (c .run .ensures .0) (c .run .ensures .1) e
 
 build-requires : tie.Need-build-requires
 build-requires c κs = (c .before .before .before .before .before .pre .0, c .before .before .before .before .before .pre .1)
@@ -71,14 +88,28 @@ mul-first c =
     let small : s .args .n * (s .args .k - 1) ≤ 256 * 64 = mul-le-mul (states-few (s .pre .0)) few in
     omega (arith, small)
 
-slice-reshare-prefix-solve : tie.Need-slice-reshare-prefix-solve
-slice-reshare-prefix-solve c = front-inside (built c) (c .before .before .before .before .before .build .ensures .1)
+slice-reshare-prefix-message : tie.Need-slice-reshare-prefix-message
+slice-reshare-prefix-message c = front-inside (built c) (c .before .before .before .before .before .build .ensures .1)
 
-slice-aggregate-solve : tie.Need-slice-aggregate-solve
-slice-aggregate-solve c = let w = built (c .before) in w .long-is ∙ ap length (sym (front w (c .before .before .before .before .before .before .build .ensures .1)))
+slice-aggregate-message : tie.Need-slice-aggregate-message
+slice-aggregate-message c = built (c .before) .long-is ∙ ap length (sym (message (c .before)))
 
-solve-requires : tie.Need-solve-requires
-solve-requires c κs = search needs
+number-at-requires : tie.Need-number-at-requires
+number-at-requires c κs = in-header (omega arith) (header (c .before))
+
+cast-nodes : tie.Need-cast-nodes
+cast-nodes c = search needs
+
+number-at-requires-2 : tie.Need-number-at-requires-2
+number-at-requires-2 c κs = in-header (omega arith) (header (c .before .before))
+
+number-at-requires-3 : tie.Need-number-at-requires-3
+number-at-requires-3 c κs = in-header (omega arith) (header (c .before .before .before))
+
+run-requires : tie.Need-run-requires
+run-requires c κs =
+    let w = counted (c .before) in
+    (w .ready, rw (w .nodes) (values-inside (built (c .before .before .before .before .before))))
 
 enum-known-count : tie.Need-enum-known-count
 enum-known-count c = search needs
@@ -97,7 +128,7 @@ same-length-3 c = search needs
 
 returns-2 : tie.Need-returns-2
 returns-2 c =
-    let a = c .before .before .before .before .before .before .before .before .before .before .before .before .before .before .before .before .before .before .before .args in
+    let a = c .before .before .before .before .before .before .before .before .before .before .before .before .before .before .before .before .before .before .before .before .before .before .args in
     shows-as _ _ _ _ (held-done (now (a .m)) (a .n) (a .p) (a .t) (now (a .f)) (a .k) _ _) (ran (c .before .before .before .before .before) _ (c .before .count .given .1))
 
 same-length-4 : tie.Need-same-length-4
@@ -129,9 +160,13 @@ settle-question-spec =
     returns
     sub-first
     mul-first
-    slice-reshare-prefix-solve
-    slice-aggregate-solve
-    solve-requires
+    slice-reshare-prefix-message
+    slice-aggregate-message
+    number-at-requires
+    cast-nodes
+    number-at-requires-2
+    number-at-requires-3
+    run-requires
     enum-known-count
     enum-known-count-2
     enum-known-e-2

@@ -1,0 +1,122 @@
+-- A loop that lays in what one makes of each transition within a bound: what it makes of any is written where the next belongs, and
+-- stays there where the weight is within the bound. Assumes nothing.
+use Prim.Native.Nat.{ℕ, zero, suc, _+_, _*_, _-_, _<_, _≤_}
+use mathlib.Core.List.{List, [], _∷_, _++_, append-assoc}
+use mathlib.Core.Bool.{Bool, true, false, cond}
+use mathlib.Core.Path.{_≡_, refl, sym, ap, ap₂, _∙_}
+use native.Mathlib.Nat.{suc-mul}
+use native.Mathlib.Omega.{arith}
+use lib.ListN.{length, take, drop, length-append}
+use lib.Dec.{leb}
+use lib.Seq.{length-take-le, take-at, drop-drop, drop-append-add}
+use borrow.Author.Tests.{le-leb, lt-leb}
+use Rattle.lists.specs.Making.{keep}
+use Rattle.wire.specs.Bytes.{number}
+use Rattle.wire.specs.Laid.{laid, Laid}
+use Rattle.wire.specs.Layout.{items}
+use Rattle.wire.specs.Write.{writeAll}
+use Rattle.wire.proofs.Exact.{length-writeAll}
+use Rattle.wire.proofs.Laid.{Left, none-left, same-length, nothing, said}
+use Rattle.wire.proofs.Written.{writeAll-keep}
+use Rattle.model.specs.Model.{Transition}
+use Rattle.build.specs.Held.{transitionLayout}
+use Rattle.build.proofs.Counting.{passing-le}
+use Rattle.build.proofs.Edges.{Filling, next-readable, next-named, next-filled}
+
+-- ---- what is laid in where the rest belongs is laid over by it
+
+laid-over : (b : List ℕ) (at : ℕ) (s rest : List ℕ) → at + length s ≤ length b → length s ≤ length rest → laid (laid b at s) at rest ≡ laid b at rest
+unfolding laid
+laid-over b at s rest inside short =
+    let front : List ℕ = take at b ++ s in
+    let back : List ℕ = drop (at + length s) b in
+    let before : length (take at b) ≡ at = length-take-le at b (omega arith) in
+    let long : length front ≡ at + length s = length-append (take at b) s ∙ ap (λ (n : ℕ). n + length s) before in
+    let more : ℕ = length rest - length s in
+    let same : at + length rest ≡ length front + more = omega arith in
+    let past : at + length s + more ≡ at + length rest = omega arith in
+    let kept : take at (front ++ back) ≡ take at b = ap (take at) (append-assoc (take at b) s back) ∙ take-at (take at b) (s ++ back) at before in
+    let beyond : drop (at + length rest) (front ++ back) ≡ drop (at + length rest) b =
+    ap (λ (n : ℕ). drop n (front ++ back)) same ∙ drop-append-add front back more ∙ drop-drop more (at + length s) b ∙ ap (λ (n : ℕ). drop n b) past in
+    ap₂ (λ (x y : List ℕ). x ++ rest ++ y) kept beyond
+
+left-over : {b : List ℕ} {at : ℕ} {whole b′ : List ℕ} {next : ℕ} {rest s b″ : List ℕ} {end : ℕ} → Left b at whole b′ next rest → Laid b′ next s b″ end
+    → length s ≤ length rest → Left b at whole b″ next rest
+left-over {b′ = b′} {next} {rest} {s} l m short = record {
+  room-is = ap (λ (c : List ℕ). laid c next rest) (m .room-is) ∙ laid-over b′ next s rest (m .inside) short ∙ l .room-is;
+  next-is = l .next-is;
+  length-is = same-length m ∙ l .length-is;
+  whole-fits = l .whole-fits;
+}
+
+-- ---- the loop
+
+-- what is made of a transition within the bound
+unfoldable pub near : ℕ → (Transition → List ℕ) → Transition → List ℕ
+near most one u = cond (leb (u .weight) most) (one u) []
+
+-- as many bytes as transitions within the bound ask for
+pub near-length : (one : Transition → List ℕ) (most k : ℕ) → ((u : Transition) → length (one u) ≡ k) → (us : List Transition)
+    → length (writeAll (near most one) us) ≡ length (keep (λ u. leb (u .weight) most) us) * k
+unfolding near
+near-length one most k each us = ap length (sym (writeAll-keep one (λ u. leb (u .weight) most) us)) ∙ length-writeAll one k each (keep (λ u. leb (u .weight) most) us)
+
+module _ (m : List ℕ) (n : ℕ) (one : Transition → List ℕ) (most k : ℕ) (each : (u : Transition) → length (one u) ≡ k) where
+  module _ {b : List ℕ} {at : ℕ} {whole b′ : List ℕ} {next p i : ℕ} (f : Filling m n (near most one) b at whole b′ next p i) where
+    abbrev left : ℕ
+    left = length (keep (λ u. leb (u .weight) most) (items (transitionLayout m) i p))
+
+    ends : next + left * k ≡ at + length whole
+    ends = ap (λ (l : ℕ). next + l) (sym (near-length one most k each (items (transitionLayout m) i p))) ∙ f .left .next-is
+
+    -- with no byte left, the whole is laid in
+    pub near-none : at + length whole ≤ next → Laid b at whole b′ next
+    near-none h = go _ (f .left) (omega (arith, f .left .next-is))
+      where
+        go : (rest : List ℕ) → Left b at whole b′ next rest → length rest ≡ 0 → Laid b at whole b′ next
+        go [] l e = none-left l
+        go (a ∷ rest) l e = absurd (omega arith)
+
+    module _ (h : next < at + length whole) where
+      -- with bytes left, there is a transition within the bound
+      some : (l : ℕ) → next + l * k ≡ at + length whole → (1 ≤ l) × (k ≤ l * k)
+      some zero e = absurd (omega arith)
+      some (suc l) e = (omega arith, rw suc-mul (omega arith))
+
+      pub near-some : 0 < i
+      near-some = omega (arith, some left ends .0, passing-le (transitionLayout m) (λ u. leb (u .weight) most) i p)
+
+      pub near-fits : next + k ≤ length b′
+      near-fits = omega (arith, some left ends .1, ends, f .left .length-is, f .left .whole-fits)
+
+      pub near-readable : p + 8 ≤ length m
+      near-readable = next-readable m n (near most one) f near-some
+
+      pub near-named : {v : ℕ} → v ≡ number 2 m (p + 6) → v < n
+      near-named = next-named m n (near most one) f near-some
+
+      -- with its weight and the state that it leads to as they were read
+      module _ {w v : ℕ} (weight-is : w ≡ number 4 m (p + 2)) (to-is : v ≡ number 2 m (p + 6)) {b″ : List ℕ} {end : ℕ}
+          (put : Laid b′ next (one (record { from = number 2 m p; weight = w; to = v })) b″ end) where
+        abbrev it : List ℕ
+        it = one (record { from = number 2 m p; weight = w; to = v })
+
+        bytes-are : {t : Bool} → leb w most ≡ t → cond (leb w most) it [] ≡ cond t it []
+        bytes-are e = ap (λ (t : Bool). cond t it []) e
+
+        -- within the bound, what was made of it stays
+        pub near-stays : w ≤ most → Filling m n (near most one) b at whole b″ end (p + 8) (i - 1)
+        unfolding near
+        near-stays e = next-filled m n (near most one) f near-some weight-is to-is (said put (bytes-are (le-leb w most e)) refl refl)
+
+        -- beyond, it will be laid over
+        pub near-goes : most < w → Filling m n (near most one) b at whole b″ next (p + 8) (i - 1)
+        unfolding near
+        near-goes e =
+            let none = nothing b′ next (omega (arith, f .left .next-is, f .left .length-is, f .left .whole-fits)) in
+            let on = next-filled m n (near most one) f near-some weight-is to-is (said none (bytes-are (lt-leb w most e)) refl refl) in
+            record {
+              readable = on .readable;
+              named = on .named;
+              left = left-over (on .left) put (omega (arith, each (record { from = number 2 m p; weight = w; to = v }), on .left .next-is, some left ends .1, ends));
+            }
