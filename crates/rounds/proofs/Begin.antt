@@ -71,13 +71,13 @@ module _ (s : List ℕ) (g : Graph) (wf : WellFormed g) (e : s ≡ writeGraph g)
   header = header-good s _ (graph-good {s = s} {g = g} accepted .header)
 
   pub header-inside : 14 ≤ length s
-  header-inside = omega (arith, value-inside 2 s 12 (header .c-there))
+  header-inside = omega (arith, value-inside 2 s 12 (header .c-counted .there))
 
   pub written-ready : {n h c : ℕ} → n ≡ number 2 s 6 → h ≡ number 4 s 8 → c ≡ number 2 s 12 → Written s g n h c
   written-ready {n} {h} {c} n-read h-read c-read =
-      let n-is : n ≡ g .nodes = n-read ∙ value-is 2 s 6 (header .n-there) in
-      let h-is : h ≡ length (g .hypers) = h-read ∙ value-is 4 s 8 (header .h-there) in
-      let c-is : c ≡ length (g .covers) = c-read ∙ value-is 2 s 12 (header .c-there) in
+      let n-is : n ≡ g .nodes = n-read ∙ value-is 2 s 6 (header .n-counted .there) in
+      let h-is : h ≡ length (g .hypers) = h-read ∙ value-is 4 s 8 (header .h-counted .there) in
+      let c-is : c ≡ length (g .covers) = c-read ∙ value-is 2 s 12 (header .c-counted .there) in
       let held = holds s g accepted in
       rw (n-is, h-is, c-is) (record {
         nodes = refl;
