@@ -30,6 +30,12 @@ use Rattle.rounds.specs.Ready.{Ready, Storable}
 use Rattle.rounds.proofs.Promised.{rounds-fit, kept}
 use Rattle.rounds.proofs.Laws.{count-reported}
 
+-- a well-formed graph that is read is ready, with its counts
+ready-with : (s : List ℕ) (g : Graph) → readGraph s ≡ good g → WellFormed g → Ready s (g .nodes) (length (g .hypers)) (length (g .covers))
+ready-with s g r wf =
+    let held = holds s g r in
+    record { sound = held .sound; closed = subst Closed (held .is) (wf .closed); storable = subst Storable (held .is) (rounds-fit g wf) }
+
 -- a message that is checked as a graph of these counts
 pub record Begin (s : List ℕ) (n h c : ℕ) : Type 0 where
   pub reads : readGraph s ≡ good (decoded s n h c)
@@ -49,11 +55,7 @@ begin s {n} {h} {c} bytes e = go (readGraph s) refl e
         let wf = accepted-written s g bytes r .1 in
         let base : Begin s (g .nodes) (length (g .hypers)) (length (g .covers)) = record {
           reads = r ∙ ap good (held .is);
-          ready = record {
-            sound = held .sound;
-            closed = subst Closed (held .is) (wf .closed);
-            storable = subst Storable (held .is) (rounds-fit g wf);
-          };
+          ready = ready-with s g r wf;
         } in
         rw (nodes, hypers, covers) at base
 
@@ -82,11 +84,7 @@ module _ (s : List ℕ) (g : Graph) (wf : WellFormed g) (e : s ≡ writeGraph g)
       rw (n-is, h-is, c-is) (record {
         nodes = refl;
         is = sym (held .is);
-        ready = record {
-          sound = held .sound;
-          closed = subst Closed (held .is) (wf .closed);
-          storable = subst Storable (held .is) (rounds-fit g wf);
-        };
+        ready = ready-with s g accepted wf;
       })
 
 -- what is shown of a call: its answer, its room, and so the promise
