@@ -45,14 +45,13 @@ static u32 decode(const u8 *s, u64 length, u32 n, u32 h, u32 c)
 /* On messages with a fault the first one is not always what this finds: the measured messages have none. */
 u32 PASTE(P, graph_check)(const u8 *s, u64 length)
 {
-    if (length < 14 || four(s) != length)
-        return 2;
-    if (s[4] != 1 || s[5] != 1)
-        return 3;
+    u32 e = started(s, length, 14, 1);
+    if (e)
+        return e;
     u32 n = two(s + 6), h = four(s + 8), c = two(s + 12);
     if (n < 1 || n > 4096 || h > 65535 || c > 4096)
         return 4;
-    u32 e = decode(s, length, n, h, c);
+    e = decode(s, length, n, h, c);
     if (e)
         return e;
     for (u32 i = 1; i < h; i++)
@@ -83,8 +82,7 @@ u32 PASTE(P, rounds)(const u8 *s, u64 length, u32 budget, u64 *room, u32 *count)
         for (u32 k = 0; k < h; k++) {
             u64 worst = 0;
             for (u32 j = first[k]; j < first[k + 1]; j++) {
-                u64 value = x[node[j]], sum = value + weight[j];
-                sum = sum < value ? INFINITE : sum;
+                u64 sum = plus(x[node[j]], weight[j]);
                 worst = worst < sum ? sum : worst;
             }
             y[source[k]] = worst < y[source[k]] ? worst : y[source[k]];
@@ -96,12 +94,7 @@ u32 PASTE(P, rounds)(const u8 *s, u64 length, u32 budget, u64 *room, u32 *count)
         }
         int settled = __builtin_memcmp(x, y, n * sizeof *x) == 0;
         if (settled || i == budget) {
-            if (x != room)
-                for (u32 v = 0; v < n; v++) {
-                    u64 t = room[v];
-                    room[v] = room[n + v];
-                    room[n + v] = t;
-                }
+            in_place(room, n, x);
             *count = i;
             return settled ? 0 : 1;
         }
@@ -129,10 +122,9 @@ static void decode_model(const u8 *s, u32 n, u32 t)
 
 u32 PASTE(P, model_check)(const u8 *s, u64 length)
 {
-    if (length < 13 || four(s) != length)
-        return 2;
-    if (s[4] != 1 || s[5] != 2)
-        return 3;
+    u32 e = started(s, length, 13, 2);
+    if (e)
+        return e;
     u32 n = two(s + 6), props = s[8], t = four(s + 9);
     if (n < 1 || n > 256 || props > 32 || t > 65535)
         return 4;
@@ -165,10 +157,9 @@ u32 PASTE(P, formula_check)(const u8 *s, u64 length, u32 propositions)
     } row[64];
     if (propositions > 32)
         return 4;
-    if (length < 7 || four(s) != length)
-        return 2;
-    if (s[4] != 1 || s[5] != 3)
-        return 3;
+    u32 e = started(s, length, 7, 3);
+    if (e)
+        return e;
     u32 f = s[6];
     if (f < 1 || f > 64)
         return 4;

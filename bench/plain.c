@@ -4,24 +4,9 @@
 
 DECLARE(P)
 
-static inline u64 plus(u64 value, u32 weight)
-{
-    u64 sum = value + weight;
-    return sum < value ? INFINITE : sum;
-}
-
-static u32 start(const u8 *s, u64 length, u64 header, u8 kind)
-{
-    if (length < header || four(s) != length)
-        return 2;
-    if (s[4] != 1 || s[5] != kind)
-        return 3;
-    return 0;
-}
-
 u32 PASTE(P, graph_check)(const u8 *s, u64 length)
 {
-    u32 e = start(s, length, 14, 1);
+    u32 e = started(s, length, 14, 1);
     if (e)
         return e;
     u32 n = two(s + 6), h = four(s + 8), c = two(s + 12);
@@ -66,7 +51,7 @@ u32 PASTE(P, graph_check)(const u8 *s, u64 length)
 
 u32 PASTE(P, model_check)(const u8 *s, u64 length)
 {
-    u32 e = start(s, length, 13, 2);
+    u32 e = started(s, length, 13, 2);
     if (e)
         return e;
     u32 n = two(s + 6), props = s[8], t = four(s + 9);
@@ -98,7 +83,7 @@ u32 PASTE(P, formula_check)(const u8 *s, u64 length, u32 propositions)
 {
     if (propositions > 32)
         return 4;
-    u32 e = start(s, length, 7, 3);
+    u32 e = started(s, length, 7, 3);
     if (e)
         return e;
     u32 f = s[6];
@@ -182,12 +167,7 @@ u32 PASTE(P, rounds)(const u8 *s, u64 length, u32 budget, u64 *room, u32 *count)
         }
         int settled = __builtin_memcmp(x, y, n * sizeof *x) == 0;
         if (settled || i == budget) {
-            if (x != room)
-                for (u32 v = 0; v < n; v++) {
-                    u64 t = room[v];
-                    room[v] = room[n + v];
-                    room[n + v] = t;
-                }
+            in_place(room, n, x);
             *count = i;
             return settled ? 0 : 1;
         }

@@ -28,6 +28,35 @@ static inline u32 four(const u8 *p)
     return __builtin_bswap32(v);
 }
 
+/* Infinity plus any weight is infinity. */
+static inline u64 plus(u64 value, u32 weight)
+{
+    u64 sum = value + weight;
+    return sum < value ? INFINITE : sum;
+}
+
+/* The start of a message: enough bytes for its header, its length field, version and kind. */
+static inline u32 started(const u8 *s, u64 length, u64 header, u8 kind)
+{
+    if (length < header || four(s) != length)
+        return 2;
+    if (s[4] != 1 || s[5] != kind)
+        return 3;
+    return 0;
+}
+
+/* The round that x holds stands in the first half of the room, the next one behind it. */
+static inline void in_place(u64 *room, u32 n, const u64 *x)
+{
+    if (x == room)
+        return;
+    for (u32 v = 0; v < n; v++) {
+        u64 t = room[v];
+        room[v] = room[n + v];
+        room[n + v] = t;
+    }
+}
+
 /* The same shape for every version. The checks return the paper's number. Rounds, builder and verdict take accepted messages. */
 #define DECLARE(p)                                                                                                       \
     u32 PASTE(p, graph_check)(const u8 *s, u64 length);                                                                  \

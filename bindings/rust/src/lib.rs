@@ -103,7 +103,7 @@ pub enum Refusal {
     Version,
     /// A count outside its limits, or more than 32 propositions.
     Limit,
-    /// A source below the one before it in the same list.
+    /// A source (or `from`) below the one before it in the same list.
     Order,
     /// A node, state, proposition or operand that doesn't exist.
     Name,
@@ -162,7 +162,7 @@ impl fmt::Display for Refusal {
             Refusal::Length => "too few bytes, a wrong length field, or bytes left over",
             Refusal::Version => "a wrong version or kind byte",
             Refusal::Limit => "a count outside its limits",
-            Refusal::Order => "a source below the one before it",
+            Refusal::Order => "a source (or from) below the one before it",
             Refusal::Name => "a node, state, proposition or operand that doesn't exist",
             Refusal::Dead => "a state with no transition",
             Refusal::Size => "the graph to be built would pass a limit",

@@ -13,9 +13,11 @@ use Rattle.formula.specs.declared.Quantifier.the-variants.{Some, Every}
 use Rattle.reduction.specs.Built.{rowEdges, helperEdges, ifUntil}
 use Rattle.build.specs.declared.Size.{Size}
 
+-- the size of no hyperedge
 abbrev pub noSize : Size
 noSize = record { hypers = 0; targets = 0; most = 0 }
 
+-- the size of two lists of hyperedges together
 abbrev pub addSize : Size → Size → Size
 addSize x y = record { hypers = x .hypers + y .hypers; targets = x .targets + y .targets; most = max (x .most) (y .most) }
 
@@ -45,6 +47,7 @@ abbrev pub stepSize : Quantifier → ℕ → Size
 stepSize Some many = record { hypers = 1 + many; targets = 1 + 2 * many; most = cond (ltb many 1) 1 2 }
 stepSize Every many = record { hypers = 2; targets = 2 + many; most = 1 + many }
 
+-- of a row's helper, which only an until has
 abbrev pub helperSize : Row → ℕ → Size
 helperSize row many = ifUntil row (λ q l r b. stepSize q many) noSize
 

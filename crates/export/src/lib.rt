@@ -8,6 +8,7 @@ ghost use Rattle.model.specs.Answers as m;
 ghost use Rattle.formula.specs.Message.{readFormula};
 ghost use Rattle.formula.specs.Answers as f;
 ghost use Rattle.rounds.specs.Outcome as rounds;
+ghost use Rattle.rounds.specs.Promise as promise;
 ghost use Rattle.text.specs.Written as text;
 ghost use Rattle.build.specs.Built as b;
 ghost use Rattle.verdict.specs.Question.{readQuestion, readAsked};
@@ -15,7 +16,6 @@ ghost use Rattle.verdict.specs.Answer as v;
 ghost use Rattle.verdict.specs.Promise.{Promise, PromiseAll, PromiseGraph};
 ghost use Rattle.export.specs.Counts.{graphCounts, modelCounts, formulaCount};
 ghost use Rattle.export.specs.Verdicts.{verdictNumber, asked, settled, settledStates};
-use refusal::Refusal;
 use verdict::Settled;
 use verdict::Verdict;
 
@@ -75,6 +75,8 @@ pub extern "C" fn otzarvim_rounds_solve(
     ensures { λ r. ⌜ r ≡ rounds.outcomeNumber (rounds.outcomeOf (readGraph (now (message .entry))) budget (now (room .entry))) ⌝ }
     ensures { λ _. ⌜ now (room .exit) ≡ rounds.roomOf (readGraph (now (message .entry))) budget (now (room .entry)) ⌝ }
     ensures { λ _. ⌜ now (count .exit) ≡ rounds.outcomeCount (rounds.outcomeOf (readGraph (now (message .entry))) budget (now (room .entry))) ⌝ }
+    ensures { λ _. ⌜ promise.Promise (now (message .entry)) budget (now (room .entry)) (now (room .exit))
+        (rounds.outcomeOf (readGraph (now (message .entry))) budget (now (room .entry))) ⌝ }
 {
     let outcome = rounds::solve(message, budget, room);
     *count = outcome.count();
@@ -186,22 +188,12 @@ pub extern "C" fn otzarvim_settle(
     ensures { λ _. ⌜ PromiseAll (now (model .entry)) (now (formula .entry)) budget (now (bytes .entry)) (now (values .entry)) (now (bytes .exit))
         (now (values .exit)) (settled (now (model .entry)) (now (formula .entry)) budget (now (bytes .entry)) (now (values .entry))) ⌝ }
 {
-    match verdict::settle(model, formula, budget, bytes, values) {
-        Settled::Done(rounds, long, first, many) => {
-            *count = rounds;
-            *length = long;
-            *states = [first, many];
-            0
-        }
-        Settled::Spent(rounds, long) => {
-            *count = rounds;
-            *length = long;
-            Refusal::Budget.number()
-        }
-        Settled::Refused(e) => {
-            *count = 0;
-            *length = 0;
-            e.number()
-        }
+    let settled = verdict::settle(model, formula, budget, bytes, values);
+    *count = settled.count();
+    *length = settled.length();
+    if let Settled::Done(_, _, first, many) = settled {
+        *states = [first, many];
+        return settled.number();
     }
+    settled.number()
 }

@@ -9,7 +9,6 @@
 --     Exact      accepted messages are exactly the writings of well-formed rows
 --     Sums       sums over a list and over a range of numbers
 --     Trees      the rows are a tree: the formula of a row, the size of the root, the rows that it reaches
---     Laws       there is one answer
 pub mod Good
 pub mod Faults
 pub mod Judging
@@ -20,4 +19,3 @@ pub mod Spelt
 pub mod Exact
 pub mod Sums
 pub mod Trees
-pub mod Laws

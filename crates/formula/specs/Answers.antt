@@ -10,10 +10,12 @@ use Rattle.formula.specs.declared.Judged.the-variants as Judged
 use Rattle.formula.specs.declared.Checked.{Checked}
 use Rattle.formula.specs.declared.Checked.the-variants as Checked
 
+-- a row without fault, or its first fault
 unfoldable pub judged : Read Row → Judged
 judged (good row) = Judged.Fine row
 judged (bad e) = Judged.Refused e
 
+-- the counts of a good header, or its fault
 unfoldable pub counted : Read ℕ → Checked
 counted (good f) = Checked.Formula f
 counted (bad e) = Checked.Refused e

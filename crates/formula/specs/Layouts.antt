@@ -8,6 +8,7 @@ use Rattle.wire.specs.Layout.{Layout}
 use Rattle.formula.specs.declared.Row.{Row}
 use Rattle.formula.specs.Rows.{rowOf, operands}
 
+-- the row of the fields at a position
 abbrev pub rowAt : List ℕ → ℕ → Row
 rowAt s at = rowOf (number 1 s at) (number 1 s (at + 1)) (number 1 s (at + 2)) (number 4 s (at + 4))
 
@@ -16,5 +17,6 @@ pub record RowOk (s : List ℕ) (at : ℕ) : Type 0 where
   pub inside : at + 8 ≤ length s
   pub small : {l : ℕ} → l ∈ operands (rowAt s at) → l < 64
 
+-- rows, 8 bytes each
 abbrev pub rowLayout : List ℕ → Layout Row
 rowLayout s = record { item = rowAt s; next = λ at. at + 8; Ok = RowOk s }

@@ -33,6 +33,7 @@ readRow s p st = do
   bound ← field 4 s (st .at + 4)
   judgeRow p (st .tally) operator left right spare bound
 
+-- the rows, 8 bytes each; the place rises by one
 abbrev pub rows : List ℕ → ℕ → Reader State Row
 rows s p = record {
   position = λ st. st .at;

@@ -4,10 +4,8 @@
 --     Accepted   what an accepted message holds, by position
 --     Answered   the reading from an answer
 --     Exact      accepted messages are exactly the writings of well-formed graphs
---     Laws       there is one answer
 pub mod Good
 pub mod Faults
 pub mod Accepted
 pub mod Answered
 pub mod Exact
-pub mod Laws

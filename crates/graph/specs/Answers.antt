@@ -8,6 +8,7 @@ use Rattle.graph.specs.Message.{Counts}
 use Rattle.graph.specs.declared.Checked.{Checked}
 use Rattle.graph.specs.declared.Checked.the-variants as Checked
 
+-- the counts of a good header, or its fault
 unfoldable pub counted : Read Counts → Checked
 counted (good k) = Checked.Graph (k .n) (k .h) (k .c)
 counted (bad e) = Checked.Refused e

@@ -31,6 +31,7 @@ module _ (s : List ℕ) (n : ℕ) where
     demand (ltb node n) Name
     good (record { weight = weight; node = node })
 
+  -- the targets of a hyperedge, 6 bytes each
   abbrev pub targets : Reader State Target
   targets = record {
     position = λ st. st .at;
@@ -55,6 +56,7 @@ module _ (s : List ℕ) (n : ℕ) where
     demand (leb (st .prev) source) Order
     readTargets st source count
 
+  -- the hyperedges; each moves on by its targets, which are added to the total
   abbrev pub hypers : Reader State Hyper
   hypers = record {
     position = λ st. st .at;
@@ -77,6 +79,7 @@ module _ (s : List ℕ) (n : ℕ) where
     demand (ltb target n) Name
     good (record { source = source; bound = boundOf bound; target = target })
 
+  -- the cover edges, 8 bytes each
   abbrev pub covers : Reader State Cover
   covers = record {
     position = λ st. st .at;

@@ -25,5 +25,6 @@ writeBody g =
     bytes 2 (g .nodes) ++ bytes 4 (length (g .hypers)) ++ bytes 2 (length (g .covers))
     ++ writeAll writeHyper (g .hypers) ++ writeAll writeCover (g .covers)
 
+-- version 1, kind 1
 unfoldable pub writeGraph : Graph → List ℕ
 writeGraph g = message 1 1 (writeBody g)

@@ -9,6 +9,7 @@ use Rattle.formula.specs.declared.Quantifier.the-variants.{Some, Every}
 use Rattle.formula.specs.declared.Row.{Row}
 use Rattle.formula.specs.declared.Row.the-variants.{Proposition, Until}
 
+-- a transition by its parts
 abbrev transition : (from weight to : ℕ) → Transition
 transition a w c = record { from = a; weight = w; to = c }
 

@@ -28,6 +28,7 @@ pub record Given : Type 0 where
   pub count : ℕ
   pub values : List Value
 
+-- a row of the table: a graph, a budget, and what the paper says they give
 pub record Row : Type 0 where
   pub graph : Graph
   pub budget : ℕ
@@ -43,6 +44,7 @@ worked r =
       values = valuesFrom 0 (r .graph .nodes) (rounds (r .graph) (outcomeCount e));
     }
 
+-- a row by its parts
 abbrev pub row : Graph → (budget number count : ℕ) → List Value → Row
 row g b k m vs = record { graph = g; budget = b; gives = record { number = k; count = m; values = vs } }
 

@@ -1,4 +1,4 @@
--- Tests: by whether one is true or false, and what one of two parts says of each. Assumes nothing.
+-- Tests: by whether one is true or false, and what one of two parts says of each; what two facts of one thing say. Assumes nothing.
 use mathlib.Core.Path.{_≡_, refl, sym, _∙_}
 use mathlib.Core.Bool.{Bool, true, false, true≢false, _&&_, _||_}
 
@@ -14,6 +14,10 @@ clash t f = absurd (true≢false (sym t ∙ f))
 -- what two facts of one thing say of each other
 pub by : {A : Type 0} {a b c : A} → a ≡ b → a ≡ c → b ≡ c
 by p q = sym p ∙ q
+
+-- two outcomes of which an equation says the same are equal
+pub one-outcome : {A : Type 0} {a b c : A} → a ≡ c → b ≡ c → a ≡ b
+one-outcome p q = p ∙ sym q
 
 pub or-right : (a b : Bool) → b ≡ true → (a || b) ≡ true
 or-right true b e = refl

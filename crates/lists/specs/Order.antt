@@ -7,5 +7,6 @@ unfoldable pub RisingFrom : ℕ → List ℕ → Type 0
 RisingFrom k [] = Unit
 RisingFrom k (a ∷ l) = (k ≤ a) × RisingFrom a l
 
+-- none is below the one before it
 abbrev pub Rising : List ℕ → Type 0
 Rising l = RisingFrom 0 l

@@ -5,11 +5,9 @@
 --     Dead       the first state that no transition leaves tells whether a state is dead
 --     Exact      accepted messages are exactly the writings of well-formed models
 --     Bits       a label has no bit at p or above exactly when it is below 2 ^ p
---     Laws       there is one answer
 pub mod Good
 pub mod Faults
 pub mod Answered
 pub mod Dead
 pub mod Exact
 pub mod Bits
-pub mod Laws

@@ -8,6 +8,7 @@ use Rattle.model.specs.Message.{Counts}
 use Rattle.model.specs.declared.Checked.{Checked}
 use Rattle.model.specs.declared.Checked.the-variants as Checked
 
+-- the counts of a good header, or its fault
 unfoldable pub counted : Read Counts → Checked
 counted (good k) = Checked.Model (k .states) (k .propositions) (k .transitions)
 counted (bad e) = Checked.Refused e

@@ -14,7 +14,8 @@ use Rattle.wire.specs.Step.{start}
 use Rattle.wire.specs.declared.State.{State}
 use Rattle.model.specs.Model.{Model, Transition, noneDead}
 
--- with transitions in order, the first state that none leaves: the next one where a transition leaves this one
+-- with transitions in order, the first state that none leaves: the next one where a transition leaves this one. It serves the check;
+-- what is read does not depend on it, for DEAD is `noneDead`
 unfoldable pub afterFrom : ℕ → ℕ → ℕ
 afterFrom first from = cond (eqb from first) (first + 1) first
 
@@ -26,6 +27,7 @@ module _ (s : List ℕ) where
     demand (ltb label (2 ^ p)) Form
     good label
 
+  -- the labels, 4 bytes each
   abbrev pub labels : ℕ → Reader State ℕ
   labels p = record {
     position = λ st. st .at;
@@ -44,6 +46,7 @@ module _ (s : List ℕ) where
     demand (ltb to n) Name
     good (record { from = from; weight = weight; to = to })
 
+  -- the transitions, 8 bytes each
   abbrev pub transitions : ℕ → Reader State Transition
   transitions n = record {
     position = λ st. st .at;

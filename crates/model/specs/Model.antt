@@ -6,6 +6,7 @@ use lib.ListN.{getD}
 use lib.Dec.{eqb}
 use Rattle.lists.specs.Lists.{any, all, upTo}
 
+-- a step from one state to another, with its weight
 pub record Transition : Type 0 where
   pub from : ℕ
   pub weight : ℕ

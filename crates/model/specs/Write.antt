@@ -16,5 +16,6 @@ writeBody M =
     bytes 2 (M .states) ++ bytes 1 (M .propositions) ++ bytes 4 (length (M .transitions))
     ++ writeAll (bytes 4) (M .labels) ++ writeAll writeTransition (M .transitions)
 
+-- version 1, kind 2
 unfoldable pub writeModel : Model → List ℕ
 writeModel M = message 1 2 (writeBody M)

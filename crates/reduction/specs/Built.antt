@@ -64,6 +64,7 @@ ifUntil (Until q l r b) f x = f q l r b
 abbrev pub helperEdges : Model → Row → ℕ → ℕ → List (List Target)
 helperEdges M row h a = ifUntil row (λ q l r b. (to 0 (a + M .states * r) ∷ []) ∷ stepEdges M q l h a) []
 
+-- the row is an until
 abbrev pub isUntil : Row → Bool
 isUntil row = ifUntil row (λ q l r b. true) false
 

@@ -29,6 +29,7 @@ readCut s = do
   demand (leb total (length s)) Length
   good total
 
+-- what the function that finds the model's end answers
 unfoldable pub cutOf : Read ℕ → Cut
 cutOf (good k) = Cut.At k
 cutOf (bad e) = Cut.Refused e

@@ -44,7 +44,7 @@ pub record SpentAt (s : List ℕ) (budget : ℕ) (b : List ℕ) (m : ℕ) : Type
   pub spent : m ≡ budget
   pub later : budget < count graph
 
--- a refusal changes no lent memory
+-- any refusal but BUDGET changes no lent memory
 abbrev pub Promise : (s : List ℕ) (budget : ℕ) (before after : List ℕ) → Outcome → Type 0
 Promise s budget before after (Settled m) = SettledAt s budget after m
 Promise s budget before after (Spent m) = SpentAt s budget after m

@@ -12,6 +12,7 @@ use Rattle.graph.specs.Layouts.{decoded, Scannable}
 abbrev pub Storable : Graph → Type 0
 Storable g = (i v k : ℕ) → v < g .nodes → rounds g i v ≡ fin k → k < infinite
 
+-- the message's bytes hold a closed graph with these counts, all of whose rounds can be stored
 pub record Ready (s : List ℕ) (n h c : ℕ) : Type 0 where
   pub sound : Scannable s n h c
   pub closed : Closed (decoded s n h c)

@@ -9,10 +9,12 @@ pub record Target : Type 0 where
   pub weight : ℕ
   pub node : ℕ
 
+-- a hyperedge of a node
 pub record Hyper : Type 0 where
   pub source : ℕ
   pub targets : List Target
 
+-- a cover edge: of one node, with a bound, to a target
 pub record Cover : Type 0 where
   pub source : ℕ
   pub bound : Bound

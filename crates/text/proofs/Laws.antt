@@ -11,7 +11,7 @@ use Rattle.formula.specs.declared.Row.{Row}
 use Rattle.formula.specs.Formula.{rootOf}
 use Rattle.formula.specs.WellFormed.{WellFormed}
 use Rattle.text.specs.Text.{text}
-use Rattle.text.specs.Written.{writtenNumber, writtenLength, writtenOf, roomOf}
+use Rattle.text.specs.Written.{writtenOf, roomOf}
 use Rattle.text.specs.declared.Written.{Written}
 use Rattle.text.specs.declared.Written.the-variants.{Text}
 use Rattle.text.proofs.Length.{accepted-text-short}
@@ -20,12 +20,6 @@ use Rattle.text.proofs.Length.{accepted-text-short}
 pub one-answer : (x : Read (List Row)) (b : List ℕ) {r r′ : Written} {a a′ : List ℕ}
     → r ≡ writtenOf x b → r′ ≡ writtenOf x b → a ≡ roomOf x b → a′ ≡ roomOf x b → (r ≡ r′) × (a ≡ a′)
 one-answer x b p q u w = (p ∙ sym q, u ∙ sym w)
-
-pub one-number : (w : Written) {n n′ : ℕ} → n ≡ writtenNumber w → n′ ≡ writtenNumber w → n ≡ n′
-one-number w p q = p ∙ sym q
-
-pub one-length : (w : Written) {n n′ : ℕ} → n ≡ writtenLength w → n′ ≡ writtenLength w → n ≡ n′
-one-length w p q = p ∙ sym q
 
 -- and so with bytes laid at a position: `put_word`, `put_decimal`, `put_number`
 pub one-laid : {b s a a′ : List ℕ} {at n n′ : ℕ} → Laid b at s a n → Laid b at s a′ n′ → (a ≡ a′) × (n ≡ n′)

@@ -16,6 +16,7 @@ abbrev pub word : String → List ℕ
 word end = []
 word (c then w) = code c ∷ word w
 
+-- the byte of a decimal digit
 abbrev pub digit : ℕ → ℕ
 digit n = 48 + n
 
@@ -33,6 +34,7 @@ abbrev pub boundText : Bound → List ℕ
 boundText (Within k) = word "<=" ++ decimal k
 boundText Unbounded = []
 
+-- `E` or `A`
 abbrev pub quantifierText : Quantifier → List ℕ
 quantifierText Some = word "E"
 quantifierText Every = word "A"

@@ -11,6 +11,7 @@ pub record Sound (l : Line) : Type 0 where
   pub size : length (l .bytes) ≡ 64
   pub within : l .len ≤ 64
 
+-- the text of a line
 abbrev pub textOf : Line → List ℕ
 textOf l = take (l .len) (l .bytes)
 

@@ -16,6 +16,7 @@ unfoldable pub afterAll : ℕ → List ℕ → ℕ
 afterAll sum [] = sum
 afterAll sum (x ∷ xs) = afterAll (after sum x) xs
 
+-- the sum of these bytes
 abbrev pub adler : List ℕ → ℕ
 adler s = afterAll 1 s
 

@@ -83,6 +83,7 @@ pub fn text(body: &[u8], bytes: &mut [u8]) -> Line
     text_in(message, p, &mut bytes[..len])
 }
 
+// The text in a room that is filled before.
 fn text_in(message: &[u8], p: u32, room: &mut [u8]) -> Line
     ensures { λ r. ⌜ Sound r ⌝ }
 {
@@ -91,14 +92,15 @@ fn text_in(message: &[u8], p: u32, room: &mut [u8]) -> Line
     text_line(written, sums::of_bytes(room))
 }
 
+// The number, the length and the room's sum.
 fn text_line(written: Written, room: u32) -> Line
     ensures { λ r. ⌜ Sound r ⌝ }
 {
-    let line = Line::new().byte(b'T');
-    match written {
-        Written::Text(length) => line.number(0).number(length as u64).sum(room),
-        Written::Refused(e) => line.number(e.number() as u64).number(0).sum(room),
-    }
+    Line::new()
+        .byte(b'T')
+        .number(written.number() as u64)
+        .number(written.length() as u64)
+        .sum(room)
 }
 
 // `R`: a budget, a room in numbers; a graph.
@@ -121,6 +123,7 @@ pub fn rounds(body: &[u8], values: &mut [u64]) -> Line
     rounds_in(message, budget, &mut values[..len])
 }
 
+// The rounds in a room that is filled before.
 fn rounds_in(message: &[u8], budget: u32, room: &mut [u64]) -> Line
     ensures { λ r. ⌜ Sound r ⌝ }
 {
@@ -129,6 +132,7 @@ fn rounds_in(message: &[u8], budget: u32, room: &mut [u64]) -> Line
     rounds_line(outcome, sums::of_values(room))
 }
 
+// The number, the count and the room's sum.
 fn rounds_line(outcome: Outcome, room: u32) -> Line
     ensures { λ r. ⌜ Sound r ⌝ }
 {
@@ -184,6 +188,7 @@ fn verdict_on(body: &[u8], bytes: &mut [u8], values: &mut [u64]) -> Line
     verdict_in(model, formula, state, budget, bytes, values)
 }
 
+// The verdict in rooms that are filled before.
 fn verdict_in(
     model: &[u8],
     formula: &[u8],
@@ -212,6 +217,7 @@ fn verdict_word(line: Line, verdict: Verdict) -> Line
     }
 }
 
+// The number, the verdict, the count, the length and both rooms' sums.
 fn verdict_line(answer: Answer, bytes: u32, values: u32) -> Line
     ensures { λ r. ⌜ Sound r ⌝ }
 {

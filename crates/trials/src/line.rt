@@ -12,6 +12,7 @@ pub struct Line {
 }
 
 impl Line {
+    // No bytes yet.
     pub fn new() -> Self
         ensures { λ r. ⌜ Sound r ⌝ }
         ensures { λ r. ⌜ textOf r ≡ [] ⌝ }

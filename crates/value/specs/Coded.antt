@@ -5,9 +5,11 @@ use lib.Dec.{eqb}
 use Rattle.value.specs.declared.Bound.{Bound}
 use Rattle.value.specs.declared.Bound.the-variants.{Within, Unbounded}
 
+-- the number that means no bound
 abbrev pub noBound : ℕ
 noBound = 4294967295
 
+-- the bound that a number stands for
 unfoldable pub boundOf : ℕ → Bound
 boundOf k = cond (eqb k noBound) Unbounded (Within k)
 

@@ -16,7 +16,7 @@ use Rattle.rules.specs.Count.{count}
 use Rattle.graph.specs.Write.{writeGraph}
 use Rattle.rounds.specs.Outcome.{filled}
 use Rattle.rounds.proofs.Promised.{stored-length, filled-at}
-use Rattle.build.specs.Built.{fits, roomy}
+use Rattle.build.specs.Built.{fits, roomy, roomOf}
 use Rattle.build.proofs.Writing.{fits-each}
 use Rattle.verdict.specs.declared.Verdict.the-variants as Verdict
 use Rattle.verdict.specs.declared.Answer.the-variants as Answer
@@ -52,7 +52,7 @@ Ended q budget b v (Settled.Spent m long) = Stopped q budget b v m long
 Ended q budget b v (Settled.Refused e) = (bytesFor q b v ≡ b) × (valuesFor q budget b v ≡ v)
 
 pub ended : (q : Question) (budget : ℕ) (b v : List ℕ) → Ended q budget b v (settledFor q budget b v)
-unfolding settledFor bytesFor valuesFor
+unfolding settledFor bytesFor valuesFor roomOf
 ended q budget b v = go (fits g) (roomy g b (length v)) (leb (count g) budget) refl refl refl
   where
     g : Graph

@@ -14,7 +14,7 @@ use Rattle.graph.specs.Write.{writeGraph}
 use Rattle.rounds.specs.Outcome.{filled}
 use Rattle.build.specs.declared.Built.{Built}
 use Rattle.build.specs.declared.Built.the-variants as Built
-use Rattle.build.specs.Built.{fits, roomy}
+use Rattle.build.specs.Built.{fits, roomy, roomOf}
 use Rattle.verdict.specs.declared.Verdict.{Verdict}
 use Rattle.verdict.specs.declared.Verdict.the-variants as Verdict
 use Rattle.verdict.specs.declared.Answer.{Answer}
@@ -73,10 +73,7 @@ settledFor q budget b v =
 
 -- after a verdict or BUDGET the graph stands at the front of its room, and the values are round m and round m + 1; the rest stays
 unfoldable pub bytesFor : Question → (bytes values : List ℕ) → List ℕ
-bytesFor q b v =
-    cond (fits (graphFor q))
-    (cond (roomy (graphFor q) b (length v)) (writeGraph (graphFor q) ++ drop (length (writeGraph (graphFor q))) b) b)
-    b
+bytesFor q b v = roomOf (graphFor q) b (length v)
 
 unfoldable pub valuesFor : Question → (budget : ℕ) → (bytes values : List ℕ) → List ℕ
 valuesFor q budget b v =
@@ -101,7 +98,7 @@ unfoldable pub answerOf : Read Question → (state budget : ℕ) → (bytes valu
 answerOf (good q) state budget b v = decided q state (settledFor q budget b v)
 answerOf (bad e) state budget b v = Answer.Refused e
 
--- a refusal leaves all lent memory as it came
+-- any refusal but BUDGET leaves all lent memory as it came
 unfoldable pub bytesOf : Read Question → (bytes values : List ℕ) → List ℕ
 bytesOf (good q) b v = bytesFor q b v
 bytesOf (bad e) b v = b

@@ -18,6 +18,7 @@ pub record Held (m f : List ℕ) (n p t k : ℕ) : Type 0 where
   pub model : HoldsModel m n p t
   pub rows : HoldsRows f k p
 
+-- an answer with counts: both messages are accepted with these; a refusal: it is the first fault of the two
 abbrev pub Asking : (m f : List ℕ) → Asked → Type 0
 Asking m f (Asked.Question n p t k) = Held m f n p t k
 Asking m f (Asked.Refused e) = readQuestion m f ≡ bad e

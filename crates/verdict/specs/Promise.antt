@@ -122,7 +122,7 @@ pub record Spends (m f : List ℕ) (budget : ℕ) (b v b′ v′ : List ℕ) (k 
 
 -- the budget is spent on a question about a state
 pub record SpendsOn (m f : List ℕ) (state budget : ℕ) (b v b′ v′ : List ℕ) (k n : ℕ) : Type 0 where
-  -- the graph and the last two rounds stand in the rooms
+  -- the budget is spent, as for all states
   pub spends : Spends m f budget b v b′ v′ k n
   -- the state exists
   pub named : state < spends .question .model .states

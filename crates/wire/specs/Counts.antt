@@ -15,6 +15,7 @@ countAt k s at least most = do
   demand (leb n most) Limit
   good n
 
+-- what the function that reads a count answers
 unfoldable pub countedOf : Read ℕ → Counted
 countedOf (good n) = Count n
 countedOf (bad e) = Refused e

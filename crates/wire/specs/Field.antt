@@ -10,6 +10,7 @@ use Rattle.wire.specs.declared.Width.the-variants.{One, Two, Four}
 use Rattle.wire.specs.declared.Field.{Field}
 use Rattle.wire.specs.declared.Field.the-variants.{Number, Short}
 
+-- how many bytes a width is
 abbrev pub widthOf : Width → ℕ
 widthOf One = 1
 widthOf Two = 2

@@ -18,6 +18,7 @@ unfoldable pub _>>=_ : {A B : Type 0} → Read A → (A → Read B) → Read B
 _>>=_ (good a) f = f a
 _>>=_ (bad e) f = bad e
 
+-- the same, where the second doesn't need what the first gave
 unfoldable pub _>>_ : {A B : Type 0} → Read A → Read B → Read B
 _>>_ (good a) r = r
 _>>_ (bad e) r = bad e
@@ -27,6 +28,7 @@ unfoldable pub demand : Bool → Refusal → Read Unit
 demand true e = good tt
 demand false e = bad e
 
+-- a field that is there is good; one that is too short is LENGTH
 unfoldable pub ofField : Field → Read ℕ
 ofField (Number n) = good n
 ofField Short = bad Length

@@ -19,6 +19,7 @@ readStart s header version kind = do
   k ← field 1 s 5
   demand (eqb k kind) Version
 
+-- what the function that reads the start answers
 unfoldable pub openedOf : Read Unit → Opened
 openedOf (good a) = Open
 openedOf (bad e) = Refused e

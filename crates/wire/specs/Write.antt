@@ -4,6 +4,7 @@ use mathlib.Core.List.{List, [], _∷_, _++_}
 use lib.ListN.{length}
 use Rattle.wire.specs.Bytes.{bytes}
 
+-- the writings of the records of a list, one after another
 unfoldable pub writeAll : {A : Type 0} → (A → List ℕ) → List A → List ℕ
 writeAll w [] = []
 writeAll w (a ∷ l) = w a ++ writeAll w l

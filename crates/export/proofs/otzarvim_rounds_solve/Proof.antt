@@ -1,7 +1,8 @@
 -- `export::otzarvim_rounds_solve` meets its contract: the number and the count of how the rounds ended.
-use mathlib.Core.Path.{ap, _∙_}
+use mathlib.Core.Path.{ap, subst, _∙_}
 use borrow.Author.Needs.{needs}
 use Rattle.rounds.specs.Outcome.{outcomeNumber, outcomeCount}
+use Rattle.rounds.specs.Promise.{Promise}
 use Rattle.export.proofs.otzarvim_rounds_solve.Statement.{statement}
 use Rattle.export.proofs.otzarvim_rounds_solve.Tie as tie
 
@@ -20,7 +21,10 @@ same-length c = search needs
 returns : tie.Need-returns
 returns c =
     let solved = c .before .before .before .before .solve .ensures in
-    (c .number .ensures ∙ ap outcomeNumber (solved .0), (solved .1 .0, c .before .count .ensures ∙ ap outcomeCount (solved .0)))
+    (
+      c .number .ensures ∙ ap outcomeNumber (solved .0),
+      (solved .1 .0, (c .before .count .ensures ∙ ap outcomeCount (solved .0), subst (Promise _ _ _ _) (solved .0) (solved .1 .1))),
+    )
 
 pub otzarvim-rounds-solve-spec : {M : Type 1} → statement M
 otzarvim-rounds-solve-spec =
