@@ -9,10 +9,9 @@ use Rattle.value.specs.Value.{inside}
 use Rattle.wire.specs.Bytes.{number}
 use Rattle.formula.specs.Layouts.{rowLayout}
 use Rattle.reduction.specs.Built.{out, near}
-use Rattle.build.specs.Held.{labelLayout, transitionLayout, transitionsFrom, heldModel, heldRows, HoldsModel, Own}
+use Rattle.build.specs.Held.{labelLayout, transitionLayout, transitionsFrom, heldModel, heldRows, HoldsModel, Own, RiseFrom}
 use Rattle.wire.proofs.Layouts.{items-length}
 use Rattle.wire.proofs.Stride.{items-at}
-use Rattle.build.proofs.Ranges.{RiseFrom}
 use Rattle.build.proofs.Sizes.{out-length, near-length}
 
 module _ {m : List ℕ} {n p t : ℕ} (h : HoldsModel m n p t) where

@@ -1,7 +1,7 @@
 -- With transitions in order, those of a state are the ones at the front, once those of the states before it are passed.
 -- Assumes nothing.
-use Prim.Native.Nat.{ℕ, suc, _+_, _*_, _-_, _<_, _≤_}
-use mathlib.Core.List.{List, [], _∷_, map}
+use Prim.Native.Nat.{ℕ, zero, suc, _+_, _*_, _-_, _<_, _≤_}
+use mathlib.Core.List.{List, [], _∷_}
 use mathlib.Core.Path.{_≡_, refl, ap, _∙_}
 use native.Mathlib.Numerals.{add-one}
 use native.Mathlib.Omega.{arith}
@@ -16,16 +16,12 @@ use Rattle.wire.specs.Bytes.{number}
 use Rattle.wire.specs.Layout.{items}
 use Rattle.wire.proofs.Layouts.{items-length}
 use Rattle.model.specs.Model.{Transition}
-use Rattle.build.specs.Held.{transitionLayout, transitionsFrom, leading, Starts, Own}
+use Rattle.build.specs.Held.{transitionLayout, transitionsFrom, RiseFrom, leading, Starts, Own}
 use Rattle.wire.proofs.Stride.{items-take, items-drop, items-left}
 
 -- the transitions of a state
 abbrev pub of : ℕ → List Transition → List Transition
 of a us = keep (λ u. eqb (u .from) a) us
-
--- no `from` is below a, nor below the one before it
-abbrev pub RiseFrom : ℕ → List Transition → Type 0
-RiseFrom a us = RisingFrom a (map (λ u. u .from) us)
 
 rise-from : {a b : ℕ} (us : List Transition) → b ≤ a → RiseFrom a us → RiseFrom b us
 unfolding RisingFrom
@@ -94,6 +90,54 @@ module _ (m : List ℕ) (n t a i : ℕ) (h : i < t) where
 pub leading-none : (m : List ℕ) (n t a i : ℕ) → t ≤ i → leading a (transitionsFrom m n i (t - i)) ≡ 0
 unfolding leading items
 leading-none m n t a i h = let none : t - i ≡ 0 = omega arith in rw none
+
+-- ---- many transitions at a time
+
+module _ (m : List ℕ) where
+  abbrev from : ℕ → ℕ
+  from at = number 2 m at
+
+  -- no `from` of so many is below a
+  low-at : (a k c at : ℕ) → k < c → RiseFrom a (items (transitionLayout m) c at) → a ≤ from (at + k * 8)
+  unfolding items RisingFrom
+  low-at a k zero at h r = absurd (omega arith)
+  low-at a zero (suc c) at h r = let here : at + 0 * 8 ≡ at = omega arith in rw here (r .0)
+  low-at a (suc k) (suc c) at h r =
+      let there : at + 8 + k * 8 ≡ at + suc k * 8 = omega arith in
+      let later : from at ≤ from (at + 8 + k * 8) = low-at (from at) k c (at + 8) (omega arith) (r .1) in
+      let low : a ≤ from (at + 8 + k * 8) = omega (arith, r .0, later) in
+      rw there at low
+
+  -- where the last of so many leaves a, all do, and the others still rise
+  many-lead : (a k c at : ℕ) → k < c → RiseFrom a (items (transitionLayout m) c at) → from (at + k * 8) ≡ a
+      → (leading a (items (transitionLayout m) c at) ≡ k + 1 + leading a (items (transitionLayout m) (c - (k + 1)) (at + (k + 1) * 8)))
+      × RiseFrom a (items (transitionLayout m) (c - (k + 1)) (at + (k + 1) * 8))
+  unfolding items RisingFrom leading
+  many-lead a k zero at h r e = absurd (omega arith)
+  many-lead a zero (suc c) at h r e =
+      let here : at + 0 * 8 ≡ at = omega arith in
+      let same : from at ≡ a = rw here at e in
+      let left : suc c - (0 + 1) ≡ c = omega arith in
+      let next : at + (0 + 1) * 8 ≡ at + 8 = omega arith in
+      rw (left, next) (rw (eq-eqb (from at) a same) (omega arith), rise-from {a = from at} {b = a} (items (transitionLayout m) c (at + 8)) (omega arith) (r .1))
+  many-lead a (suc k) (suc c) at h r e =
+      let there : at + suc k * 8 ≡ at + 8 + k * 8 = omega arith in
+      let last : from (at + 8 + k * 8) ≡ a = rw there at e in
+      let same : from at ≡ a = omega (arith, r .0, last, low-at (from at) k c (at + 8) (omega arith) (r .1)) in
+      let more = many-lead a k c (at + 8) (omega arith) (rise-from {a = from at} {b = a} (items (transitionLayout m) c (at + 8)) (omega arith) (r .1)) last in
+      let left : suc c - (suc k + 1) ≡ c - (k + 1) = omega arith in
+      let next : at + (suc k + 1) * 8 ≡ at + 8 + (k + 1) * 8 = omega arith in
+      rw (left, next) (rw (eq-eqb (from at) a same) (omega (arith, more .0)), more .1)
+
+-- the same of the transitions from one on
+pub leading-many : (m : List ℕ) (n t a i k : ℕ) → k < t - i → RiseFrom a (transitionsFrom m n i (t - i)) → number 2 m (13 + n * 4 + (i + k) * 8) ≡ a
+    → (leading a (transitionsFrom m n i (t - i)) ≡ k + 1 + leading a (transitionsFrom m n (i + (k + 1)) (t - (i + (k + 1)))))
+    × RiseFrom a (transitionsFrom m n (i + (k + 1)) (t - (i + (k + 1))))
+leading-many m n t a i k h r e =
+    let there : 13 + n * 4 + (i + k) * 8 ≡ 13 + n * 4 + i * 8 + k * 8 = omega arith in
+    let left : t - (i + (k + 1)) ≡ t - i - (k + 1) = omega arith in
+    let next : 13 + n * 4 + (i + (k + 1)) * 8 ≡ 13 + n * 4 + i * 8 + (k + 1) * 8 = omega arith in
+    rw (left, next) (many-lead m a k (t - i) (13 + n * 4 + i * 8) h r (rw there at e))
 
 -- ---- a table of where each state's transitions start
 

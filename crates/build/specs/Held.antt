@@ -1,12 +1,13 @@
 -- What accepted messages hold, by position, for a builder that checks nothing again.
 use Prim.Native.Nat.{ℕ, suc, _+_, _*_, _-_, _<_, _≤_}
-use mathlib.Core.List.{List, [], _∷_}
+use mathlib.Core.List.{List, [], _∷_, map}
 use mathlib.Core.Bool.{cond}
 use mathlib.Core.Path.{_≡_}
 use lib.ListN.{length, getD}
 use lib.Dec.{eqb}
 use Rattle.lists.specs.Lists.{_∈_}
 use Rattle.lists.specs.Making.{keep}
+use Rattle.lists.specs.Order.{RisingFrom}
 use Rattle.wire.specs.Bytes.{number}
 use Rattle.wire.specs.Layout.{Layout, items}
 use Rattle.model.specs.Model.{Model, Transition}
@@ -74,6 +75,10 @@ pub record Reads (m : List ℕ) (n first many shift : ℕ) : Type 0 where
   pub long : 13 + n * 4 + (first + many) * 8 ≤ length m
   pub named : {u : Transition} → u ∈ transitionsFrom m n first many → u .to < n
   pub shift-fits : shift + n ≤ 4096
+
+-- no `from` is below a, nor below the one before it
+abbrev pub RiseFrom : ℕ → List Transition → Type 0
+RiseFrom a us = RisingFrom a (map (λ u. u .from) us)
 
 -- how many transitions at the front of the list leave state a
 unfoldable pub leading : ℕ → List Transition → ℕ

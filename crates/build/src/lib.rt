@@ -14,7 +14,7 @@ ghost use Rattle.wire.specs.Write.{writeAll};
 ghost use Rattle.graph.specs.Write.{writeTarget, writeHyper, writeGraph};
 ghost use Rattle.model.specs.Model as model;
 ghost use Rattle.reduction.specs.Built as built;
-ghost use Rattle.build.specs.Held.{transitionsFrom, heldModel, heldRows, HoldsModel, HoldsRows, Starts, Own, Reads, leading};
+ghost use Rattle.build.specs.Held.{transitionsFrom, heldModel, heldRows, HoldsModel, HoldsRows, Starts, Own, Reads, RiseFrom, leading};
 ghost use Rattle.build.specs.Size.{inLimits, addSize, sizeOf, stateEdges, rowsEdges, leafEdges, nextSize, helperSize};
 ghost use Rattle.build.specs.Bytes.{hypersBytes, someNext, everyNext, someSteps, everySteps, nextEdges, helperList, rowBytes, rowsBytes, helperBytes, helpersBytes, coverBytes, coversOf, headerBytes, RowFits, Narrow, HelpersFit};
 ghost use Rattle.build.specs.Built.{builtNumber, builtLength, builtOf, roomOf, Writable};
@@ -82,16 +82,41 @@ fn holds(m: &[u8], n: u32, p: u32, t: u32, a: u32, i: u32) -> bool
     bit(wire::number_at(m, at, Width::Four), i)
 }
 
+// Where a transition of the model stands.
+fn transition_at(n: u32, first: u32) -> usize
+    ensures { λ r. ⌜ r ≡ 13 + n * 4 + first * 8 ⌝ }
+{
+    13 + (n as usize) * 4 + (first as usize) * 8
+}
+
+// Passes 16 transitions at a time, from one on, while the last of them leaves state a: they come by rising `from`, so all of them do.
+fn pass_many(m: &[u8], n: u32, p: u32, t: u32, a: u32, first: u32) -> u32
+    requires { ⌜ HoldsModel (now m) n p t ⌝ }
+    requires { ⌜ (first ≤ t) × RiseFrom a (transitionsFrom (now m) n first (t - first)) ⌝ }
+    ensures { λ r. ⌜ (first ≤ r) × (r ≤ t) × (r + leading a (transitionsFrom (now (m .entry)) n r (t - r))
+        ≡ first + leading a (transitionsFrom (now (m .entry)) n first (t - first))) ⌝ }
+{
+    let mut i = first;
+    while 16 <= t - i {
+        let last = transition_at(n, i + 15);
+        if wire::number_at(m, last, Width::Two) != a {
+            return i;
+        }
+        i += 16;
+    }
+    i
+}
+
 // The first transition from this one on that doesn't leave state a.
 fn past_state(m: &[u8], n: u32, p: u32, t: u32, a: u32, first: u32) -> u32
     requires { ⌜ HoldsModel (now m) n p t ⌝ }
-    requires { ⌜ first ≤ t ⌝ }
+    requires { ⌜ (first ≤ t) × RiseFrom a (transitionsFrom (now m) n first (t - first)) ⌝ }
     ensures { λ r. ⌜ (first ≤ r) × (r ≤ t) × (r ≡ first + leading a (transitionsFrom (now (m .entry)) n first (t - first))) ⌝ }
 {
-    let base = 13 + (n as usize) * 4;
-    let mut i = first;
+    let mut i = pass_many(m, n, p, t, a, first);
     while i < t {
-        let from = wire::number_at(m, base + (i as usize) * 8, Width::Two);
+        let at = transition_at(n, i);
+        let from = wire::number_at(m, at, Width::Two);
         if from != a {
             return i;
         }
@@ -115,13 +140,6 @@ fn starts(m: &[u8], n: u32, p: u32, t: u32) -> [u32; 257]
         table[i] = first;
     }
     table
-}
-
-// Where a transition of the model stands.
-fn transition_at(n: u32, first: u32) -> usize
-    ensures { λ r. ⌜ r ≡ 13 + n * 4 + first * 8 ⌝ }
-{
-    13 + (n as usize) * 4 + (first as usize) * 8
 }
 
 // How many of these transitions are within the bound. A count of 32 bits would have the compiler gather the weights byte by byte.

@@ -1,48 +1,46 @@
 -- `build::past_state` meets its contract: those passed, and those at the front of the rest, are all at the front.
-use Prim.Native.Nat.{_+_, _-_, _≤_}
-use mathlib.Core.Path.{_≡_, refl}
+use Prim.Native.Nat.{ℕ, _+_, _*_, _-_, _≤_}
+use mathlib.Core.Path.{_≡_, ap, _∙_}
 use denote.Ref.{now}
 use native.Mathlib.Omega.{arith}
-use borrow.Author.Needs.{needs}
+use Rattle.wire.specs.Bytes.{number}
 use Rattle.build.specs.Held.{transitionsFrom, leading}
-use Rattle.build.proofs.Accepted.{states-few}
 use Rattle.build.proofs.Ranges.{leading-more, leading-stop, leading-none}
 use Rattle.build.proofs.past_state.Statement.{statement}
 use Rattle.build.proofs.past_state.Tie as tie
 
 abbrev Inv-loop : tie.InvT-loop
-Inv-loop m n p t a first base i₀ i =
+Inv-loop m n p t a first i₀ i =
     (first ≤ i) × (i ≤ t) × (i + leading a (transitionsFrom m n i (t - i)) ≡ first + leading a (transitionsFrom m n first (t - first)))
 
 abbrev μ-loop : tie.MeasureT-loop
-μ-loop m n p t a first base i₀ i = t - i
+μ-loop m n p t a first i₀ i = t - i
 
-mul-base : tie.Need-mul-base Inv-loop μ-loop
-mul-base c = omega (arith, states-few (c .before .pre .0))
-
-add-base : tie.Need-add-base Inv-loop μ-loop
-add-base c = omega (arith, states-few (c .before .pre .0))
+pass-many-requires : tie.Need-pass-many-requires Inv-loop μ-loop
+pass-many-requires c κs = (c .before .pre .0, c .before .pre .1)
 
 loop-holds : tie.Need-loop-holds Inv-loop μ-loop
-loop-holds c = (omega arith, omega arith, refl)
+loop-holds c = let r = c .pass-many .ensures in (r .0, r .1, r .2)
 
-cast-number-at : tie.Need-cast-number-at Inv-loop μ-loop
-cast-number-at c = search needs
-
-mul-number-at : tie.Need-mul-number-at Inv-loop μ-loop
-mul-number-at c = omega arith
-
-add-number-at : tie.Need-add-number-at Inv-loop μ-loop
-add-number-at c = omega arith
+transition-at-requires : tie.Need-transition-at-requires Inv-loop μ-loop
+transition-at-requires c κs = tt
 
 number-at-requires : tie.Need-number-at-requires Inv-loop μ-loop
-number-at-requires c κs = omega arith
+number-at-requires c κs = omega (arith, c .transition-at .ensures, c .before .before .before .before .before .pre .0 .long)
+
+-- what was read is where the transition leaves from
+read : (c : tie.After-number-at Inv-loop μ-loop) →
+    let a = c .before .before .before .before .before .before .args in
+    c .number-at .result ≡ number 2 (now (a .m)) (13 + a .n * 4 + c .before .before .before .loop .i * 8)
+read c =
+    let a = c .before .before .before .before .before .before .args in
+    c .number-at .ensures ∙ ap (number 2 (now (a .m))) (c .before .transition-at .ensures)
 
 returns : tie.Need-returns Inv-loop μ-loop
 returns c =
-    let l = c .before .before .before .loop in
-    let a = c .before .before .before .before .before .args in
-    let other = leading-stop (now (a .m)) (a .n) (a .t) (a .a) (l .i) (omega arith) (omega (arith, c .before .number-at .ensures)) in
+    let l = c .before .before .before .before .loop in
+    let a = c .before .before .before .before .before .before .before .args in
+    let other = leading-stop (now (a .m)) (a .n) (a .t) (a .a) (l .i) (omega arith) (omega (arith, read (c .before))) in
     (omega arith, omega arith, omega arith)
 
 add-i : tie.Need-add-i Inv-loop μ-loop
@@ -53,15 +51,15 @@ loop-less c = omega arith
 
 loop-again : tie.Need-loop-again Inv-loop μ-loop
 loop-again c =
-    let l = c .before .before .before .loop in
-    let a = c .before .before .before .before .before .args in
-    let more = leading-more (now (a .m)) (a .n) (a .t) (a .a) (l .i) (omega arith) (omega (arith, c .before .number-at .ensures)) in
+    let l = c .before .before .before .before .loop in
+    let a = c .before .before .before .before .before .before .before .args in
+    let more = leading-more (now (a .m)) (a .n) (a .t) (a .a) (l .i) (omega arith) (omega (arith, read (c .before))) in
     (omega arith, omega arith, omega arith)
 
 returns-2 : tie.Need-returns-2 Inv-loop μ-loop
 returns-2 c =
     let l = c .before .loop in
-    let a = c .before .before .before .args in
+    let a = c .before .before .before .before .args in
     let none = leading-none (now (a .m)) (a .n) (a .t) (a .a) (l .i) (omega arith) in
     (omega arith, omega arith, omega arith)
 
@@ -71,12 +69,9 @@ past-state-spec =
     (tie.spec
     Inv-loop
     μ-loop
-    mul-base
-    add-base
+    pass-many-requires
     loop-holds
-    cast-number-at
-    mul-number-at
-    add-number-at
+    transition-at-requires
     number-at-requires
     returns
     add-i

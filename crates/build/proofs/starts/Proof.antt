@@ -19,7 +19,7 @@ loop-holds : tie.Need-loop-holds Inv-loop μ-loop
 loop-holds c = (refl, omega arith, omega arith, found-none _ _ _ _ refl (rising (c .before .pre)))
 
 past-state-requires : tie.Need-past-state-requires Inv-loop μ-loop
-past-state-requires c κs = (c .before .before .before .pre, c .before .loop .inv .2)
+past-state-requires c κs = (c .before .before .before .pre, (c .before .loop .inv .2, c .before .loop .inv .3 .rest))
 
 add-a : tie.Need-add-a Inv-loop μ-loop
 add-a c = omega arith
