@@ -10,18 +10,17 @@ use native.Mathlib.Omega.{arith}
 use Rattle.lists.specs.Lists.{_∈_, all}
 use Rattle.lists.proofs.Tests.{and-left, and-right}
 use Rattle.lists.proofs.Lists.{all-true, true-all}
-use Rattle.refusal.specs.declared.Refusal.the-variants.{Length}
-use Rattle.wire.specs.declared.Field.the-variants.{Number, Short}
+use Rattle.wire.specs.declared.Field.the-variants.{Number}
 use Rattle.wire.specs.declared.State.{State}
 use Rattle.wire.specs.Bytes.{number}
 use Rattle.wire.specs.Field.{fieldAt}
-use Rattle.wire.specs.Read.{good, bad}
+use Rattle.wire.specs.Read.{good}
 use Rattle.wire.specs.Reader.{one, readAll}
 use Rattle.wire.specs.Start.{readStart}
 use Rattle.wire.specs.Step.{start}
 use Rattle.wire.proofs.Counts.{CountAt, count-good}
 use Rattle.wire.proofs.Fields.{field-value, value-inside}
-use Rattle.wire.proofs.Reading.{reading, length-after, bind-good, and-good, demand-good, field-good, good-same}
+use Rattle.wire.proofs.Reading.{reading, bind-good, and-good, demand-good, field-good, good-same}
 use Rattle.wire.proofs.Readers.{all-length}
 use Rattle.wire.proofs.Exact.{good-bind, good-demand, all-there}
 use Rattle.formula.specs.declared.Row.{Row}
@@ -64,13 +63,7 @@ judge-good p place o l r z b row e =
     record { known = leb-true _ _ (known .0); is = same; spare = rw (← same) (spare .0); names = named-names p place row (rw (← same) (named .0)) }
 
 module _ (s : List ℕ) (p : ℕ) where
-  -- a row is as long as its bound says, and the fields of one that fits are judged
-  pub row-short : (st : State) → fieldAt 4 s (st .at + 4) ≡ Short → readRow s p st ≡ bad Length
-  unfolding readRow
-  row-short st e =
-      let at = st .at in
-      length-after 1 s at _ (λ operator. length-after 1 s (at + 1) _ (λ left. length-after 1 s (at + 2) _ (λ right. length-after 1 s (at + 3) _ (λ zero. simp (reading, e)))))
-
+  -- the fields of a row that fits are judged
   pub row-inside : (st : State) → st .at + 8 ≤ length s → readRow s p st ≡ judgeRow p (st .tally) (number 1 s (st .at)) (number 1 s (st .at + 1)) (number 1 s (st .at + 2)) (number 1 s (st .at + 3)) (number 4 s (st .at + 4))
   unfolding readRow
   row-inside st h =

@@ -1,5 +1,5 @@
 -- How often rows are operands, counted in a table. Assumes nothing.
-use Prim.Native.Nat.{ℕ, zero, suc, _+_, _*_, _-_, _<_, _≤_}
+use Prim.Native.Nat.{ℕ, zero, suc, _+_, _-_, _<_, _≤_}
 use mathlib.Core.Bool.{Bool, true, false, cond, _&&_}
 use mathlib.Core.List.{List, [], _∷_}
 use mathlib.Core.Path.{_≡_, refl, sym}
@@ -58,10 +58,8 @@ operands-few (Or l r) = omega arith
 operands-few (Next q l b) = omega arith
 operands-few (Until q l r b) = omega arith
 
-pub uses-few : (i : ℕ) (rows : List Row) → uses i rows ≤ 2 * length rows
-unfolding uses
-uses-few i [] = omega arith
-uses-few i (row ∷ rows) = omega (arith, uses-few i rows, times-few i (operands row), operands-few row)
+pub row-few : (i : ℕ) (row : Row) → times i (operands row) ≤ 2
+row-few i row = omega (arith, times-few i (operands row), operands-few row)
 
 -- a loop's turn over rows by position
 pub uses-more : (s : List ℕ) (i k at : ℕ) → 0 < k → uses i (items (rowLayout s) k at) ≡ times i (operands (rowAt s at)) + uses i (items (rowLayout s) (k - 1) (at + 8))

@@ -1,6 +1,6 @@
 // The check of a formula message against a number of propositions: the first fault in the paper's order, or how many rows it has.
 ghost use mathlib.Core.Path.{_≡_};
-ghost use Prim.Native.Nat.{ℕ, _+_, _≤_, _<_};
+ghost use Prim.Native.Nat.{ℕ, _+_, _*_, _≤_, _<_};
 ghost use mathlib.Core.Bool.{_&&_};
 ghost use mathlib.Core.List.{List, [], _∷_};
 ghost use lib.Dec.{eqb, ltb};
@@ -9,6 +9,8 @@ ghost use Rattle.lists.specs.Lists.{_∈_};
 ghost use Rattle.refusal.specs.declared.Refusal.the-variants as fault;
 ghost use Rattle.wire.specs.declared.State.{State};
 ghost use Rattle.wire.specs.declared.Step.the-variants.{Next};
+ghost use Rattle.wire.specs.declared.Field.the-variants.{Number};
+ghost use Rattle.wire.specs.Field.{fieldAt};
 ghost use Rattle.wire.specs.Layout.{items};
 ghost use Rattle.wire.specs.Read as read;
 ghost use Rattle.wire.specs.Reader.{one, run};
@@ -195,19 +197,15 @@ fn count_row(counts: &mut [u8], row: Row)
     }
 }
 
-// One row, and the uses that it makes of others: where its last field fits, so do those before it.
-fn one_row(s: &[u8], p: u32, st: State, counts: &mut [u8]) -> Step
-    requires { ⌜ (st .at ≤ length (now s)) × (st .tally < 64) ⌝ }
-    requires { ⌜ (length (now counts) ≡ 64) × ((i : ℕ) → getD (now counts) i 0 < 254) ⌝ }
+// One row, whose last field is there, and so are those before it; and the uses that it makes of others.
+fn one_row(s: &[u8], p: u32, bound: u32, st: State, counts: &mut [u8]) -> Step
+    requires { ⌜ fieldAt 4 (now s) (st .at + 4) ≡ Number bound ⌝ }
+    requires { ⌜ (st .tally < 64) × (length (now counts) ≡ 64) × ((i : ℕ) → getD (now counts) i 0 < 254) ⌝ }
     ensures { λ r. ⌜ r ≡ step (one (m.rows (now (s .entry)) p) st) ⌝ }
     ensures { λ r. ⌜ ((next : State) → r ≡ Next next → (i : ℕ)
         → getD (now (counts .exit)) i 0 ≡ getD (now (counts .entry)) i 0 + rows.times i (rows.operands (rowAt (now (s .entry)) (st .at)))) ⌝ }
 {
     let at = st.at;
-    let bound_at = at + 4;
-    let Field::Number(bound) = wire::read(s, bound_at, Width::Four) else {
-        return Step::Refused(Refusal::Length);
-    };
     let operator = wire::number_at(s, at, Width::One);
     let left_at = at + 1;
     let left = wire::number_at(s, left_at, Width::One);
@@ -229,25 +227,26 @@ fn one_row(s: &[u8], p: u32, st: State, counts: &mut [u8]) -> Step
     })
 }
 
-// k rows, and how often each row is an operand.
-fn all_rows(s: &[u8], p: u32, k: u32, first: State, counts: &mut [u8]) -> Step
-    requires { ⌜ (first .at ≤ length (now s)) × (first .tally + k ≤ 64) ⌝ }
+// The k rows up to the end of the message, and how often each is an operand: where no last field fits, none is left.
+fn all_rows(s: &[u8], p: u32, first: State, counts: &mut [u8]) -> Step
+    requires { ⌜ (first .at ≤ length (now s)) × (length (now s) + first .tally * 8 ≤ first .at + 512) ⌝ }
     requires { ⌜ (length (now counts) ≡ 64) × ((i : ℕ) → getD (now counts) i 0 ≡ 0) ⌝ }
-    ensures { λ r. ⌜ r ≡ step (run (m.rows (now (s .entry)) p) k first) ⌝ }
-    ensures { λ r. ⌜ ((last : State) → r ≡ Next last → (i : ℕ)
+    ensures { λ r. ⌜ ((k : ℕ) → first .at + k * 8 ≡ length (now (s .entry)) → r ≡ step (run (m.rows (now (s .entry)) p) k first)) ⌝ }
+    ensures { λ r. ⌜ ((k : ℕ) → first .at + k * 8 ≡ length (now (s .entry)) → (last : State) → r ≡ Next last → (i : ℕ)
         → getD (now (counts .exit)) i 0 ≡ rows.uses i (items (rowLayout (now (s .entry))) k (first .at))) ⌝ }
 {
     let mut st = first;
-    let mut i = k;
-    while 0 < i {
-        let read = one_row(s, p, st, counts);
+    loop {
+        let bound_at = st.at + 4;
+        let Field::Number(bound) = wire::read(s, bound_at, Width::Four) else {
+            return Step::Next(st);
+        };
+        let read = one_row(s, p, bound, st, counts);
         let Step::Next(next) = read else {
             return read;
         };
         st = next;
-        i -= 1;
     }
-    Step::Next(st)
 }
 
 // Whether every row but the last of f rows, which are operands so often, is one exactly once. All are looked at, so that none waits for another.
@@ -281,7 +280,6 @@ pub fn check(s: &[u8], p: u32) -> Checked
     if let Step::Refused(e) = all_rows(
         s,
         p,
-        f,
         State {
             at: 7,
             prev: 0,

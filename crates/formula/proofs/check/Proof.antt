@@ -2,7 +2,7 @@
 use Prim.Native.Nat.{ℕ}
 use mathlib.Core.Bool.{true, false}
 use mathlib.Core.List.{List}
-use mathlib.Core.Path.{_≡_, refl, _∙_}
+use mathlib.Core.Path.{_≡_, refl, sym, _∙_}
 use denote.Ref.{now}
 use lib.ListN.{length, getD}
 use native.Mathlib.Omega.{arith}
@@ -43,15 +43,16 @@ record Rows (s counts : List ℕ) (p f : ℕ) : Type 0 where
   uses-are : (i : ℕ) → getD counts i 0 ≡ uses i got
 
 rows-got : (c : tie.After-enum-told2) → let r = c .before .before .before in let k = r .before .before in let a = k .before .before .before .before .before .before .args in
-    Rows (now (a .s)) (r .all-rows .last .1 .1 .1 .1 .0) (a .p) (k .before .head .given .0 .0)
+    Rows (now (a .s)) (r .all-rows .last .1 .1 .1 .0) (a .p) (k .before .head .given .0 .0)
 rows-got c =
     let r = c .before .before .before in
     let k = r .before .before in
     let a = k .before .before .before .before .before .before .args in
     let told = c .enum-told2 .given .1 in
-    let ran = run-good _ _ _ _ (step-next (all-read k) (by {b = step (all-read k)} (r .all-rows .ensures .0) told)) in
+    let long = sym (header-good _ _ (head-good k) .long) in
+    let ran = run-good _ _ _ _ (step-next (all-read k) (by {b = step (all-read k)} (r .all-rows .ensures .0 _ long) told)) in
     let hold = rows-hold (now (a .s)) (a .p) (k .before .head .given .0 .0) (start 7) (ran .got) (omega (arith, header-good _ _ (head-good k))) (ran .there) in
-    record { got = ran .got; there = ran .there; long = all-length _ _ _ _ (ran .there); uses-are = λ i. rw (hold .items-are) (r .all-rows .ensures .1 _ told i) }
+    record { got = ran .got; there = ran .there; long = all-length _ _ _ _ (ran .there); uses-are = λ i. rw (hold .items-are) (r .all-rows .ensures .1 _ long _ told i) }
 
 returns : tie.Need-returns
 unfolding readFormula checked
@@ -77,7 +78,7 @@ slice-aggregate-all-rows : tie.Need-slice-aggregate-all-rows
 slice-aggregate-all-rows c = search needs
 
 all-rows-requires : tie.Need-all-rows-requires
-all-rows-requires c κs = let h = header-good _ _ (head-good (c .before)) in ((omega (arith, h .long), omega (arith, h .f-counted .no-more)), (refl, none-counted 64))
+all-rows-requires c κs = let h = header-good _ _ (head-good (c .before)) in ((omega (arith, h .long), omega (arith, h .long, h .f-counted .no-more)), (refl, none-counted 64))
 
 enum-known-e : tie.Need-enum-known-e
 enum-known-e c = search needs
@@ -87,7 +88,7 @@ unfolding readFormula checked
 returns-3 c =
     let r = c .before .before .before .before in
     let k = r .before .before in
-    let refused = step-refused (all-read k) (by {b = step (all-read k)} (r .all-rows .ensures .0) (c .before .e .given .1)) in
+    let refused = step-refused (all-read k) (by {b = step (all-read k)} (r .all-rows .ensures .0 _ (sym (header-good _ _ (head-good k) .long))) (c .before .e .given .1)) in
     simp (reading, le-leb _ _ (k .before .before .before .before .if1 .left), head-good k, run-bad _ _ _ _ refused)
 
 enum-told-2 : tie.Need-enum-told-2

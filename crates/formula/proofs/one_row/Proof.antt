@@ -6,8 +6,6 @@ use lib.ListN.{length}
 use borrow.Author.Needs.{needs}
 use native.Mathlib.Omega.{arith}
 use Rattle.lists.proofs.Tests.{by}
-use Rattle.wire.specs.declared.Field.the-variants.{Number}
-use Rattle.wire.specs.Field.{fieldAt}
 use Rattle.wire.specs.Read.{Read, good}
 use Rattle.wire.specs.Step.{step}
 use Rattle.wire.proofs.Fields.{value-inside, value-is}
@@ -17,81 +15,56 @@ use Rattle.formula.specs.declared.Row.{Row}
 use Rattle.formula.specs.Message.{readRow, judgeRow}
 use Rattle.formula.specs.Answers.{judged}
 use Rattle.formula.proofs.Answered.{judged-fine, judged-refused}
-use Rattle.formula.proofs.Good.{row-short, row-inside, row-good}
+use Rattle.formula.proofs.Good.{row-inside, row-good}
 use Rattle.formula.proofs.Accepted.{row-is}
 use Rattle.formula.proofs.one_row.Statement.{statement}
 use Rattle.formula.proofs.one_row.Tie as tie
 
--- where the function starts, and where the bound was found
-abbrev start : tie.After-known-told → tie.Start
+-- where the function starts
+abbrev start : tie.After-number-at4 → tie.Start
 start c = c .before .before .before .before .before .before
 
-abbrev found : tie.After-number-at4 → tie.After-known-told
-found c = c .before .before .before .before
-
 -- the bound is there, so all of the row is
-bound-there : (c : tie.After-known-told) → let a = start c .args in fieldAt 4 (now (a .s)) (a .st .at + 4) ≡ Number (c .before .bound .given .0 .0)
-bound-there c = by (c .before .before .before .read .ensures) (c .before .bound .given .1)
-
-inside : (c : tie.After-known-told) → let a = start c .args in a .st .at + 8 ≤ length (now (a .s))
-inside c = let a = start c .args in omega (arith, value-inside 4 (now (a .s)) (a .st .at + 4) (bound-there c))
+inside : (c : tie.Start) → let a = c .args in a .st .at + 8 ≤ length (now (a .s))
+inside c = let a = c .args in omega (arith, value-inside 4 (now (a .s)) (a .st .at + 4) (c .pre .0))
 
 -- the reading judges the fields that were read
 abbrev judgement : tie.After-number-at4 → Read Row
 judgement c =
-    let a = start (found c) .args in
-    judgeRow (a .p) (a .st .tally) (c .before .before .before .number-at .result) (c .before .before .number-at2 .result) (c .before .number-at3 .result) (c .number-at4 .result) (found c .before .bound .given .0 .0)
+    let a = start c .args in
+    judgeRow (a .p) (a .st .tally) (c .before .before .before .number-at .result) (c .before .before .number-at2 .result) (c .before .number-at3 .result) (c .number-at4 .result) (a .bound)
 
-fields-judged : (c : tie.After-number-at4) → let a = start (found c) .args in readRow (now (a .s)) (a .p) (a .st) ≡ judgement c
+fields-judged : (c : tie.After-number-at4) → let a = start c .args in readRow (now (a .s)) (a .p) (a .st) ≡ judgement c
 fields-judged c =
-    let k = found c in
-    let a = start k .args in
-    simp (row-inside (now (a .s)) (a .p) (a .st) (inside k), c .before .before .before .number-at .ensures, c .before .before .number-at2 .ensures, c .before .number-at3 .ensures, c .number-at4 .ensures, value-is 4 (now (a .s)) (a .st .at + 4) (bound-there k))
+    let a = start c .args in
+    simp (row-inside (now (a .s)) (a .p) (a .st) (inside (start c)), c .before .before .before .number-at .ensures, c .before .before .number-at2 .ensures, c .before .number-at3 .ensures, c .number-at4 .ensures, value-is 4 (now (a .s)) (a .st .at + 4) (start c .pre .0))
 
 -- the row that was read
-row-read : (c : tie.After-known-told2) → let a = start (found (c .before .before .before .before)) .args in readRow (now (a .s)) (a .p) (a .st) ≡ good (c .before .row .given .0 .0)
+row-read : (c : tie.After-known-told) → let a = start (c .before .before .before .before) .args in readRow (now (a .s)) (a .p) (a .st) ≡ good (c .before .row .given .0 .0)
 row-read c =
     let j = c .before .before .before in
     fields-judged (j .before) ∙ judged-fine (judgement (j .before)) (by {b = judged (judgement (j .before))} (j .judge .ensures) (c .before .row .given .1))
 
-add-bound-at : tie.Need-add-bound-at
-add-bound-at c = search needs
-
-read-requires : tie.Need-read-requires
-read-requires c κs = search needs
-
-enum-known-bound : tie.Need-enum-known-bound
-enum-known-bound c = search needs
-
-enum-told : tie.Need-enum-told
-enum-told c = search needs
-
-returns : tie.Need-returns
-unfolding step
-returns c =
-    let a = c .before .before .before .before .before .args in
-    (simp (reading, row-short (now (a .s)) (a .p) (a .st) (by (c .before .before .read .ensures) (c .enum-told .given .1))), λ next e. not-next e)
-
 number-at-requires : tie.Need-number-at-requires
-number-at-requires c κs = omega (arith, inside c)
+number-at-requires c κs = omega (arith, inside (c .before .before))
 
 add-left-at : tie.Need-add-left-at
-add-left-at c = search needs
+add-left-at c = omega (arith, inside (c .before .before .before))
 
 number-at-requires-2 : tie.Need-number-at-requires-2
-number-at-requires-2 c κs = omega (arith, inside (c .before))
+number-at-requires-2 c κs = omega (arith, inside (c .before .before .before))
 
 add-right-at : tie.Need-add-right-at
-add-right-at c = search needs
+add-right-at c = omega (arith, inside (c .before .before .before .before))
 
 number-at-requires-3 : tie.Need-number-at-requires-3
-number-at-requires-3 c κs = omega (arith, inside (c .before .before))
+number-at-requires-3 c κs = omega (arith, inside (c .before .before .before .before))
 
 add-zero-at : tie.Need-add-zero-at
-add-zero-at c = search needs
+add-zero-at c = omega (arith, inside (c .before .before .before .before .before))
 
 number-at-requires-4 : tie.Need-number-at-requires-4
-number-at-requires-4 c κs = omega (arith, inside (c .before .before .before))
+number-at-requires-4 c κs = omega (arith, inside (c .before .before .before .before .before))
 
 judge-requires : tie.Need-judge-requires
 judge-requires c κs = search needs
@@ -102,30 +75,31 @@ enum-known-row c = search needs
 enum-known-e : tie.Need-enum-known-e
 enum-known-e c = search needs
 
-returns-2 : tie.Need-returns-2
+returns : tie.Need-returns
 unfolding step
-returns-2 c =
+returns c =
     let j = c .before .before .before in
-    (simp (reading, fields-judged (j .before), judged-refused (judgement (j .before)) (by {b = judged (judgement (j .before))} (j .judge .ensures) (c .before .e .given .1))), λ next e. not-next e)
+    let refused = judged-refused (judgement (j .before)) (by {b = judged (judgement (j .before))} (j .judge .ensures) (c .before .e .given .1)) in
+    (simp (reading, fields-judged (j .before), refused), λ next e. not-next e)
 
 count-row-requires : tie.Need-count-row-requires
 count-row-requires c κs =
     let k = c .before in
-    let pre = start (found (k .before .before .before .before)) .pre in
-    (λ l m. omega (arith, row-good _ _ _ _ (row-read k) .fine .names .earlier m, pre .0 .1, pre .1 .0), pre .1 .1)
+    let pre = start (k .before .before .before .before) .pre .1 in
+    (λ l m. omega (arith, row-good _ _ _ _ (row-read k) .fine .names .earlier m, pre .0, pre .1), pre .2)
 
 add-end : tie.Need-add-end
-add-end c = let k = found (c .before .before .before .before .before .before .before .before) in omega (arith, start k .good, inside k)
+add-end c = let a = start (c .before .before .before .before .before .before .before .before) in omega (arith, a .good, inside a)
 
 add-place : tie.Need-add-place
-add-place c = omega (arith, start (found (c .before .before .before .before .before .before .before .before .before)) .pre .0)
+add-place c = omega (arith, start (c .before .before .before .before .before .before .before .before .before) .pre .1 .0)
 
 same-length : tie.Need-same-length
 same-length c = search needs
 
-returns-3 : tie.Need-returns-3
+returns-2 : tie.Need-returns-2
 unfolding step
-returns-3 c =
+returns-2 c =
     let put = c .before .before .before in
     let k = put .before .before in
     (simp (reading, row-read k), λ next e i. rw (← row-is _ _ _ _ (row-read k)) (put .count-row .ensures i))
@@ -134,11 +108,6 @@ pub one-row-spec : {M : Type 1} → statement M
 one-row-spec =
     tie.close
     (tie.spec
-    add-bound-at
-    read-requires
-    enum-known-bound
-    enum-told
-    returns
     number-at-requires
     add-left-at
     number-at-requires-2
@@ -149,9 +118,9 @@ one-row-spec =
     judge-requires
     enum-known-row
     enum-known-e
-    returns-2
+    returns
     count-row-requires
     add-end
     add-place
     same-length
-    returns-3)
+    returns-2)
