@@ -20,8 +20,7 @@ same-length c = search needs
 
 returns : tie.Need-returns
 returns c =
-    let solved = c .before .before .before .before .solve .ensures in
-    (
+    let solved = c .before .before .before .before .solve .ensures in (
       c .number .ensures ∙ ap outcomeNumber (solved .0),
       (solved .1 .0, (c .before .count .ensures ∙ ap outcomeCount (solved .0), subst (Promise _ _ _ _) (solved .0) (solved .1 .1))),
     )
