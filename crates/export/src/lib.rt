@@ -191,9 +191,13 @@ pub extern "C" fn otzarvim_settle(
     let settled = verdict::settle(model, formula, budget, bytes, values);
     *count = settled.count();
     *length = settled.length();
-    if let Settled::Done(_, _, first, many) = settled {
-        *states = [first, many];
-        return settled.number();
+    let number = settled.number();
+    match settled {
+        Settled::Done(_, _, first, many) => {
+            *states = [first, many];
+            number
+        }
+        Settled::Spent(_, _) => number,
+        Settled::Refused(_) => number,
     }
-    settled.number()
 }

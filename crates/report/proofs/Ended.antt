@@ -81,7 +81,7 @@ module _ (q : Question) (b v : List ℕ) where
 -- its p stands at the ninth byte of the model
 propositions-at : (m : List ℕ) (M : Model) → readModel m ≡ good M → (9 ≤ length m) × (number 1 m 8 ≡ M .propositions)
 propositions-at m M e =
-    let there = header-good m _ (model-good {s = m} {M = M} e .header) .propositions-there in
+    let there = header-good m _ (model-good {s = m} {M = M} e .header) .propositions-counted .there in
     (value-inside 1 m 8 there, value-is 1 m 8 there)
 
 -- ---- the exits

@@ -1,32 +1,62 @@
--- `export::otzarvim_settle` meets its contract: each part of the answer, and both rooms, case by case.
-use mathlib.Core.Path.{sym, ap, subst, _∙_}
+-- `export::otzarvim_settle` meets its contract: each part of the answer, and both rooms; the lent states case by case.
+use mathlib.Core.Path.{_≡_, sym, ap, subst, _∙_}
 use denote.Ref.{now}
 use borrow.Author.Needs.{needs}
 use Rattle.lists.proofs.Tests.{by}
 use Rattle.verdict.specs.Answer.{settledNumber, settledCount, settledLength}
 use Rattle.verdict.specs.Promise.{PromiseAll}
 use Rattle.verdict.specs.declared.Settled.{Settled}
-use Rattle.export.specs.Verdicts.{settledStates}
+use Rattle.export.specs.Verdicts.{settled, settledStates}
 use Rattle.export.proofs.otzarvim_settle.Statement.{statement}
 use Rattle.export.proofs.otzarvim_settle.Tie as tie
+
+abbrev call : tie.After-number → tie.After-settle
+call n = n .before .before .before .before .before .before .before
+
+abbrev start : tie.After-number → tie.Start
+start n = call n .before .before .before .before .before .before .before
+
+-- the definition's answer
+abbrev answer : tie.After-number → Settled
+answer n = let a = start n .args in settled (now (a .model)) (now (a .formula)) (a .budget) (now (a .bytes)) (now (a .values))
+
+is : (n : tie.After-number) → call n .settle .result ≡ answer n
+is n = call n .settle .ensures .0
+
+number-is : (n : tie.After-number) → n .number .result ≡ settledNumber (answer n)
+number-is n = n .number .ensures ∙ ap settledNumber (is n)
+
+count-is : (n : tie.After-number) → n .before .before .count .result ≡ settledCount (answer n)
+count-is n = n .before .before .count .ensures ∙ ap settledCount (is n)
+
+length-is : (n : tie.After-number) → n .before .length .result ≡ settledLength (answer n)
+length-is n = n .before .length .ensures ∙ ap settledLength (is n)
+
+-- what an answer says of the lent states
+states-are : (n : tie.After-number) {x : Settled} → call n .settle .result ≡ x
+    → settledStates x (now (start n .args .states)) ≡ settledStates (answer n) (now (start n .args .states))
+states-are n e = sym (ap (λ (x : Settled). settledStates x (now (start n .args .states))) (by (is n) e))
 
 settle-requires : tie.Need-settle-requires
 settle-requires c κs = search needs
 
-enum-known-rounds : tie.Need-enum-known-rounds
-enum-known-rounds c = search needs
+count-requires : tie.Need-count-requires
+count-requires c κs = search needs
 
-enum-known-rounds-2 : tie.Need-enum-known-rounds-2
-enum-known-rounds-2 c = search needs
+length-requires : tie.Need-length-requires
+length-requires c κs = search needs
 
 number-requires : tie.Need-number-requires
 number-requires c κs = search needs
 
-enum-known-e : tie.Need-enum-known-e
-enum-known-e c = search needs
+enum-known-settled : tie.Need-enum-known-settled
+enum-known-settled c = search needs
 
-number-requires-2 : tie.Need-number-requires-2
-number-requires-2 c κs = search needs
+enum-told : tie.Need-enum-told
+enum-told c = search needs
+
+enum-told-2 : tie.Need-enum-told-2
+enum-told-2 c = search needs
 
 same-length : tie.Need-same-length
 same-length c = search needs
@@ -36,12 +66,10 @@ same-length-2 c = search needs
 
 returns : tie.Need-returns
 returns c =
-    let known = c .before .before in
-    let call = known .before .before .before .before .before .before in
-    let rooms = call .settle .ensures .1 in
-    let is = by (call .settle .ensures .0) (known .rounds .given .1) in
-    let came = now (call .before .before .before .before .before .before .before .args .states) in
-    (sym (ap settledNumber is), (rooms .0, (rooms .1 .0, (sym (ap settledCount is), (sym (ap settledLength is), (sym (ap (λ (x : Settled). settledStates x came) is), subst (PromiseAll _ _ _ _ _ _ _) (call .settle .ensures .0) (rooms .1 .1)))))))
+    let done = c .before .before in
+    let n = done .before .before in
+    let rooms = call n .settle .ensures .1 in
+    (number-is n, (rooms .0, (rooms .1 .0, (count-is n, (length-is n, (states-are n (done .settled .given .1), subst (PromiseAll _ _ _ _ _ _ _) (is n) (rooms .1 .1)))))))
 
 same-length-3 : tie.Need-same-length-3
 same-length-3 c = search needs
@@ -51,12 +79,9 @@ same-length-4 c = search needs
 
 returns-2 : tie.Need-returns-2
 returns-2 c =
-    let known = c .before .before in
-    let call = known .before .before .before .before .before .before in
-    let rooms = call .settle .ensures .1 in
-    let is = by (call .settle .ensures .0) (known .rounds2 .given .1) in
-    let came = now (call .before .before .before .before .before .before .before .args .states) in
-    (c .number .ensures ∙ sym (ap settledNumber is), (rooms .0, (rooms .1 .0, (sym (ap settledCount is), (sym (ap settledLength is), (sym (ap (λ (x : Settled). settledStates x came) is), subst (PromiseAll _ _ _ _ _ _ _) (call .settle .ensures .0) (rooms .1 .1)))))))
+    let n = c .before .before in
+    let rooms = call n .settle .ensures .1 in
+    (number-is n, (rooms .0, (rooms .1 .0, (count-is n, (length-is n, (states-are n (c .enum-told .given .1), subst (PromiseAll _ _ _ _ _ _ _) (is n) (rooms .1 .1)))))))
 
 same-length-5 : tie.Need-same-length-5
 same-length-5 c = search needs
@@ -66,23 +91,21 @@ same-length-6 c = search needs
 
 returns-3 : tie.Need-returns-3
 returns-3 c =
-    let known = c .before .before in
-    let call = known .before .before .before .before .before .before in
-    let rooms = call .settle .ensures .1 in
-    let is = by (call .settle .ensures .0) (known .e .given .1) in
-    let came = now (call .before .before .before .before .before .before .before .args .states) in
-    (c .number2 .ensures ∙ sym (ap settledNumber is), (rooms .0, (rooms .1 .0, (sym (ap settledCount is), (sym (ap settledLength is), (sym (ap (λ (x : Settled). settledStates x came) is), subst (PromiseAll _ _ _ _ _ _ _) (call .settle .ensures .0) (rooms .1 .1)))))))
+    let n = c .before .before in
+    let rooms = call n .settle .ensures .1 in
+    (number-is n, (rooms .0, (rooms .1 .0, (count-is n, (length-is n, (states-are n (c .enum-told2 .given .1), subst (PromiseAll _ _ _ _ _ _ _) (is n) (rooms .1 .1)))))))
 
 pub otzarvim-settle-spec : {M : Type 1} → statement M
 otzarvim-settle-spec =
     tie.close
     (tie.spec
     settle-requires
-    enum-known-rounds
-    enum-known-rounds-2
+    count-requires
+    length-requires
     number-requires
-    enum-known-e
-    number-requires-2
+    enum-known-settled
+    enum-told
+    enum-told-2
     same-length
     same-length-2
     returns
