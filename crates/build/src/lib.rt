@@ -607,7 +607,7 @@ fn put_row(
     }
 }
 
-// The hyperedges of a row's nodes, over all states.
+// The hyperedges of a row's nodes, over all states; an until's have none.
 fn put_row_states(
     room: &mut [u8],
     at: usize,
@@ -625,6 +625,9 @@ fn put_row_states(
     requires { ⌜ at + length (rowBytes (heldModel (now m) n p t) r row) ≤ length (now room) ⌝ }
     ensures { λ e. ⌜ Laid (now (room .entry)) at (rowBytes (heldModel (now (m .entry)) n p t) r row) (now (room .exit)) e ⌝ }
 {
+    if let Row::Until(_, _, _, _) = row {
+        return at;
+    }
     let mut next = at;
     let mut a: u32 = 0;
     while a < n {
