@@ -1,10 +1,11 @@
 -- The edges of a node of an accepted model, from its state's transitions, and what a builder of them may rely on. Assumes nothing.
-use Prim.Native.Nat.{ℕ, suc, _+_, _*_, _<_, _≤_}
+use Prim.Native.Nat.{ℕ, zero, suc, _+_, _*_, _<_, _≤_}
 use mathlib.Core.List.{List, [], _∷_, _++_, map, map-map}
 use mathlib.Core.Path.{_≡_, refl, ap, _∙_}
 use native.Mathlib.Nat.{mul-le-mul-left, mul-suc}
 use native.Mathlib.Numerals.{add-one}
 use native.Mathlib.Omega.{arith}
+use lib.ListN.{length}
 use lib.Dec.{eqb}
 use Rattle.lists.specs.Lists.{_∈_}
 use Rattle.lists.specs.Making.{keep, span}
@@ -12,14 +13,16 @@ use Rattle.lists.proofs.Making.{∈-keep}
 use Rattle.lists.proofs.Kept.{keep-map}
 use Rattle.value.specs.declared.Bound.{Bound}
 use Rattle.value.specs.Value.{inside}
+use Rattle.wire.specs.Laid.{Laid}
 use Rattle.wire.specs.Write.{writeAll}
+use Rattle.wire.proofs.Laid.{nothing, said}
 use Rattle.rules.specs.Graph.{Target}
 use Rattle.graph.specs.Write.{writeHyper}
 use Rattle.model.specs.Model.{Model, Transition}
 use Rattle.formula.specs.declared.Quantifier.{Quantifier}
 use Rattle.formula.specs.declared.Quantifier.the-variants.{Some, Every}
 use Rattle.formula.specs.declared.Row.{Row}
-use Rattle.formula.specs.declared.Row.the-variants.{Next}
+use Rattle.formula.specs.declared.Row.the-variants.{Next, Until}
 use Rattle.formula.specs.Layouts.{rowAt, rowLayout}
 use Rattle.formula.specs.Rows.{operands}
 use Rattle.formula.specs.WellFormed.{RowAt}
@@ -76,11 +79,25 @@ module _ (p : ℕ) {m : List ℕ} {n t a first many : ℕ} (o : Own m n t a firs
 
 -- ---- rows one after another
 
+-- nothing of each is nothing
+span-empty : (a n : ℕ) → span {B = ℕ} (λ c. []) a n ≡ []
+unfolding span
+span-empty a zero = refl
+span-empty a (suc n) = span-empty (suc a) n
+
 module _ (M : Model) where
   -- a row's nodes, state by state
   pub row-spans : (r : ℕ) (row : Row) → rowBytes M r row ≡ span (λ a. hypersBytes (a + M .states * r) (rowEdges M row a)) 0 (M .states)
   unfolding rowBytes
   row-spans r row = span-written writeHyper (λ a. map (hyper (a + M .states * r)) (rowEdges M row a)) 0 (M .states)
+
+  -- an until's have no hyperedge
+  pub until-laid : (r : ℕ) (row : Row) {q : Quantifier} {l k : ℕ} {c : Bound} → row ≡ Until q l k c → {b : List ℕ} {at : ℕ}
+      → at + length (rowBytes M r row) ≤ length b → Laid b at (rowBytes M r row) b at
+  unfolding writeAll
+  until-laid r row e {b} {at} h =
+      let none : rowBytes M r row ≡ [] = row-spans r row ∙ rw e (span-empty 0 (M .states)) in
+      said (nothing b at (omega arith)) none refl refl
 
   -- a row more
   pub rows-more : (r : ℕ) (row : Row) (rows : List Row) → rowsBytes M r (row ∷ rows) ≡ rowBytes M r row ++ rowsBytes M (r + 1) rows

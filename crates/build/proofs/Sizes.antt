@@ -3,6 +3,7 @@ use Prim.Native.Nat.{ℕ, zero, suc, _+_, _*_, _-_, _≤_, _<_, min, max}
 use mathlib.Core.List.{List, [], _∷_, _++_, map, List·Memᴰ·head, List·Memᴰ·tail}
 use mathlib.Core.Bool.{Bool, true, false, not, cond}
 use mathlib.Core.Path.{_≡_, refl, sym, ap, ap₂, _∙_}
+use native.Mathlib.Nat.{suc-mul, add-comm}
 use native.Mathlib.Omega.{arith}
 use lib.ListN.{length, length-map}
 use lib.Dec.{ltb, eqb}
@@ -81,6 +82,20 @@ size-spans f g a (suc n) =
     ∙ ap₂ addSize (size-append (f a) (g a)) (size-spans f g (suc a) n)
     ∙ add-swap (sizeOf (f a)) (sizeOf (g a)) (sizeOf (span f (suc a) n)) (sizeOf (span g (suc a) n))
     ∙ ap₂ addSize (sym (size-append (f a) (span f (suc a) n))) (sym (size-append (g a) (span g (suc a) n)))
+
+-- over states that are all alike
+size-same : (f : ℕ → List (List Target)) (z : Size) → ((a : ℕ) → sizeOf (f a) ≡ z) → (a n : ℕ)
+    → sizeOf (span f a (suc n)) ≡ record { hypers = suc n * z .hypers; targets = suc n * z .targets; most = z .most }
+unfolding sizeOf span
+size-same f z h a zero = size-append (f a) [] ∙ rw (h a) (same (omega arith) (omega arith) (omega arith))
+size-same f z h a (suc n) =
+    size-append (f a) (span f (suc a) (suc n)) ∙ ap₂ addSize (h a) (size-same f z h (suc a) n)
+    ∙ same (sym (suc-mul (suc n) (z .hypers) ∙ add-comm _ _)) (sym (suc-mul (suc n) (z .targets) ∙ add-comm _ _)) (omega arith)
+
+pub size-alike : (f : ℕ → List (List Target)) (z : Size) → ((a : ℕ) → sizeOf (f a) ≡ z) → (n : ℕ) → 1 ≤ n → {r : Size} → r .hypers ≡ n * z .hypers
+    → r .targets ≡ n * z .targets → r .most ≡ z .most → r ≡ sizeOf (span f 0 n)
+size-alike f z h zero some p q l = absurd (omega arith)
+size-alike f z h (suc n) some p q l = same p q l ∙ sym (size-same f z h 0 n)
 
 -- a turn of a loop over a span: what is summed, and what is left, make the whole
 pub size-turn : (f : ℕ → List (List Target)) (a n : ℕ) (sum one : Size) {w : Size} → addSize sum (sizeOf (span f a (n - a))) ≡ w → a < n → sizeOf (f a) ≡ one

@@ -294,6 +294,35 @@ fn states_size(m: &[u8], n: u32, p: u32, t: u32, table: &[u32], row: Row) -> Siz
     sum
 }
 
+// The same, with no walk over the states where they are all alike.
+fn row_total(m: &[u8], n: u32, p: u32, t: u32, table: &[u32], row: Row) -> Size
+    requires { ⌜ HoldsModel (now m) n p t ⌝ }
+    requires { ⌜ (n < length (now table)) × Starts (now m) n t (now table) ⌝ }
+    ensures { λ r. ⌜ r ≡ sizeOf (span (stateEdges (heldModel (now (m .entry)) n p t) row) 0 n) ⌝ }
+{
+    let all = n as u64;
+    let twice = all * 2;
+    match row {
+        Row::True => Size {
+            hypers: all,
+            targets: 0,
+            most: 0,
+        },
+        Row::False => Size::NONE,
+        Row::And(_, _) => Size {
+            hypers: all,
+            targets: twice,
+            most: 2,
+        },
+        Row::Or(_, _) => Size {
+            hypers: twice,
+            targets: twice,
+            most: 1,
+        },
+        _ => states_size(m, n, p, t, table, row),
+    }
+}
+
 // The size of all hyperedges of the graph.
 fn total_size(m: &[u8], n: u32, p: u32, t: u32, table: &[u32], f: &[u8], k: u32) -> Size
     requires { ⌜ HoldsModel (now m) n p t ⌝ }
@@ -306,7 +335,7 @@ fn total_size(m: &[u8], n: u32, p: u32, t: u32, table: &[u32], f: &[u8], k: u32)
     let mut i = k;
     while 0 < i {
         let row = formula::row_at(f, at);
-        sum = sum.plus(states_size(m, n, p, t, table, row));
+        sum = sum.plus(row_total(m, n, p, t, table, row));
         at += 8;
         i -= 1;
     }
@@ -578,7 +607,7 @@ fn put_row(
     }
 }
 
-// The hyperedges of a row's nodes, over all states.
+// The hyperedges of a row's nodes, over all states; an until's have none.
 fn put_row_states(
     room: &mut [u8],
     at: usize,
@@ -596,6 +625,9 @@ fn put_row_states(
     requires { ⌜ at + length (rowBytes (heldModel (now m) n p t) r row) ≤ length (now room) ⌝ }
     ensures { λ e. ⌜ Laid (now (room .entry)) at (rowBytes (heldModel (now (m .entry)) n p t) r row) (now (room .exit)) e ⌝ }
 {
+    if let Row::Until(_, _, _, _) = row {
+        return at;
+    }
     let mut next = at;
     let mut a: u32 = 0;
     while a < n {

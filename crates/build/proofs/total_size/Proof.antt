@@ -30,28 +30,28 @@ abbrev heldIn : tie.Start Inv-loop μ-loop → Model
 heldIn c = heldModel (now (c .args .m)) (c .args .n) (c .args .p) (c .args .t)
 
 -- with the row's size the sum, and the rest, make the whole, and the sum is small
-whole : (c : tie.After-states-size Inv-loop μ-loop) →
+whole : (c : tie.After-row-total Inv-loop μ-loop) →
     let a = c .before .before .before .before .before .before .before in
     let l = c .before .before .before .loop in
     let rest = items (rowLayout (now (a .args .f))) (l .i - 1) (l .at + 8) in
-    addSize (addSize (l .sum) (c .states-size .result)) (sizeOf (rowsEdges (heldIn a) rest)) ≡ sizeOf (rowsEdges (heldIn a) (heldRows (now (a .args .f)) (a .args .k)))
+    addSize (addSize (l .sum) (c .row-total .result)) (sizeOf (rowsEdges (heldIn a) rest)) ≡ sizeOf (rowsEdges (heldIn a) (heldRows (now (a .args .f)) (a .args .k)))
 unfolding heldModel
 whole c =
     let a = c .before .before .before .before .before .before .before in
     let l = c .before .before .before .loop in
     let L = rowLayout (now (a .args .f)) in
     let here = sym (ap (λ (rows : List Row). addSize (l .sum) (sizeOf (rowsEdges (heldIn a) rows))) (items-more L (l .i) (l .at) (c .before .before .loop-test .taken))) in
-    let one = sym (c .states-size .ensures ∙ ap (λ (row : Row). sizeOf (span (stateEdges (heldIn a) row) 0 (a .args .n))) (c .before .row-at .ensures)) in
-    rows-turn (heldIn a) (L .item (l .at)) (items L (l .i - 1) (l .at + 8)) (l .sum) (c .states-size .result) (here ∙ l .inv .1) one
+    let one = sym (c .row-total .ensures ∙ ap (λ (row : Row). sizeOf (span (stateEdges (heldIn a) row) 0 (a .args .n))) (c .before .row-at .ensures)) in
+    rows-turn (heldIn a) (L .item (l .at)) (items L (l .i - 1) (l .at + 8)) (l .sum) (c .row-total .result) (here ∙ l .inv .1) one
 
-fits : (c : tie.After-states-size Inv-loop μ-loop) → Small 4294967296 (addSize (c .before .before .before .loop .sum) (c .states-size .result))
+fits : (c : tie.After-row-total Inv-loop μ-loop) → Small 4294967296 (addSize (c .before .before .before .loop .sum) (c .row-total .result))
 unfolding heldModel
 fits c =
     let a = c .before .before .before .before .before .before .before in
     let l = c .before .before .before .loop in
     let f = now (a .args .f) in
     let all = rows-small (heldIn a) (transitions-few (a .pre .0)) (states-few (a .pre .0)) (heldRows f (a .args .k)) in
-    let part = small-part (addSize (l .sum) (c .states-size .result)) (sizeOf (rowsEdges (heldIn a) (items (rowLayout f) (l .i - 1) (l .at + 8)))) (whole c) all in
+    let part = small-part (addSize (l .sum) (c .row-total .result)) (sizeOf (rowsEdges (heldIn a) (items (rowLayout f) (l .i - 1) (l .at + 8)))) (whole c) all in
     omega (arith, part .hypers, part .targets, rows-length f (a .args .k), a .pre .1 .1 .rows-fit)
 
 loop-holds : tie.Need-loop-holds Inv-loop μ-loop
@@ -61,8 +61,8 @@ loop-holds c = (omega arith, none-add _)
 row-at-requires : tie.Need-row-at-requires Inv-loop μ-loop
 row-at-requires c κs = omega arith
 
-states-size-requires : tie.Need-states-size-requires Inv-loop μ-loop
-states-size-requires c κs = (c .before .before .before .before .before .before .pre .0, c .before .before .before .before .before .before .pre .1 .0)
+row-total-requires : tie.Need-row-total-requires Inv-loop μ-loop
+row-total-requires c κs = (c .before .before .before .before .before .before .pre .0, c .before .before .before .before .before .before .pre .1 .0)
 
 plus-requires : tie.Need-plus-requires Inv-loop μ-loop
 plus-requires c κs = omega (arith, fits c)
@@ -94,7 +94,7 @@ total-size-spec =
     μ-loop
     loop-holds
     row-at-requires
-    states-size-requires
+    row-total-requires
     plus-requires
     add-at
     sub-i
