@@ -2,7 +2,7 @@
 -- stays there where the weight is within the bound. Assumes nothing.
 use Prim.Native.Nat.{ℕ, zero, suc, _+_, _*_, _-_, _<_, _≤_}
 use mathlib.Core.List.{List, [], _∷_, _++_, append-assoc}
-use mathlib.Core.Bool.{Bool, true, false, cond}
+use mathlib.Core.Bool.{Bool, cond}
 use mathlib.Core.Path.{_≡_, refl, sym, ap, ap₂, _∙_}
 use native.Mathlib.Nat.{suc-mul}
 use native.Mathlib.Omega.{arith}
@@ -21,7 +21,7 @@ use Rattle.wire.proofs.Written.{writeAll-keep}
 use Rattle.model.specs.Model.{Transition}
 use Rattle.build.specs.Held.{transitionLayout}
 use Rattle.build.proofs.Counting.{passing-le}
-use Rattle.build.proofs.Edges.{Filling, next-readable, next-named, next-filled}
+use Rattle.build.proofs.Edges.{Filling, next-filled}
 
 -- ---- what is laid in where the rest belongs is laid over by it
 
@@ -88,12 +88,6 @@ module _ (m : List ℕ) (n : ℕ) (one : Transition → List ℕ) (most k : ℕ)
 
       pub near-fits : next + k ≤ length b′
       near-fits = omega (arith, some left ends .1, ends, f .left .length-is, f .left .whole-fits)
-
-      pub near-readable : p + 8 ≤ length m
-      near-readable = next-readable m n (near most one) f near-some
-
-      pub near-named : {v : ℕ} → v ≡ number 2 m (p + 6) → v < n
-      near-named = next-named m n (near most one) f near-some
 
       -- with its weight and the state that it leads to as they were read
       module _ {w v : ℕ} (weight-is : w ≡ number 4 m (p + 2)) (to-is : v ≡ number 2 m (p + 6)) {b″ : List ℕ} {end : ℕ}

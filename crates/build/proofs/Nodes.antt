@@ -70,8 +70,6 @@ module _ (p : ℕ) {m : List ℕ} {n t a first many : ℕ} (o : Own m n t a firs
   pub own-read : (shift : ℕ) → HoldsModel m n p t → shift + n ≤ 4096 → Reads m n first many shift
   unfolding heldModel
   own-read shift h fits = record {
-    states = h .well-formed .states-fit;
-    few = omega (arith, o .inside, h .transitions-fit);
     long = omega (arith, o .inside, h .long);
     named = λ {u} k. h .well-formed .to-named {t = u} (∈-keep (λ u. eqb (u .from) a) _ (rw (o .are) k) .0);
     shift-fits = fits;

@@ -70,8 +70,6 @@ pub record Own (m : List ℕ) (n t a first many : ℕ) : Type 0 where
 
 -- these transitions can be read, and lead to states; a node that far behind a state is below 4,096
 pub record Reads (m : List ℕ) (n first many shift : ℕ) : Type 0 where
-  pub states : n ≤ 256
-  pub few : first + many ≤ 65535
   pub long : 13 + n * 4 + (first + many) * 8 ≤ length m
   pub named : {u : Transition} → u ∈ transitionsFrom m n first many → u .to < n
   pub shift-fits : shift + n ≤ 4096

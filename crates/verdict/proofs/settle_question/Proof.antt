@@ -1,7 +1,7 @@
 -- `verdict::settle_question` meets its contract: the graph is refused, or it is built, and the rounds on it are passed on.
 use denote.Ref.{now}
 use Prim.Native.Nat.{ℕ, _*_, _-_, _≤_}
-use mathlib.Core.Path.{_≡_, refl, sym, ap, _∙_}
+use mathlib.Core.Path.{_≡_, sym, ap, _∙_}
 use native.Mathlib.Nat.{mul-le-mul}
 use native.Mathlib.Omega.{arith}
 use lib.ListN.{length, take}
