@@ -26,9 +26,9 @@ use Rattle.build.specs.Bytes.{hypersBytes, everyNext}
 -- ---- lists of records
 
 module _ {A : Type 0} (w : A → List ℕ) {b : List ℕ} {at : ℕ} {b′ : List ℕ} {next : ℕ} (a : A) (h : Laid b at (w a) b′ next) where
-  pub one-laid : Laid b at (writeAll w (a ∷ [])) b′ next
+  pub single-laid : Laid b at (writeAll w (a ∷ [])) b′ next
   unfolding writeAll
-  one-laid = said h (append-nil (w a)) refl refl
+  single-laid = said h (append-nil (w a)) refl refl
 
   pub more-laid : (l : List A) {b″ : List ℕ} {end : ℕ} → Laid b′ next (writeAll w l) b″ end → Laid b at (writeAll w (a ∷ l)) b″ end
   unfolding writeAll

@@ -17,7 +17,7 @@ use Rattle.reduction.specs.Built.{to, hyper}
 use Rattle.build.specs.Held.{transitionsFrom}
 use Rattle.build.specs.Bytes.{someSteps, everySteps}
 use Rattle.graph.proofs.Exact.{target-length}
-use Rattle.build.proofs.Edges.{head-length, hypers-more, one-laid, more-laid, hyper-laid}
+use Rattle.build.proofs.Edges.{head-length, hypers-more, single-laid, more-laid, hyper-laid}
 use Rattle.build.proofs.Helpers.{right-fits, every-parts, steps-count}
 use Rattle.build.proofs.put_helper.Statement.{statement}
 use Rattle.build.proofs.put_helper.Tie as tie
@@ -155,7 +155,7 @@ returns-2 c =
     let targets = more-laid writeTarget (left s) (target .put-target .ensures) (steps s) (put .put-every-steps .ensures) in
     let second = hyper-laid (node s) (left s ∷ steps s) (head-laid head) targets in
     rw (told .enum-told2 .given .1)
-    (more-laid writeHyper _ (first .put-single .ensures) _ (one-laid writeHyper (hyper (node s) (left s ∷ steps s)) second))
+    (more-laid writeHyper _ (first .put-single .ensures) _ (single-laid writeHyper (hyper (node s) (left s ∷ steps s)) second))
 
 pub put-helper-spec : {M : Type 1} → statement M
 put-helper-spec =

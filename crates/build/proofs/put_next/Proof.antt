@@ -21,7 +21,7 @@ use Rattle.reduction.specs.Built.{to, hyper}
 use Rattle.build.specs.Held.{transitionLayout, transitionsFrom}
 use Rattle.build.specs.Bytes.{hypersBytes, someNext, everyNext}
 use Rattle.build.proofs.Counting.{passing-le, coded-keep}
-use Rattle.build.proofs.Edges.{head-length, hypers-one, one-laid, hyper-laid, every-count}
+use Rattle.build.proofs.Edges.{head-length, hypers-one, single-laid, hyper-laid, every-count}
 use Rattle.build.proofs.put_next.Statement.{statement}
 use Rattle.build.proofs.put_next.Tie as tie
 
@@ -126,7 +126,7 @@ returns-2 c =
     let code = told .before .before in
     let s = start code in
     let laid = said (put .put-every-next .ensures) (every-bytes code) refl refl in
-    rw (told .enum-told2 .given .1) (one-laid writeHyper (hyper (s .args .v) (targets s)) (hyper-laid (s .args .v) (targets s) (head-laid head) laid))
+    rw (told .enum-told2 .given .1) (single-laid writeHyper (hyper (s .args .v) (targets s)) (hyper-laid (s .args .v) (targets s) (head-laid head) laid))
 
 pub put-next-spec : {M : Type 1} → statement M
 put-next-spec =

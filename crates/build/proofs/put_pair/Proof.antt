@@ -5,7 +5,7 @@ use Rattle.wire.proofs.Laid.{sized}
 use Rattle.graph.specs.Write.{writeTarget}
 use Rattle.reduction.specs.Built.{to}
 use Rattle.graph.proofs.Exact.{target-length}
-use Rattle.build.proofs.Edges.{head-length, one-laid, more-laid, hyper-laid}
+use Rattle.build.proofs.Edges.{head-length, single-laid, more-laid, hyper-laid}
 use Rattle.build.proofs.put_pair.Statement.{statement}
 use Rattle.build.proofs.put_pair.Tie as tie
 
@@ -32,7 +32,7 @@ returns c =
     let head = first .before .before .before .before in
     let a = head .before .before .before .args in
     let h = sized (head .put-head .ensures) 4 (head-length _ _) in
-    let last = one-laid writeTarget (to (a .weight) (a .other)) (second .put-target2 .ensures) in
+    let last = single-laid writeTarget (to (a .weight) (a .other)) (second .put-target2 .ensures) in
     let both = more-laid writeTarget (to 0 (a .node)) (first .put-target .ensures) _ last in
     hyper-laid (a .v) _ (head .put-head .ensures) both
 

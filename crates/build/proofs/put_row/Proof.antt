@@ -12,7 +12,7 @@ use Rattle.graph.specs.Write.{writeHyper}
 use Rattle.reduction.specs.Built.{to, rowEdges}
 use Rattle.build.specs.Held.{transitionsFrom, heldModel}
 use Rattle.build.specs.Bytes.{hypersBytes, nextEdges}
-use Rattle.build.proofs.Edges.{single-length, pair-length, one-laid, more-laid, hypers-more, first-fits, bare-fits, bare-laid, none-laid}
+use Rattle.build.proofs.Edges.{single-length, pair-length, single-laid, more-laid, hypers-more, first-fits, bare-fits, bare-laid, none-laid}
 use Rattle.build.proofs.Nodes.{operand-fits, next-are, own-read}
 use Rattle.build.proofs.put_row.Statement.{statement}
 use Rattle.build.proofs.put_row.Tie as tie
@@ -188,7 +188,7 @@ same-length-4 c = search needs
 
 returns-5 : tie.Need-returns-5
 unfolding heldModel
-returns-5 c = let put = c .before .before in rw (put .before .before .before .row3 .given .1) (one-laid writeHyper _ (put .put-pair .ensures))
+returns-5 c = let put = c .before .before in rw (put .before .before .before .row3 .given .1) (single-laid writeHyper _ (put .put-pair .ensures))
 
 same-length-5 : tie.Need-same-length-5
 same-length-5 c = search needs
@@ -199,7 +199,7 @@ returns-6 c =
     let second = c .before .before in
     let one = second .before .before .before .before in
     rw (one .before .before .before .row4 .given .1)
-    (more-laid writeHyper _ (one .put-single .ensures) _ (one-laid writeHyper _ (second .put-single2 .ensures)))
+    (more-laid writeHyper _ (one .put-single .ensures) _ (single-laid writeHyper _ (second .put-single2 .ensures)))
 
 same-length-6 : tie.Need-same-length-6
 same-length-6 c = search needs

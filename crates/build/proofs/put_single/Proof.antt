@@ -5,7 +5,7 @@ use borrow.Author.Needs.{needs}
 use Rattle.wire.proofs.Laid.{sized}
 use Rattle.graph.specs.Write.{writeTarget}
 use Rattle.reduction.specs.Built.{to}
-use Rattle.build.proofs.Edges.{head-length, one-laid, hyper-laid}
+use Rattle.build.proofs.Edges.{head-length, single-laid, hyper-laid}
 use Rattle.build.proofs.put_single.Statement.{statement}
 use Rattle.build.proofs.put_single.Tie as tie
 
@@ -23,7 +23,7 @@ returns c =
     let target = c .before .before in
     let head = target .before .before .before .before in
     let a = head .before .before .before .args in
-    hyper-laid (a .v) (to 0 (a .node) ∷ []) (head .put-head .ensures) (one-laid writeTarget (to 0 (a .node)) (target .put-target .ensures))
+    hyper-laid (a .v) (to 0 (a .node) ∷ []) (head .put-head .ensures) (single-laid writeTarget (to 0 (a .node)) (target .put-target .ensures))
 
 pub put-single-spec : {M : Type 1} → statement M
 put-single-spec = tie.close (tie.spec put-head-requires put-target-requires same-length returns)
