@@ -1,6 +1,6 @@
 -- The text of a row is made of the texts of its operands. Assumes nothing.
-use Prim.Native.Nat.{ℕ, _+_, _*_, _<_}
-use mathlib.Core.List.{List, _++_, append-assoc}
+use Prim.Native.Nat.{ℕ, _+_, _*_, _<_, _≤_}
+use mathlib.Core.List.{List, _∷_, _++_, append-assoc, List·Memᴰ·head, List·Memᴰ·tail, List·Memᴰ·not-nil}
 use mathlib.Core.Option.{some}
 use mathlib.Core.Path.{_≡_, refl, ap, _∙_}
 use native.Mathlib.Omega.{arith}
@@ -64,6 +64,21 @@ length-made (Or l r) t = simp length-append (omega arith)
 length-made (Next q l b) t = simp (length-append, one-byte) (omega arith)
 length-made (Until q l r b) t = simp (length-append, one-byte) (omega arith)
 
+among : (n : ℕ → ℕ) {k l x : ℕ} {xs : List ℕ} → l ∈ (x ∷ xs) → n x ≤ k → (l ∈ xs → n l ≤ k) → n l ≤ k
+among n (List·Memᴰ·head e) h f = rw e h
+among n (List·Memᴰ·tail m) h f = f m
+
+-- no operand's is longer
+operand-short : (row : Row) (n : ℕ → ℕ) (l : ℕ) → l ∈ operands row → n l ≤ madeLength row n
+operand-short True n l m = absurd (List·Memᴰ·not-nil m)
+operand-short False n l m = absurd (List·Memᴰ·not-nil m)
+operand-short (Proposition i) n l m = absurd (List·Memᴰ·not-nil m)
+operand-short (Negation i) n l m = absurd (List·Memᴰ·not-nil m)
+operand-short (And x y) n l m = among n m (omega arith) (λ o. among n o (omega arith) (λ p. absurd (List·Memᴰ·not-nil p)))
+operand-short (Or x y) n l m = among n m (omega arith) (λ o. among n o (omega arith) (λ p. absurd (List·Memᴰ·not-nil p)))
+operand-short (Next q x b) n l m = among n m (omega arith) (λ o. absurd (List·Memᴰ·not-nil o))
+operand-short (Until q x y b) n l m = among n m (omega arith) (λ o. among n o (omega arith) (λ p. absurd (List·Memᴰ·not-nil p)))
+
 text-grow : (row : Row) (φ : ℕ → Formula) → text (grow (some row) φ) ≡ made row (λ l. text (φ l))
 unfolding text
 text-grow True φ = refl
@@ -79,6 +94,7 @@ text-grow (Until q l r b) φ = simp append-assoc
 pub record Operand (s : List ℕ) (i l : ℕ) : Type 0 where
   pub earlier : l < i
   pub ready : Ready s l
+  pub shorter : length (rowText s l) ≤ length (rowText s i)
 
 module _ {s : List ℕ} {i : ℕ} (ready : Ready s i) where
   module _ {row : Row} (e : rowAt s (7 + i * 8) ≡ row) where
@@ -99,4 +115,5 @@ module _ {s : List ℕ} {i : ℕ} (ready : Ready s i) where
         record {
           earlier = lower;
           ready = record { there = omega (arith, ready .there); earlier = ready .earlier };
+          shorter = omega (arith, row-long, operand-short row (λ l. length (rowText s l)) l inside);
         }

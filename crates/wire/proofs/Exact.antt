@@ -153,6 +153,7 @@ message-rest v k rest =
 pub record Started (s : List ℕ) (header v k : ℕ) : Type 0 where
   pub whole : s ≡ message v k (drop 6 s)
   pub header-fits : header ≤ length s
+  pub start-fits : 6 ≤ length s
   pub length-fits : length s < 2 ^ 32
 
 pub start-reads : {s : List ℕ} (header v k : ℕ) → Bytes s → readStart s header v k ≡ good tt → Started s header v k
@@ -175,6 +176,7 @@ start-reads {s} header v k b e =
     record {
       whole = parts ∙ sym (message-fields v k (drop 6 s) (version-there .1) (kind-there .1) ∙ ap (λ (n : ℕ). startOf n v k ++ drop 6 s) rest);
       header-fits = leb-true _ _ (long .0);
+      start-fits = inside;
       length-fits = total-there .1;
     }
 
