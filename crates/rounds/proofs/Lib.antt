@@ -6,7 +6,7 @@
 --     Promised   what the customer is promised follows from the definitions
 --     Laws       one answer, two budgets that settle, when BUDGET is given
 --     Budget     BUDGET has its number to itself
---     Begin      an accepted message is ready for the rounds
+--     Begin      an accepted message is ready for the rounds, and so is the writing of a well-formed graph
 pub mod Room
 pub mod Scan
 pub mod Next
