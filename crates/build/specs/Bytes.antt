@@ -57,6 +57,14 @@ abbrev pub helperList : (n a : ℕ) → Quantifier → (l r h : ℕ) → List Tr
 helperList n a Some l r h us = (to 0 (a + n * r) ∷ []) ∷ someSteps us (a + n * l) (n * h)
 helperList n a Every l r h us = (to 0 (a + n * r) ∷ []) ∷ (to 0 (a + n * l) ∷ everySteps us (n * h)) ∷ []
 
+-- what an until writes for a transition of this weight to this node of a helper, and what for those of a list
+unfoldable pub stepBytes : Quantifier → (v left weight node : ℕ) → List ℕ
+stepBytes Some v left weight node = writeHyper (hyper v (to 0 left ∷ to weight node ∷ []))
+stepBytes Every v left weight node = writeTarget (to weight node)
+
+abbrev pub stepsBytes : Quantifier → (v left shift : ℕ) → List Transition → List ℕ
+stepsBytes q v left shift us = writeAll (λ u. stepBytes q v left (u .weight) (u .to + shift)) us
+
 -- a row's nodes, all rows' nodes from place r on, an until row's helpers, all helpers
 unfoldable pub rowBytes : Model → ℕ → Row → List ℕ
 rowBytes M r row = writeAll writeHyper (span (λ a. map (hyper (a + M .states * r)) (rowEdges M row a)) 0 (M .states))
