@@ -96,8 +96,8 @@ module _ (m : List ℕ) (n : ℕ) (one : Transition → List ℕ) where
         parts = rw (weight-is, to-is) (ap (writeAll one) here)
 
         -- what one makes of it fits
-        pub next-fits : (k : ℕ) → length made ≡ k → next + k ≤ length b′
-        next-fits k e = omega (arith, left-fits (f .left) made _ parts)
+        pub next-fits : next + length made ≤ length b′
+        next-fits = left-fits (f .left) made _ parts
 
         -- and once that is laid in, the others are left
         pub next-filled : {b″ : List ℕ} {end : ℕ} → Laid b′ next made b″ end → Filling b at whole b″ end (p + 8) (i - 1)

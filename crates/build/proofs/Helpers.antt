@@ -26,12 +26,11 @@ use Rattle.formula.specs.declared.Row.the-variants.{Until}
 use Rattle.formula.specs.Layouts.{rowAt, rowLayout}
 use Rattle.reduction.specs.Built.{to, hyper, stepEdges, helperEdges, isUntil, untils, layout}
 use Rattle.build.specs.Held.{transitionLayout, transitionsFrom, heldModel, heldRows, HoldsModel, HoldsRows, Own}
-use Rattle.build.specs.Bytes.{hypersBytes, someSteps, everySteps, helperList, helperBytes, helpersBytes, Narrow, HelpersFit}
+use Rattle.build.specs.Bytes.{hypersBytes, someSteps, everySteps, helperList, stepBytes, stepsBytes, helperBytes, helpersBytes, Narrow, HelpersFit}
 use Rattle.build.proofs.Accepted.{out-own}
-use Rattle.wire.proofs.Written.{writeAll-append}
 use Rattle.build.proofs.Edges.{single-length, hypers-more, hypers-one, first-fits}
 use Rattle.build.proofs.Nodes.{helper-are}
-use Rattle.wire.proofs.Written.{span-written}
+use Rattle.wire.proofs.Written.{writeAll-append, writeAll-map, span-written}
 
 -- ---- the helper of a state
 
@@ -52,6 +51,16 @@ pub steps-count : (m : List ℕ) (n first many shift : ℕ) (left : Target) → 
 steps-count m n first many shift left =
     let us = transitionsFrom m n first many in
     omega (arith, length-map us (λ u. to (u .weight) (u .to + shift)), items-length (transitionLayout m) many (13 + n * 4 + first * 8))
+
+-- what is written for transitions is the hyperedges of an E until, or the targets of that of an A until
+module _ {q : Quantifier} (v left shift : ℕ) (us : List Transition) where
+  pub some-stepped : q ≡ Some → hypersBytes v (someSteps us left shift) ≡ stepsBytes q v left shift us
+  unfolding stepBytes
+  some-stepped e = rw e (simp writeAll-map)
+
+  pub every-stepped : q ≡ Every → writeAll writeTarget (everySteps us shift) ≡ stepsBytes q v left shift us
+  unfolding stepBytes
+  every-stepped e = rw e (simp writeAll-map)
 
 -- a state of a narrow model has not too many transitions
 pub own-narrow : {m : List ℕ} {n p t a first many : ℕ} → HoldsModel m n p t → Own m n t a first many → Narrow (heldModel m n p t) → many < 65535

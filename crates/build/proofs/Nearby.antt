@@ -11,17 +11,25 @@ use lib.Dec.{leb}
 use lib.Seq.{length-take-le, take-at, drop-drop, drop-append-add}
 use borrow.Author.Tests.{le-leb, lt-leb}
 use Rattle.lists.specs.Making.{keep}
+use Rattle.value.specs.declared.Bound.{Bound}
+use Rattle.value.specs.Value.{inside}
 use Rattle.wire.specs.Bytes.{number}
 use Rattle.wire.specs.Laid.{laid, Laid}
 use Rattle.wire.specs.Layout.{items}
 use Rattle.wire.specs.Write.{writeAll}
 use Rattle.wire.proofs.Exact.{length-writeAll}
 use Rattle.wire.proofs.Laid.{Left, none-left, same-length, nothing, said}
-use Rattle.wire.proofs.Written.{writeAll-keep}
+use Rattle.wire.proofs.Written.{writeAll-map, writeAll-keep}
+use Rattle.graph.specs.Write.{writeTarget}
+use Rattle.graph.proofs.Exact.{target-length}
 use Rattle.model.specs.Model.{Transition}
+use Rattle.formula.specs.declared.Quantifier.{Quantifier}
+use Rattle.formula.specs.declared.Quantifier.the-variants.{Some, Every}
+use Rattle.reduction.specs.Built.{to}
 use Rattle.build.specs.Held.{transitionLayout}
+use Rattle.build.specs.Bytes.{hypersBytes, someNext, everyNext, nearBytes, nearWidth, nearbyBytes}
 use Rattle.build.proofs.Counting.{passing-le}
-use Rattle.build.proofs.Edges.{Filling, next-filled}
+use Rattle.build.proofs.Edges.{single-length, Filling, next-filled}
 
 -- ---- what is laid in where the rest belongs is laid over by it
 
@@ -48,6 +56,25 @@ left-over {b′ = b′} {next} {rest} {s} l m short = record {
   length-is = same-length m ∙ l .length-is;
   whole-fits = l .whole-fits;
 }
+
+-- ---- what EX and AX write for transitions
+
+-- how long it is for one
+pub near-long : (q : Quantifier) (v node : ℕ) → length (nearBytes q v node) ≡ nearWidth q
+unfolding nearBytes nearWidth
+near-long Some v node = single-length v (to 0 node)
+near-long Every v node = target-length (to 0 node)
+
+-- for those within a bound it is the hyperedges of EX, or the targets of that of AX
+module _ {q : Quantifier} (v most shift : ℕ) (us : List Transition) (b : Bound)
+    (kept : keep (λ u. inside b (u .weight)) us ≡ keep (λ u. leb (u .weight) most) us) where
+  pub some-nearby : q ≡ Some → hypersBytes v (someNext us b shift) ≡ nearbyBytes q v most shift us
+  unfolding nearBytes
+  some-nearby e = rw e (simp writeAll-map (ap (writeAll (λ u. nearBytes Some v (u .to + shift))) kept))
+
+  pub every-nearby : q ≡ Every → writeAll writeTarget (everyNext us b shift) ≡ nearbyBytes q v most shift us
+  unfolding nearBytes
+  every-nearby e = rw e (simp writeAll-map (ap (writeAll (λ u. nearBytes Every v (u .to + shift))) kept))
 
 -- ---- the loop
 

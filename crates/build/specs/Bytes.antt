@@ -2,13 +2,14 @@
 use Prim.Native.Nat.{ℕ, suc, _+_, _*_, _≤_, _<_}
 use mathlib.Core.List.{List, [], _∷_, _++_, map}
 use lib.ListN.{length}
+use lib.Dec.{leb}
 use Rattle.lists.specs.Lists.{_∈_}
 use Rattle.lists.specs.Making.{keep, span}
 use Rattle.value.specs.declared.Bound.{Bound}
 use Rattle.value.specs.Value.{inside}
 use Rattle.wire.specs.Bytes.{bytes}
 use Rattle.wire.specs.Write.{writeAll}
-use Rattle.graph.specs.Write.{writeHyper, writeCover}
+use Rattle.graph.specs.Write.{writeTarget, writeHyper, writeCover}
 use Rattle.rules.specs.Graph.{Target}
 use Rattle.model.specs.Model.{Model, Transition}
 use Rattle.formula.specs.declared.Quantifier.{Quantifier}
@@ -39,10 +40,30 @@ abbrev pub nextEdges : Quantifier → List Transition → Bound → ℕ → List
 nextEdges Some us b shift = someNext us b shift
 nextEdges Every us b shift = everyNext us b shift ∷ []
 
+-- what EX or AX writes for a transition to this node, how long that is, and what it writes for those of a list within a bound
+unfoldable pub nearBytes : Quantifier → (v node : ℕ) → List ℕ
+nearBytes Some v node = writeHyper (hyper v (to 0 node ∷ []))
+nearBytes Every v node = writeTarget (to 0 node)
+
+unfoldable pub nearWidth : Quantifier → ℕ
+nearWidth Some = 10
+nearWidth Every = 6
+
+abbrev pub nearbyBytes : Quantifier → (v most shift : ℕ) → List Transition → List ℕ
+nearbyBytes q v most shift us = writeAll (λ u. nearBytes q v (u .to + shift)) (keep (λ u. leb (u .weight) most) us)
+
 -- the helper of state a at place h over a list of transitions: first {right at weight 0}
 abbrev pub helperList : (n a : ℕ) → Quantifier → (l r h : ℕ) → List Transition → List (List Target)
 helperList n a Some l r h us = (to 0 (a + n * r) ∷ []) ∷ someSteps us (a + n * l) (n * h)
 helperList n a Every l r h us = (to 0 (a + n * r) ∷ []) ∷ (to 0 (a + n * l) ∷ everySteps us (n * h)) ∷ []
+
+-- what an until writes for a transition of this weight to this node of a helper, and what for those of a list
+unfoldable pub stepBytes : Quantifier → (v left weight node : ℕ) → List ℕ
+stepBytes Some v left weight node = writeHyper (hyper v (to 0 left ∷ to weight node ∷ []))
+stepBytes Every v left weight node = writeTarget (to weight node)
+
+abbrev pub stepsBytes : Quantifier → (v left shift : ℕ) → List Transition → List ℕ
+stepsBytes q v left shift us = writeAll (λ u. stepBytes q v left (u .weight) (u .to + shift)) us
 
 -- a row's nodes, all rows' nodes from place r on, an until row's helpers, all helpers
 unfoldable pub rowBytes : Model → ℕ → Row → List ℕ

@@ -7,16 +7,14 @@ ghost use lib.ListN.{length};
 ghost use lib.Dec.{leb};
 ghost use Rattle.lists.specs.Making.{keep, span};
 ghost use Rattle.value.specs.Value.{inside};
-ghost use Rattle.value.specs.declared.Bound.the-variants.{Within};
 ghost use Rattle.wire.specs.Bytes.{bytes};
 ghost use Rattle.wire.specs.Laid.{laid, Laid};
-ghost use Rattle.wire.specs.Write.{writeAll};
 ghost use Rattle.graph.specs.Write.{writeTarget, writeHyper, writeGraph};
 ghost use Rattle.model.specs.Model as model;
 ghost use Rattle.reduction.specs.Built as built;
 ghost use Rattle.build.specs.Held.{transitionsFrom, heldModel, heldRows, HoldsModel, HoldsRows, Starts, Own, Reads, RiseFrom, leading};
 ghost use Rattle.build.specs.Size.{inLimits, addSize, sizeOf, stateEdges, rowsEdges, leafEdges, nextSize, helperSize};
-ghost use Rattle.build.specs.Bytes.{hypersBytes, someNext, everyNext, someSteps, everySteps, nextEdges, helperList, rowBytes, rowsBytes, helperBytes, helpersBytes, coverBytes, coversOf, headerBytes, RowFits, Narrow, HelpersFit};
+ghost use Rattle.build.specs.Bytes.{hypersBytes, nearBytes, nearWidth, nearbyBytes, stepBytes, stepsBytes, nextEdges, helperList, rowBytes, rowsBytes, helperBytes, helpersBytes, coverBytes, coversOf, headerBytes, RowFits, Narrow, HelpersFit};
 ghost use Rattle.build.specs.Built.{builtNumber, builtLength, builtOf, roomOf, Writable};
 use formula::Quantifier;
 use formula::Row;
@@ -400,13 +398,35 @@ fn put_pair(room: &mut [u8], at: usize, v: u32, node: u32, weight: u32, other: u
     put_target(room, second, weight, other)
 }
 
-// EX: a hyperedge for each of these transitions within the bound, near of them, with the successor's node, shift further on. That of
+// What EX or AX writes for a transition: a hyperedge with the successor's node, or that node as a target.
+fn put_near(room: &mut [u8], at: usize, q: Quantifier, v: u32, node: u32) -> usize
+    requires { ⌜ at + nearWidth q ≤ length (now room) ⌝ }
+    ensures { λ r. ⌜ Laid (now (room .entry)) at (nearBytes q v node) (now (room .exit)) r ⌝ }
+{
+    match q {
+        Quantifier::Some => put_single(room, at, v, node),
+        Quantifier::Every => put_target(room, at, 0, node),
+    }
+}
+
+// How many bytes that takes.
+fn near_width(q: Quantifier) -> usize
+    ensures { λ r. ⌜ r ≡ nearWidth q ⌝ }
+{
+    match q {
+        Quantifier::Some => 10,
+        Quantifier::Every => 6,
+    }
+}
+
+// What EX or AX writes for each of these transitions within the bound, near of them; a successor's node stands shift further on. That of
 // every transition is written where the next one belongs, and stays there if it is within the bound: no jump waits for a weight.
-fn put_some_next(
+fn put_nearby(
     room: &mut [u8],
     at: usize,
     m: &[u8],
     n: u32,
+    q: Quantifier,
     v: u32,
     first: u32,
     many: u32,
@@ -416,11 +436,11 @@ fn put_some_next(
 ) -> usize
     requires { ⌜ Reads (now m) n first many shift ⌝ }
     requires { ⌜ near ≡ length (keep (λ u. leb (u .weight) most) (transitionsFrom (now m) n first many)) ⌝ }
-    requires { ⌜ at + length (hypersBytes v (someNext (transitionsFrom (now m) n first many) (Within most) shift)) ≤ length (now room) ⌝ }
-    ensures { λ r. ⌜ Laid (now (room .entry)) at (hypersBytes v (someNext (transitionsFrom (now (m .entry)) n first many) (Within most) shift))
-        (now (room .exit)) r ⌝ }
+    requires { ⌜ at + length (nearbyBytes q v most shift (transitionsFrom (now m) n first many)) ≤ length (now room) ⌝ }
+    ensures { λ r. ⌜ Laid (now (room .entry)) at (nearbyBytes q v most shift (transitionsFrom (now (m .entry)) n first many)) (now (room .exit)) r ⌝ }
 {
-    let end = at + (near as usize) * 10;
+    let width = near_width(q);
+    let end = at + (near as usize) * width;
     let mut next = at;
     let mut p = transition_at(n, first);
     let mut i = many;
@@ -429,7 +449,7 @@ fn put_some_next(
         let to = wire::number_at(m, p + 6, Width::Two);
         p += 8;
         i -= 1;
-        let past = put_single(room, next, v, to + shift);
+        let past = put_near(room, next, q, v, to + shift);
         if weight <= most {
             next = past;
         }
@@ -437,47 +457,32 @@ fn put_some_next(
     next
 }
 
-// AX: the targets for each of these transitions within the bound, near of them, written in the same way.
-fn put_every_next(
+// What an until's helper writes for a transition: a hyperedge with left and the successor's helper, or that helper as a target.
+fn put_step(
     room: &mut [u8],
     at: usize,
-    m: &[u8],
-    n: u32,
-    first: u32,
-    many: u32,
-    near: u64,
-    most: u32,
-    shift: u32,
+    q: Quantifier,
+    v: u32,
+    left: u32,
+    weight: u32,
+    node: u32,
 ) -> usize
-    requires { ⌜ Reads (now m) n first many shift ⌝ }
-    requires { ⌜ near ≡ length (keep (λ u. leb (u .weight) most) (transitionsFrom (now m) n first many)) ⌝ }
-    requires { ⌜ at + length (writeAll writeTarget (everyNext (transitionsFrom (now m) n first many) (Within most) shift)) ≤ length (now room) ⌝ }
-    ensures { λ r. ⌜ Laid (now (room .entry)) at (writeAll writeTarget (everyNext (transitionsFrom (now (m .entry)) n first many) (Within most) shift))
-        (now (room .exit)) r ⌝ }
+    requires { ⌜ at + length (stepBytes q v left weight node) ≤ length (now room) ⌝ }
+    ensures { λ r. ⌜ Laid (now (room .entry)) at (stepBytes q v left weight node) (now (room .exit)) r ⌝ }
 {
-    let end = at + (near as usize) * 6;
-    let mut next = at;
-    let mut p = transition_at(n, first);
-    let mut i = many;
-    while next < end {
-        let weight = wire::number_at(m, p + 2, Width::Four);
-        let to = wire::number_at(m, p + 6, Width::Two);
-        p += 8;
-        i -= 1;
-        let past = put_target(room, next, 0, to + shift);
-        if weight <= most {
-            next = past;
-        }
+    match q {
+        Quantifier::Some => put_pair(room, at, v, left, weight, node),
+        Quantifier::Every => put_target(room, at, weight, node),
     }
-    next
 }
 
-// E until: a hyperedge for each of these transitions, with left and the successor's helper.
-fn put_some_steps(
+// What an until's helper writes for each of these transitions.
+fn put_steps(
     room: &mut [u8],
     at: usize,
     m: &[u8],
     n: u32,
+    q: Quantifier,
     v: u32,
     first: u32,
     many: u32,
@@ -485,9 +490,8 @@ fn put_some_steps(
     shift: u32,
 ) -> usize
     requires { ⌜ Reads (now m) n first many shift ⌝ }
-    requires { ⌜ at + length (hypersBytes v (someSteps (transitionsFrom (now m) n first many) left shift)) ≤ length (now room) ⌝ }
-    ensures { λ r. ⌜ Laid (now (room .entry)) at (hypersBytes v (someSteps (transitionsFrom (now (m .entry)) n first many) left shift))
-        (now (room .exit)) r ⌝ }
+    requires { ⌜ at + length (stepsBytes q v left shift (transitionsFrom (now m) n first many)) ≤ length (now room) ⌝ }
+    ensures { λ r. ⌜ Laid (now (room .entry)) at (stepsBytes q v left shift (transitionsFrom (now (m .entry)) n first many)) (now (room .exit)) r ⌝ }
 {
     let mut next = at;
     let mut p = transition_at(n, first);
@@ -495,35 +499,7 @@ fn put_some_steps(
     while 0 < i {
         let weight = wire::number_at(m, p + 2, Width::Four);
         let to = wire::number_at(m, p + 6, Width::Two);
-        next = put_pair(room, next, v, left, weight, to + shift);
-        p += 8;
-        i -= 1;
-    }
-    next
-}
-
-// A until: the successors' helpers as targets.
-fn put_every_steps(
-    room: &mut [u8],
-    at: usize,
-    m: &[u8],
-    n: u32,
-    first: u32,
-    many: u32,
-    shift: u32,
-) -> usize
-    requires { ⌜ Reads (now m) n first many shift ⌝ }
-    requires { ⌜ at + length (writeAll writeTarget (everySteps (transitionsFrom (now m) n first many) shift)) ≤ length (now room) ⌝ }
-    ensures { λ r. ⌜ Laid (now (room .entry)) at (writeAll writeTarget (everySteps (transitionsFrom (now (m .entry)) n first many) shift))
-        (now (room .exit)) r ⌝ }
-{
-    let mut next = at;
-    let mut p = transition_at(n, first);
-    let mut i = many;
-    while 0 < i {
-        let weight = wire::number_at(m, p + 2, Width::Four);
-        let to = wire::number_at(m, p + 6, Width::Two);
-        next = put_target(room, next, weight, to + shift);
+        next = put_step(room, next, q, v, left, weight, to + shift);
         p += 8;
         i -= 1;
     }
@@ -562,10 +538,10 @@ fn put_next(
     let near = near_count(m, n, first, many, bound);
     let most = bound.code();
     match q {
-        Quantifier::Some => put_some_next(room, at, m, n, v, first, many, near, most, shift),
+        Quantifier::Some => put_nearby(room, at, m, n, q, v, first, many, near, most, shift),
         Quantifier::Every => {
             let targets = put_head(room, at, v, near as u32);
-            put_every_next(room, targets, m, n, first, many, near, most, shift)
+            put_nearby(room, targets, m, n, q, v, first, many, near, most, shift)
         }
     }
 }
@@ -696,11 +672,11 @@ fn put_helper(
     let shift = n * h;
     let second = put_single(room, at, v, a + n * k);
     match q {
-        Quantifier::Some => put_some_steps(room, second, m, n, v, first, many, left, shift),
+        Quantifier::Some => put_steps(room, second, m, n, q, v, first, many, left, shift),
         Quantifier::Every => {
             let head = put_head(room, second, v, many + 1);
             let targets = put_target(room, head, 0, left);
-            put_every_steps(room, targets, m, n, first, many, shift)
+            put_steps(room, targets, m, n, q, v, first, many, left, shift)
         }
     }
 }

@@ -1,7 +1,7 @@
 -- `build::put_helper` meets its contract: the hyperedge to right, and behind it those of the steps.
 use Prim.Native.Nat.{ℕ, _+_, _*_, _≤_}
 use mathlib.Core.List.{List, [], _∷_, _++_, map}
-use mathlib.Core.Path.{refl, ap}
+use mathlib.Core.Path.{_≡_, refl, ap, subst}
 use denote.Ref.{now}
 use native.Mathlib.Omega.{arith}
 use lib.ListN.{length, length-append}
@@ -15,10 +15,10 @@ use Rattle.graph.specs.Write.{writeTarget, writeHyper}
 use Rattle.model.specs.Model.{Transition}
 use Rattle.reduction.specs.Built.{to, hyper}
 use Rattle.build.specs.Held.{transitionsFrom}
-use Rattle.build.specs.Bytes.{someSteps, everySteps}
+use Rattle.build.specs.Bytes.{hypersBytes, someSteps, everySteps, stepsBytes}
 use Rattle.graph.proofs.Exact.{target-length}
 use Rattle.build.proofs.Edges.{head-length, hypers-more, single-laid, more-laid, hyper-laid}
-use Rattle.build.proofs.Helpers.{right-fits, every-parts, steps-count}
+use Rattle.build.proofs.Helpers.{right-fits, every-parts, steps-count, some-stepped, every-stepped}
 use Rattle.build.proofs.put_helper.Statement.{statement}
 use Rattle.build.proofs.put_helper.Tie as tie
 
@@ -75,18 +75,29 @@ put-single-requires c κs =
 enum-told : tie.Need-enum-told
 enum-told c = search needs
 
-put-some-steps-requires : tie.Need-put-some-steps-requires
-put-some-steps-requires c κs =
+-- what is written for the transitions: the steps of an E until
+some-bytes : (c : tie.After-enum-told) → let s = c .before .before .before .before .before .before .before .before in let a = s .args in
+    hypersBytes (node s) (jumps s) ≡ stepsBytes (a .q) (node s) (a .a + a .n * a .l) (a .n * a .h) (own s)
+some-bytes c = some-stepped _ _ _ _ (c .enum-told .given .1)
+
+put-steps-requires : tie.Need-put-steps-requires
+put-steps-requires c κs =
     let told = c .before in
     let put = told .before .before .before .before in
     let s = put .before .before .before .before in
-    (s .pre .0, fits (put .put-single .ensures) _ (rw (hypers-more (node s) (right s ∷ []) (jumps s)) at (rw (told .enum-told .given .1) at (s .pre .1 .1))))
+    let steps-fit = fits (put .put-single .ensures) _ (rw (hypers-more (node s) (right s ∷ []) (jumps s)) at (rw (told .enum-told .given .1) at (s .pre .1 .1))) in
+    (s .pre .0, subst (λ (w : List ℕ). put .put-single .result + length w ≤ length (put .put-single .last .0)) (some-bytes told) steps-fit)
 
 enum-told-2 : tie.Need-enum-told-2
 enum-told-2 c = search needs
 
 add-put-head : tie.Need-add-put-head
 add-put-head c = search needs
+
+-- or those of an A until
+every-bytes : (c : tie.After-enum-told2) → let s = c .before .before .before .before .before .before .before .before in let a = s .args in
+    writeAll writeTarget (steps s) ≡ stepsBytes (a .q) (node s) (a .a + a .n * a .l) (a .n * a .h) (own s)
+every-bytes c = every-stepped _ _ _ _ (c .enum-told2 .given .1)
 
 -- the second hyperedge fits behind the first, and its targets behind its head
 second-fits : (c : tie.After-enum-told2) →
@@ -123,11 +134,13 @@ put-target-requires c κs =
     let s = put .before .before .before .before .before .before .before .before .before .before in
     omega (arith, targets-fit put, target-length (left s), length-append (writeTarget (left s)) (writeAll writeTarget (steps s)))
 
-put-every-steps-requires : tie.Need-put-every-steps-requires
-put-every-steps-requires c κs =
+put-steps-requires-2 : tie.Need-put-steps-requires-2
+put-steps-requires-2 c κs =
     let put = c .before .before .before in
     let head = put .before .before .before .before in
-    (head .before .before .before .before .before .before .before .before .before .before .pre .0, fits (put .put-target .ensures) _ (targets-fit head))
+    let told = head .before .before in
+    let steps-fit = fits (put .put-target .ensures) _ (targets-fit head) in
+    (told .before .before .before .before .before .before .before .before .pre .0, subst (λ (w : List ℕ). put .put-target .result + length w ≤ length (put .put-target .last .0)) (every-bytes told) steps-fit)
 
 same-length : tie.Need-same-length
 same-length c = search needs
@@ -139,7 +152,7 @@ returns c =
     let put = told .before .before .before .before in
     let s = put .before .before .before .before in
     rw (told .enum-told .given .1)
-    (more-laid writeHyper (hyper (node s) (right s ∷ [])) (put .put-single .ensures) (map (hyper (node s)) (jumps s)) (steps .put-some-steps .ensures))
+    (more-laid writeHyper (hyper (node s) (right s ∷ [])) (put .put-single .ensures) (map (hyper (node s)) (jumps s)) (said (steps .put-steps .ensures) (some-bytes told) refl refl))
 
 same-length-2 : tie.Need-same-length-2
 same-length-2 c = search needs
@@ -152,7 +165,7 @@ returns-2 c =
     let told = head .before .before in
     let first = told .before .before .before .before in
     let s = first .before .before .before .before in
-    let targets = more-laid writeTarget (left s) (target .put-target .ensures) (steps s) (put .put-every-steps .ensures) in
+    let targets = more-laid writeTarget (left s) (target .put-target .ensures) (steps s) (said (put .put-steps2 .ensures) (every-bytes told) refl refl) in
     let second = hyper-laid (node s) (left s ∷ steps s) (head-laid head) targets in
     rw (told .enum-told2 .given .1)
     (more-laid writeHyper _ (first .put-single .ensures) _ (single-laid writeHyper (hyper (node s) (left s ∷ steps s)) second))
@@ -170,12 +183,12 @@ put-helper-spec =
     add-put-single
     put-single-requires
     enum-told
-    put-some-steps-requires
+    put-steps-requires
     enum-told-2
     add-put-head
     put-head-requires
     put-target-requires
-    put-every-steps-requires
+    put-steps-requires-2
     same-length
     returns
     same-length-2

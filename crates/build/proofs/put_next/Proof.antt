@@ -1,6 +1,6 @@
 -- `build::put_next` meets its contract: a hyperedge for each transition, or a head with all their targets behind it.
 use Prim.Native.Nat.{ℕ, _+_, _*_, _≤_}
-use mathlib.Core.List.{List, [], _∷_, _++_, map}
+use mathlib.Core.List.{List, _++_}
 use mathlib.Core.Path.{_≡_, refl, sym, ap, subst, _∙_}
 use denote.Ref.{now}
 use native.Mathlib.Omega.{arith}
@@ -9,7 +9,6 @@ use lib.Dec.{leb}
 use borrow.Author.Needs.{needs}
 use Rattle.lists.specs.Making.{keep}
 use Rattle.value.specs.Value.{inside}
-use Rattle.value.specs.declared.Bound.the-variants.{Within}
 use Rattle.wire.specs.Bytes.{bytes, Bytes}
 use Rattle.wire.specs.Laid.{Laid}
 use Rattle.wire.specs.Write.{writeAll}
@@ -17,11 +16,12 @@ use Rattle.wire.proofs.Laid.{fits, said}
 use Rattle.rules.specs.Graph.{Target}
 use Rattle.graph.specs.Write.{writeTarget, writeHyper}
 use Rattle.model.specs.Model.{Transition}
-use Rattle.reduction.specs.Built.{to, hyper}
+use Rattle.reduction.specs.Built.{hyper}
 use Rattle.build.specs.Held.{transitionLayout, transitionsFrom}
-use Rattle.build.specs.Bytes.{hypersBytes, someNext, everyNext}
+use Rattle.build.specs.Bytes.{hypersBytes, someNext, everyNext, nearbyBytes}
 use Rattle.build.proofs.Counting.{passing-le, coded-keep}
 use Rattle.build.proofs.Edges.{head-length, hypers-one, single-laid, hyper-laid, every-count}
+use Rattle.build.proofs.Nearby.{some-nearby, every-nearby}
 use Rattle.build.proofs.put_next.Statement.{statement}
 use Rattle.build.proofs.put_next.Tie as tie
 
@@ -51,26 +51,28 @@ kept c = coded-keep _ (bytes-are c) (start c .args .bound) _ _ ∙ ap (λ (most 
 many-are : (c : tie.After-code) → c .before .near-count .result ≡ length (keep (λ u. leb (u .weight) (c .code .result)) (own (start c)))
 many-are c = c .before .near-count .ensures ∙ ap length (kept c)
 
-some-bytes : (c : tie.After-code) → let a = start c .args in
-    hypersBytes (a .v) (someNext (own (start c)) (a .bound) (a .shift)) ≡ hypersBytes (a .v) (someNext (own (start c)) (Within (c .code .result)) (a .shift))
-some-bytes c = let a = start c .args in ap (λ (l : List Transition). hypersBytes (a .v) (map (λ u. to 0 (u .to + a .shift) ∷ []) l)) (kept c)
-
-every-bytes : (c : tie.After-code) →
-    writeAll writeTarget (targets (start c)) ≡ writeAll writeTarget (everyNext (own (start c)) (Within (c .code .result)) (start c .args .shift))
-every-bytes c = let a = start c .args in ap (λ (l : List Transition). writeAll writeTarget (map (λ u. to 0 (u .to + a .shift)) l)) (kept c)
-
 enum-told : tie.Need-enum-told
 enum-told c = search needs
 
-put-some-next-requires : tie.Need-put-some-next-requires
-put-some-next-requires c κs =
+-- what is written for them: the hyperedges of EX
+some-bytes : (c : tie.After-enum-told) → let code = c .before .before in let a = start code .args in
+    hypersBytes (a .v) (someNext (own (start code)) (a .bound) (a .shift)) ≡ nearbyBytes (a .q) (a .v) (code .code .result) (a .shift) (own (start code))
+some-bytes c = some-nearby _ _ _ _ (start (c .before .before) .args .bound) (kept (c .before .before)) (c .enum-told .given .1)
+
+put-nearby-requires : tie.Need-put-nearby-requires
+put-nearby-requires c κs =
     let told = c .before in
     let code = told .before .before in
     let s = c .before .before .before .before .before .before .before in
-    (s .pre .0, (many-are code, subst (λ (w : List ℕ). s .args .at + length w ≤ length (now (s .args .room))) (some-bytes code) (rw (told .enum-told .given .1) at (s .pre .1))))
+    (s .pre .0, (many-are code, subst (λ (w : List ℕ). s .args .at + length w ≤ length (now (s .args .room))) (some-bytes told) (rw (told .enum-told .given .1) at (s .pre .1))))
 
 enum-told-2 : tie.Need-enum-told-2
 enum-told-2 c = search needs
+
+-- or the targets of that of AX
+every-bytes : (c : tie.After-enum-told2) → let code = c .before .before in let a = start code .args in
+    writeAll writeTarget (targets (start code)) ≡ nearbyBytes (a .q) (a .v) (code .code .result) (a .shift) (own (start code))
+every-bytes c = every-nearby _ _ _ _ (start (c .before .before) .args .bound) (kept (c .before .before)) (c .enum-told2 .given .1)
 
 -- the hyperedge of AX fits
 all-fit : (c : tie.After-enum-told2) → let s = start (c .before .before) in
@@ -98,13 +100,13 @@ head-laid c =
     let count : length (targets s) ≡ code .before .near-count .result = every-count (own s) (s .args .bound) (s .args .shift) ∙ sym (code .before .near-count .ensures) in
     said (c .put-head .ensures) (ap (λ (k : ℕ). bytes 2 (s .args .v) ++ bytes 2 k) count) refl refl
 
-put-every-next-requires : tie.Need-put-every-next-requires
-put-every-next-requires c κs =
+put-nearby-requires-2 : tie.Need-put-nearby-requires-2
+put-nearby-requires-2 c κs =
     let head = c .before .before .before in
     let told = head .before .before in
     let code = told .before .before in
     let targets-fit = fits (head-laid head) _ (all-fit told) in
-    (start code .pre .0, (many-are code, subst (λ (w : List ℕ). head .put-head .result + length w ≤ length (head .put-head .last .0)) (every-bytes code) targets-fit))
+    (start code .pre .0, (many-are code, subst (λ (w : List ℕ). head .put-head .result + length w ≤ length (head .put-head .last .0)) (every-bytes told) targets-fit))
 
 same-length : tie.Need-same-length
 same-length c = search needs
@@ -113,7 +115,7 @@ returns : tie.Need-returns
 returns c =
     let put = c .before .before in
     let told = put .before .before in
-    rw (told .enum-told .given .1) (said (put .put-some-next .ensures) (some-bytes (told .before .before)) refl refl)
+    rw (told .enum-told .given .1) (said (put .put-nearby .ensures) (some-bytes told) refl refl)
 
 same-length-2 : tie.Need-same-length-2
 same-length-2 c = search needs
@@ -125,7 +127,7 @@ returns-2 c =
     let told = head .before .before in
     let code = told .before .before in
     let s = start code in
-    let laid = said (put .put-every-next .ensures) (every-bytes code) refl refl in
+    let laid = said (put .put-nearby2 .ensures) (every-bytes told) refl refl in
     rw (told .enum-told2 .given .1) (single-laid writeHyper (hyper (s .args .v) (targets s)) (hyper-laid (s .args .v) (targets s) (head-laid head) laid))
 
 pub put-next-spec : {M : Type 1} → statement M
@@ -135,11 +137,11 @@ put-next-spec =
     near-count-requires
     code-requires
     enum-told
-    put-some-next-requires
+    put-nearby-requires
     enum-told-2
     cast-put-head
     put-head-requires
-    put-every-next-requires
+    put-nearby-requires-2
     same-length
     returns
     same-length-2

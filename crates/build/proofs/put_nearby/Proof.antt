@@ -1,72 +1,73 @@
--- `build::put_every_next` meets its contract: the targets of the transitions left, those within the bound, make the whole.
+-- `build::put_nearby` meets its contract: what is written for the transitions left, those within the bound, makes the whole.
 use Prim.Native.Nat.{ℕ, _+_, _*_, _<_, _≤_}
 use mathlib.Core.List.{List}
-use mathlib.Core.Path.{_≡_, sym, ap, _∙_}
+use mathlib.Core.Path.{_≡_, sym, ap, ap₂, _∙_}
 use denote.Ref.{now}
 use native.Mathlib.Omega.{arith}
 use lib.ListN.{length}
-use Rattle.value.specs.declared.Bound.the-variants.{Within}
 use Rattle.wire.specs.Write.{writeAll}
-use Rattle.wire.proofs.Written.{writeAll-map, writeAll-keep}
-use Rattle.graph.specs.Write.{writeTarget}
-use Rattle.graph.proofs.Exact.{target-length}
+use Rattle.wire.proofs.Written.{writeAll-keep}
+use Rattle.formula.specs.declared.Quantifier.{Quantifier}
 use Rattle.model.specs.Model.{Transition}
-use Rattle.reduction.specs.Built.{to}
 use Rattle.build.specs.Held.{transitionsFrom}
-use Rattle.build.specs.Bytes.{everyNext}
+use Rattle.build.specs.Bytes.{nearBytes, nearbyBytes}
 use Rattle.build.proofs.Edges.{Filling, filling-all, next-readable, next-named}
-use Rattle.build.proofs.Nearby.{near, near-length, near-none, near-some, near-fits, near-stays, near-goes}
-use Rattle.build.proofs.put_every_next.Statement.{statement}
-use Rattle.build.proofs.put_every_next.Tie as tie
+use Rattle.build.proofs.Nearby.{near-long, near, near-length, near-none, near-some, near-fits, near-stays, near-goes}
+use Rattle.build.proofs.put_nearby.Statement.{statement}
+use Rattle.build.proofs.put_nearby.Tie as tie
 
 -- the bytes of one transition
-abbrev one : ℕ → Transition → List ℕ
-one shift u = writeTarget (to 0 (u .to + shift))
+abbrev one : Quantifier → (v shift : ℕ) → Transition → List ℕ
+one q v shift u = nearBytes q v (u .to + shift)
 
 abbrev Inv-loop : tie.InvT-loop
-Inv-loop room₀ at m n first many close most shift end next₀ p₀ i₀ room next p i =
-    Filling m n (near most (one shift)) room₀ at (writeAll writeTarget (everyNext (transitionsFrom m n first many) (Within most) shift)) room next p i
+Inv-loop room₀ at m n q v first many close most shift width end next₀ p₀ i₀ room next p i =
+    Filling m n (near most (one q v shift)) room₀ at (nearbyBytes q v most shift (transitionsFrom m n first many)) room next p i
 
 abbrev μ-loop : tie.MeasureT-loop
-μ-loop room₀ at m n first many close most shift end next₀ p₀ i₀ room next p i = i
+μ-loop room₀ at m n q v first many close most shift width end next₀ p₀ i₀ room next p i = i
 
 -- what is to be written, transition by transition, and how long that is
 abbrev whole : tie.Start Inv-loop μ-loop → List ℕ
-whole s = let a = s .args in writeAll writeTarget (everyNext (transitionsFrom (now (a .m)) (a .n) (a .first) (a .many)) (Within (a .most)) (a .shift))
+whole s = let a = s .args in nearbyBytes (a .q) (a .v) (a .most) (a .shift) (transitionsFrom (now (a .m)) (a .n) (a .first) (a .many))
 
 whole-is : (s : tie.Start Inv-loop μ-loop) → let a = s .args in
-    whole s ≡ writeAll (near (a .most) (one (a .shift))) (transitionsFrom (now (a .m)) (a .n) (a .first) (a .many))
+    whole s ≡ writeAll (near (a .most) (one (a .q) (a .v) (a .shift))) (transitionsFrom (now (a .m)) (a .n) (a .first) (a .many))
 unfolding near
-whole-is s = simp (writeAll-map, writeAll-keep)
+whole-is s = writeAll-keep _ _ _
 
-whole-long : (s : tie.Start Inv-loop μ-loop) → length (whole s) ≡ s .args .near * 6
-whole-long s =
+near-width-requires : tie.Need-near-width-requires Inv-loop μ-loop
+near-width-requires c κs = tt
+
+whole-long : (c : tie.After-near-width Inv-loop μ-loop) → let s = c .before .before .before in length (whole s) ≡ s .args .near * c .near-width .result
+whole-long c =
+    let s = c .before .before .before in
     let a = s .args in
-    ap length (whole-is s) ∙ near-length (one (a .shift)) (a .most) 6 (λ u. target-length _) _ ∙ ap (λ (k : ℕ). k * 6) (sym (s .pre .1 .0))
+    ap length (whole-is s) ∙ near-length (one (a .q) (a .v) (a .shift)) (a .most) _ (λ u. near-long _ _ _) _ ∙ ap₂ _*_ (sym (s .pre .1 .0)) (sym (c .near-width .ensures))
 
 mul-end : tie.Need-mul-end Inv-loop μ-loop
-mul-end c = let s = c .before .before in omega (arith, whole-long s, s .pre .1 .1)
+mul-end c = omega (arith, whole-long c, c .before .before .before .pre .1 .1)
 
 add-end : tie.Need-add-end Inv-loop μ-loop
-add-end c = let s = c .before .before in omega (arith, whole-long s, s .pre .1 .1)
+add-end c = omega (arith, whole-long c, c .before .before .before .pre .1 .1)
 
 transition-at-requires : tie.Need-transition-at-requires Inv-loop μ-loop
 transition-at-requires c κs = tt
 
 loop-holds : tie.Need-loop-holds Inv-loop μ-loop
 loop-holds c =
-    let s = c .before .before .before in
+    let s = c .before .before .before .before in
     filling-all _ _ _ (s .pre .0) _ _ _ (whole-is s) (s .pre .1 .1) (c .transition-at .ensures)
 
 -- bytes are left, so a transition is
 abbrev start : tie.In-loop Inv-loop μ-loop → tie.Start Inv-loop μ-loop
-start c = c .before .before .before .before .before
+start c = c .before .before .before .before .before .before
 
 short : (c : tie.In-loop Inv-loop μ-loop) → c .before .loop .next < start c .args .at + length (whole (start c))
-short c = omega (arith, whole-long (start c), c .loop-test .taken)
+short c = omega (arith, whole-long (c .before .before .before), c .loop-test .taken)
 
 some : (c : tie.In-loop Inv-loop μ-loop) → 0 < c .before .loop .i
-some c = near-some _ _ _ _ 6 (λ u. target-length _) (c .before .loop .inv) (short c)
+some c = near-some _ _ _ _ _ (λ u. near-long _ _ _) (c .before .loop .inv) (short c)
 
 -- it lies inside
 inside : (c : tie.In-loop Inv-loop μ-loop) → c .before .loop .p + 8 ≤ length (now (start c .args .m))
@@ -90,15 +91,15 @@ add-p c = omega (arith, inside (c .before .before))
 sub-i : tie.Need-sub-i Inv-loop μ-loop
 sub-i c = omega (arith, some (c .before .before))
 
-add-put-target : tie.Need-add-put-target Inv-loop μ-loop
-add-put-target c =
+add-put-near : tie.Need-add-put-near Inv-loop μ-loop
+add-put-near c =
     let turn = c .before .before .before in
     omega (arith, next-named _ _ _ (turn .before .loop .inv) (some turn) (c .before .number-at2 .ensures), start turn .pre .0 .shift-fits)
 
-put-target-requires : tie.Need-put-target-requires Inv-loop μ-loop
-put-target-requires c κs =
+put-near-requires : tie.Need-put-near-requires Inv-loop μ-loop
+put-near-requires c κs =
     let turn = c .before .before .before in
-    near-fits _ _ _ _ 6 (λ u. target-length _) (turn .before .loop .inv) (short turn)
+    near-fits _ _ _ _ _ (λ u. near-long _ _ _) (turn .before .loop .inv) (short turn)
 
 loop-less : tie.Need-loop-less Inv-loop μ-loop
 loop-less c = omega (arith, some (c .before .before .before .before .before .before .before))
@@ -108,7 +109,7 @@ loop-again c =
     let put = c .before .before .before in
     let read = put .before .before in
     let turn = read .before .before in
-    near-stays _ _ _ _ 6 (λ u. target-length _) (turn .before .loop .inv) (short turn) (read .before .number-at .ensures) (read .number-at2 .ensures) (put .put-target .ensures) (c .if1 .taken)
+    near-stays _ _ _ _ _ (λ u. near-long _ _ _) (turn .before .loop .inv) (short turn) (read .before .number-at .ensures) (read .number-at2 .ensures) (put .put-near .ensures) (c .if1 .taken)
 
 loop-less-2 : tie.Need-loop-less-2 Inv-loop μ-loop
 loop-less-2 c = omega (arith, some (c .before .before .before .before .before .before .before))
@@ -118,22 +119,21 @@ loop-again-2 c =
     let put = c .before .before .before in
     let read = put .before .before in
     let turn = read .before .before in
-    near-goes _ _ _ _ 6 (λ u. target-length _) (turn .before .loop .inv) (short turn) (read .before .number-at .ensures) (read .number-at2 .ensures) (put .put-target .ensures) (c .if1 .left)
+    near-goes _ _ _ _ _ (λ u. near-long _ _ _) (turn .before .loop .inv) (short turn) (read .before .number-at .ensures) (read .number-at2 .ensures) (put .put-near .ensures) (c .if1 .left)
 
 same-length : tie.Need-same-length Inv-loop μ-loop
 same-length c = c .before .loop .inv .left .length-is
 
 returns : tie.Need-returns Inv-loop μ-loop
-returns c =
-    let s = c .before .before .before .before .before in
-    near-none _ _ _ _ 6 (λ u. target-length _) (c .before .loop .inv) (omega (arith, whole-long s, c .loop-test .left))
+returns c = near-none _ _ _ _ _ (λ u. near-long _ _ _) (c .before .loop .inv) (omega (arith, whole-long (c .before .before .before), c .loop-test .left))
 
-pub put-every-next-spec : {M : Type 1} → statement M
-put-every-next-spec =
+pub put-nearby-spec : {M : Type 1} → statement M
+put-nearby-spec =
     tie.close
     (tie.spec
     Inv-loop
     μ-loop
+    near-width-requires
     mul-end
     add-end
     transition-at-requires
@@ -144,8 +144,8 @@ put-every-next-spec =
     number-at-requires-2
     add-p
     sub-i
-    add-put-target
-    put-target-requires
+    add-put-near
+    put-near-requires
     loop-less
     loop-again
     loop-less-2
