@@ -1,0 +1,37 @@
+"""docs/PROMISES.md cites only what exists, and every must-fail edit."""
+
+import re
+import unittest
+from pathlib import Path
+
+ROOT = Path(__file__).resolve().parents[2]
+PROMISES = (ROOT / "docs" / "PROMISES.md").read_text()
+
+# Stand for each message's own name, or for several names.
+PATTERNS = {"readX", "writeX", "front_of_"}
+
+
+def sources():
+    for pattern in ("crates/*/specs/**/*.antt", "crates/*/proofs/**/*.antt", "crates/*/src/*.rt"):
+        yield from ROOT.glob(pattern)
+
+
+class Promises(unittest.TestCase):
+    def test_each_name_stands_in_a_crate(self):
+        known = {path.name for path in (ROOT / "crates").iterdir()}
+        for path in sources():
+            known.update(re.findall(r"[^\s(){}\[\];,.:⌜⌝`]+", path.read_text()))
+        cited = {word for code in re.findall(r"`([^`]+)`", PROMISES) for word in re.findall(r"[A-Za-z][\w·′-]*", code)}
+        self.assertGreater(len(cited), 100)
+        self.assertEqual(sorted(cited - known - PATTERNS), [])
+
+    def test_each_file_exists(self):
+        cited = set(re.findall(r"\b[a-z]+/(?:specs|proofs)/\w+\.antt", PROMISES))
+        self.assertGreater(len(cited), 20)
+        self.assertEqual(sorted(file for file in cited if not (ROOT / "crates" / file).exists()), [])
+
+    def test_each_edit_is_cited(self):
+        crates = "|".join(sorted(path.name for path in (ROOT / "crates").iterdir()))
+        edits = {f"{path.parts[-3]}/{path.stem}" for path in ROOT.glob("crates/*/must-fail/*.edit")}
+        cited = {edit for edit in re.findall(rf"\b(?:{crates})/\w+", PROMISES) if edit.split("/")[1] not in ("specs", "proofs", "src")}
+        self.assertEqual(sorted(edits ^ cited), [])
