@@ -89,5 +89,16 @@ int main(void)
 
     number = otzarvim_formula_check(formula, sizeof formula, 1, &rows);
     printf("formula  %s: p1, where only p0 exists\n", name(number));
+
+    uint8_t built[106];
+    number = otzarvim_graph(model, sizeof model, formula, sizeof formula, built, sizeof built, &length);
+    printf("built    %s: %zu bytes\n", name(number), length);
+
+    number = otzarvim_graph_check(built, length, counts);
+    printf("graph    %s: %" PRIu32 " nodes, %" PRIu32 " hyperedges, %" PRIu32 " cover edges\n", name(number), counts[0], counts[1],
+           counts[2]);
+
+    number = otzarvim_graph(model, sizeof model, formula, sizeof formula, built, sizeof built - 1, &length);
+    printf("built    %s: a room of %zu bytes\n", name(number), sizeof built - 1);
     return 0;
 }

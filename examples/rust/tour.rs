@@ -59,5 +59,9 @@ fn main() -> Result<(), Refusal> {
     if let Err(refusal) = otzarvim::check_formula(&FORMULA, 1) {
         println!("refused {}: {refusal}", refusal.number());
     }
+
+    let mut built = [0; 106];
+    println!("{:?}", otzarvim::graph(&MODEL, &FORMULA, &mut built[1..]));
+    println!("{:?}", otzarvim::check_graph(otzarvim::graph(&MODEL, &FORMULA, &mut built)?)?);
     Ok(())
 }
