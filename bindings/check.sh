@@ -17,6 +17,9 @@ say "target/lib/libotzarvim.a proved and compiled"
 for std in c99 c17; do
     echo '#include "otzarvim.h"' | $gcc -std=$std -Wall -Wextra -Wpedantic -Werror -I"$root/include" -x c -c -o "$out/header.o" - || die "the header is not $std"
 done
+if command -v g++ >/dev/null; then
+    echo '#include "otzarvim.h"' | g++ -std=c++11 -Wall -Wextra -Wpedantic -Werror -I"$root/include" -x c++ -fsyntax-only - || die "the header is not C++"
+fi
 promised=$(grep -o '^uint8_t otzarvim_[a-z_]*' "$root/include/otzarvim.h" | cut -d' ' -f2 | sort)
 exported=$("$nm" "$target/lib/libotzarvim.a" 2>/dev/null | sed -n 's/.* T \(.*\)/\1/p' | sort)
 [ "$promised" = "$exported" ] || die "the header and the archive differ: $(printf '%s\n' "$promised" "$exported" | sort | uniq -u | tr '\n' ' ')"
