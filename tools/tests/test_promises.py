@@ -1,4 +1,4 @@
-"""docs/PROMISES.md cites only what exists, and every must-fail edit."""
+"""docs/PROMISES.md cites only what exists, and every must-fail edit; docs/ARCHITECTURE.md lists every public function that asks something."""
 
 import re
 import unittest
@@ -35,3 +35,19 @@ class Promises(unittest.TestCase):
         edits = {f"{path.parts[-3]}/{path.stem}" for path in ROOT.glob("crates/*/must-fail/*.edit")}
         cited = {edit for edit in re.findall(rf"\b(?:{crates})/\w+", PROMISES) if edit.split("/")[1] not in ("specs", "proofs", "src")}
         self.assertEqual(sorted(edits ^ cited), [])
+
+
+class Leaves(unittest.TestCase):
+    def test_public_functions_with_requires_are_listed(self):
+        asking = set()
+        for path in ROOT.glob("crates/*/src/*.rt"):
+            for name, contract in re.findall(r"\bpub (?:extern \"C\" )?fn (\w+)(.*?)^\s*\{$", path.read_text(), re.M | re.S):
+                if re.search(r"^\s*requires\b", contract, re.M):
+                    asking.add(name)
+        table = (ROOT / "docs" / "ARCHITECTURE.md").read_text().split("| leaf | asks |")[1].split("\n\n")[0]
+        listed = set()
+        for cell in re.findall(r"^\| (`.*?`) ?[^|]*\|", table, re.M) + re.findall(r"^\| (`.*?) \|", table, re.M):
+            for code in re.findall(r"`([^`]+)`", cell):
+                listed.update(re.findall(r"\w+", code.split("::")[-1]))
+        self.assertGreater(len(asking), 5)
+        self.assertEqual(asking ^ (listed - {"trials"}), set())
