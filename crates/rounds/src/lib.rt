@@ -1,17 +1,19 @@
 // The rounds on a graph message, in a lent room of values.
 ghost use mathlib.Core.Path.{_≡_};
 ghost use mathlib.Core.Bool.{true, false, cond};
-ghost use Prim.Native.Nat.{_+_, _≤_, min};
+ghost use Prim.Native.Nat.{ℕ, _+_, _-_, _*_, _<_, _≤_, min, max};
+ghost use mathlib.Core.List.{[]};
 ghost use lib.ListN.{length, getD};
 ghost use Rattle.wire.specs.Bytes.{number};
 ghost use Rattle.wire.specs.Layout.{items, end, Sound};
 ghost use Rattle.value.specs.Value.{plus};
-ghost use Rattle.value.specs.Stored.{stored};
+ghost use Rattle.value.specs.Stored.{stored, infinite};
 ghost use Rattle.rules.specs.Rounds as rules;
 ghost use Rattle.graph.specs.Message.{readGraph};
-ghost use Rattle.graph.specs.Layouts.{targetLayout, hyperLayout, coverLayout, decoded, TargetOk, HyperOk, Scannable};
-ghost use Rattle.rounds.specs.Room.{held, Sides, half, hyperIn, Done, Cleared, Alike, Same};
-ghost use Rattle.rounds.specs.Ready.{Ready};
+ghost use Rattle.graph.specs.Layouts.{targetLayout, hyperLayout, coverLayout, decoded, TargetOk, HyperOk};
+ghost use Rattle.rounds.specs.Room.{held, Sides, half, hyperIn, Done, Cleared, Alike, Same, Beside};
+ghost use Rattle.rounds.specs.Index.{slotOf, unnoted, partOf, Noted, NotedCovers, Published};
+ghost use Rattle.rounds.specs.Ready.{Climbs, Ready};
 ghost use Rattle.rounds.specs.Outcome.{outcomeNumber, outcomeCount, ended, filled, outcomeOf, roomOf};
 ghost use Rattle.rounds.specs.Promise.{Promise};
 use graph::Checked;
@@ -166,17 +168,342 @@ fn take_covers(s: &[u8], n: usize, from: usize, to: usize, k: u32, at: usize, ro
     }
 }
 
-// Takes the next round into the n values at `to`, from the n of this one at `from`: rounds fall, so older values may stand there.
-fn next_round(s: &[u8], n: usize, h: u32, c: u32, from: usize, to: usize, room: &mut [u64])
-    requires { ⌜ Scannable (now s) n h c ⌝ }
-    requires { ⌜ Sides n from to ⌝ }
+// Takes the cover edges from number a to before number z into the second half from the first; c of them stand at `middle`.
+fn take_marked(s: &[u8], n: usize, c: u32, middle: usize, a: u32, z: u32, room: &mut [u64])
+    requires { ⌜ Sound (coverLayout (now s) n) c middle ⌝ }
+    requires { ⌜ z ≤ c ⌝ }
     requires { ⌜ n + n ≤ length (now room) ⌝ }
-    ensures { λ _. ⌜ Done n from to (now (room .entry)) (now (room .exit)) (λ v.
-        min (getD (now (room .entry)) (to + v) 0)
-        (stored (rules.round (decoded (now (s .entry)) n h c) (held (half n from (now (room .entry)))) v))) ⌝ }
+    ensures { λ _. ⌜ Done n 0 n (now (room .entry)) (now (room .exit)) (λ v.
+        cond (rules.covered (held (half n 0 (now (room .entry)))) v (items (coverLayout (now (s .entry)) n) (z - a) (middle + a * 8))) 0
+        (getD (now (room .entry)) (n + v) 0)) ⌝ }
 {
-    let middle = take_hypers(s, n, from, to, h, 14, room);
-    take_covers(s, n, from, to, c, middle, room);
+    if a < z {
+        let at = middle + (a as usize) * 8;
+        take_covers(s, n, 0, n, z - a, at, room);
+    }
+}
+
+// The part of the graph that a round takes in: k hyperedges at a position, and the cover edges from number a to before number z.
+fn next_round(
+    s: &[u8],
+    n: usize,
+    k: u32,
+    at: usize,
+    c: u32,
+    middle: usize,
+    a: u32,
+    z: u32,
+    room: &mut [u64],
+) -> usize
+    requires { ⌜ Sound (hyperLayout (now s) n) k at ⌝ }
+    requires { ⌜ Sound (coverLayout (now s) n) c middle ⌝ }
+    requires { ⌜ z ≤ c ⌝ }
+    requires { ⌜ n + n ≤ length (now room) ⌝ }
+    ensures { λ r. ⌜ r ≡ end (hyperLayout (now (s .entry)) n) k at ⌝ }
+    ensures { λ _. ⌜ Done n 0 n (now (room .entry)) (now (room .exit)) (λ v.
+        min (getD (now (room .entry)) (n + v) 0)
+        (stored (rules.round (partOf (now (s .entry)) n k at (z - a) (middle + a * 8)) (held (half n 0 (now (room .entry)))) v))) ⌝ }
+{
+    let past = take_hypers(s, n, 0, n, k, at, room);
+    take_marked(s, n, c, middle, a, z, room);
+    past
+}
+
+// The sources of the hyperedges from number a, at a position, to before number z, at another, are from the first on ..
+fn hypers_from(s: &[u8], n: usize, h: u32, a: u32, z: u32, at: usize) -> usize
+    requires { ⌜ Sound (hyperLayout (now s) n) h 14 ⌝ }
+    requires { ⌜ Climbs (now s) (hyperLayout (now s) n) h 14 ⌝ }
+    requires { ⌜ z ≤ h ⌝ }
+    requires { ⌜ (a < z → at ≡ end (hyperLayout (now s) n) a 14) ⌝ }
+    ensures { λ r. ⌜ (r ≤ n) × ((j : ℕ) → a ≤ j → j < z → r ≤ number 2 (now (s .entry)) (end (hyperLayout (now (s .entry)) n) j 14)) ⌝ }
+{
+    if a < z {
+        return wire::number_at(s, at, Width::Two) as usize;
+    }
+    n
+}
+
+// .. and before what this gives.
+fn hypers_to(s: &[u8], n: usize, h: u32, a: u32, z: u32, past: usize) -> usize
+    requires { ⌜ Sound (hyperLayout (now s) n) h 14 ⌝ }
+    requires { ⌜ Climbs (now s) (hyperLayout (now s) n) h 14 ⌝ }
+    requires { ⌜ z ≤ h ⌝ }
+    requires { ⌜ (a < z → past ≡ end (hyperLayout (now s) n) z 14) ⌝ }
+    ensures { λ r. ⌜ (r ≤ n) × ((j : ℕ) → a ≤ j → j < z → number 2 (now (s .entry)) (end (hyperLayout (now (s .entry)) n) j 14) < r) ⌝ }
+{
+    if z <= a {
+        return 0;
+    }
+    if z < h {
+        let next = wire::number_at(s, past, Width::Two) as usize;
+        return next + 1;
+    }
+    n
+}
+
+// The same of cover edges.
+fn covers_from(s: &[u8], n: usize, c: u32, middle: usize, a: u32, z: u32) -> usize
+    requires { ⌜ Sound (coverLayout (now s) n) c middle ⌝ }
+    requires { ⌜ Climbs (now s) (coverLayout (now s) n) c middle ⌝ }
+    requires { ⌜ z ≤ c ⌝ }
+    ensures { λ r. ⌜ (r ≤ n) × ((j : ℕ) → a ≤ j → j < z → r ≤ number 2 (now (s .entry)) (end (coverLayout (now (s .entry)) n) j middle)) ⌝ }
+{
+    if a < z {
+        let at = middle + (a as usize) * 8;
+        return wire::number_at(s, at, Width::Two) as usize;
+    }
+    n
+}
+
+fn covers_to(s: &[u8], n: usize, c: u32, middle: usize, a: u32, z: u32) -> usize
+    requires { ⌜ Sound (coverLayout (now s) n) c middle ⌝ }
+    requires { ⌜ Climbs (now s) (coverLayout (now s) n) c middle ⌝ }
+    requires { ⌜ z ≤ c ⌝ }
+    ensures { λ r. ⌜ (r ≤ n) × ((j : ℕ) → a ≤ j → j < z → number 2 (now (s .entry)) (end (coverLayout (now (s .entry)) n) j middle) < r) ⌝ }
+{
+    if z <= a {
+        return 0;
+    }
+    let at = middle + ((z - 1) as usize) * 8;
+    let last = wire::number_at(s, at, Width::Two) as usize;
+    last + 1
+}
+
+// The slot of a node.
+fn slot(n: usize, v: usize) -> usize
+    ensures { λ r. ⌜ (r ≡ slotOf n v) × (r < 512) ⌝ }
+{
+    if n <= 512 {
+        return v % 512;
+    }
+    v / 8 % 512
+}
+
+// Notes hyperedge j, at position p, for the slots of its k targets.
+fn note(
+    s: &[u8],
+    n: usize,
+    j: u32,
+    p: usize,
+    k: u32,
+    first: &mut [u32; 512],
+    last: &mut [u32; 512],
+    pos: &mut [usize; 512],
+)
+    requires { ⌜ Sound (targetLayout (now s) n) k (p + 4) ⌝ }
+    requires { ⌜ p + 4 ≤ length (now s) ⌝ }
+    requires { ⌜ p ≡ end (hyperLayout (now s) n) j 14 ⌝ }
+    requires { ⌜ j < unnoted ⌝ }
+    requires { ⌜ Noted (now s) n (j + 1) (items (targetLayout (now s) n) k (p + 4)) (now first) (now last) (now pos) ⌝ }
+    ensures { λ _. ⌜ Noted (now (s .entry)) n (j + 1) [] (now (first .exit)) (now (last .exit)) (now (pos .exit)) ⌝ }
+{
+    let mut i = k;
+    let mut q = p + 4;
+    while 0 < i {
+        let v = wire::number_at(s, q + 4, Width::Two) as usize;
+        let u = slot(n, v);
+        q += 6;
+        i -= 1;
+        last[u] = j + 1;
+        let old = first[u];
+        if j < old {
+            first[u] = j;
+            pos[u] = p;
+        }
+    }
+}
+
+// Takes a hyperedge of k targets at a position into the second half from a first half that is infinite: only one without targets gives anything.
+fn take_first(s: &[u8], n: usize, k: u32, at: usize, room: &mut [u64])
+    requires { ⌜ HyperOk (now s) n at ⌝ }
+    requires { ⌜ k ≡ number 2 (now s) (at + 2) ⌝ }
+    requires { ⌜ n + n ≤ length (now room) ⌝ }
+    requires { ⌜ ((v : ℕ) → v < n → getD (now room) v 0 ≡ infinite) ⌝ }
+    ensures { λ _. ⌜ now (room .exit) ≡ hyperIn (now (s .entry)) n 0 n at (now (room .entry)) ⌝ }
+{
+    if k == 0 {
+        let source = wire::number_at(s, at, Width::Two) as usize;
+        let own = n + source;
+        room[own] = 0;
+    }
+}
+
+// Takes all hyperedges into the second half from an infinite first, notes them, and gives the position past them.
+fn first_round(
+    s: &[u8],
+    n: usize,
+    h: u32,
+    first: &mut [u32; 512],
+    last: &mut [u32; 512],
+    pos: &mut [usize; 512],
+    room: &mut [u64],
+) -> usize
+    requires { ⌜ Sound (hyperLayout (now s) n) h 14 ⌝ }
+    requires { ⌜ n + n ≤ length (now room) ⌝ }
+    requires { ⌜ Noted (now s) n 0 [] (now first) (now last) (now pos) ⌝ }
+    requires { ⌜ ((v : ℕ) → v < n → getD (now room) v 0 ≡ infinite) ⌝ }
+    ensures { λ r. ⌜ r ≡ end (hyperLayout (now (s .entry)) n) h 14 ⌝ }
+    ensures { λ _. ⌜ Done n 0 n (now (room .entry)) (now (room .exit)) (λ v.
+        min (getD (now (room .entry)) (n + v) 0)
+        (stored (rules.best (held (half n 0 (now (room .entry)))) v (items (hyperLayout (now (s .entry)) n) h 14)))) ⌝ }
+    ensures { λ _. ⌜ Noted (now (s .entry)) n h [] (now (first .exit)) (now (last .exit)) (now (pos .exit)) ⌝ }
+{
+    let mut i = h;
+    let mut j: u32 = 0;
+    let mut p: usize = 14;
+    while 0 < i {
+        let count = wire::number_at(s, p + 2, Width::Two);
+        take_first(s, n, count, p, room);
+        note(s, n, j, p, count, first, last, pos);
+        p += 4 + (count as usize) * 6;
+        i -= 1;
+        j += 1;
+    }
+    p
+}
+
+// Notes c cover edges at a position for the slots of their targets.
+fn note_covers(
+    s: &[u8],
+    n: usize,
+    c: u32,
+    middle: usize,
+    first: &mut [u32; 512],
+    last: &mut [u32; 512],
+)
+    requires { ⌜ Sound (coverLayout (now s) n) c middle ⌝ }
+    requires { ⌜ NotedCovers (now s) n 0 middle (now first) (now last) ⌝ }
+    ensures { λ _. ⌜ NotedCovers (now (s .entry)) n c middle (now (first .exit)) (now (last .exit)) ⌝ }
+{
+    let mut j: u32 = 0;
+    let mut p = middle;
+    while j < c {
+        let v = wire::number_at(s, p + 6, Width::Two) as usize;
+        let u = slot(n, v);
+        let old = first[u];
+        first[u] = lesser(old, j);
+        p += 8;
+        j += 1;
+        last[u] = j;
+    }
+}
+
+// The hyperedges that a changed node may reach: from the first, at a position, to before the last. And the cover edges.
+struct Marks {
+    first: u32,
+    last: u32,
+    at: usize,
+    low: u32,
+    high: u32,
+}
+
+// Brings the first half up to the second, and marks what may change with it.
+fn publish(
+    n: usize,
+    lo: usize,
+    hi: usize,
+    first: &[u32; 512],
+    last: &[u32; 512],
+    pos: &[usize; 512],
+    lows: &[u32; 512],
+    highs: &[u32; 512],
+    room: &mut [u64],
+) -> Marks
+    requires { ⌜ n + n ≤ length (now room) ⌝ }
+    requires { ⌜ (lo ≤ n) × (hi ≤ n) ⌝ }
+    requires { ⌜ Beside n lo hi (now room) ⌝ }
+    ensures { λ r. ⌜ Published n n (now (first .entry)) (now (last .entry)) (now (pos .entry)) (now (lows .entry)) (now (highs .entry))
+        (now (room .entry)) (now (room .exit)) (r .first) (r .last) (r .at) (r .low) (r .high) ⌝ }
+{
+    let mut a: u32 = 4294967295;
+    let mut z: u32 = 0;
+    let mut at: usize = 14;
+    let mut ca: u32 = 4294967295;
+    let mut cz: u32 = 0;
+    let mut v = lo;
+    while v < hi {
+        let k = block(hi - v);
+        let stop = v + k;
+        if alike(n, v, k, room) {
+            v = stop;
+        } else {
+            while v < stop {
+                let w = v;
+                let other = n + w;
+                let value = room[other];
+                let old = room[w];
+                v += 1;
+                if old != value {
+                    room[w] = value;
+                    let u = slot(n, w);
+                    let l = last[u];
+                    let f = first[u];
+                    let cl = highs[u];
+                    let cf = lows[u];
+                    z = greater(z, l);
+                    cz = greater(cz, cl);
+                    ca = lesser(ca, cf);
+                    if f < a {
+                        a = f;
+                        at = pos[u];
+                    }
+                }
+            }
+        }
+    }
+    Marks {
+        first: a,
+        last: z,
+        at: at,
+        low: ca,
+        high: cz,
+    }
+}
+
+// The lesser and the greater of two numbers, and how much the one is above the other.
+fn lesser(a: u32, b: u32) -> u32
+    ensures { λ r. ⌜ r ≡ min a b ⌝ }
+{
+    if a < b {
+        return a;
+    }
+    b
+}
+
+fn greater(a: u32, b: u32) -> u32
+    ensures { λ r. ⌜ r ≡ max a b ⌝ }
+{
+    if a < b {
+        return b;
+    }
+    a
+}
+
+fn nearer(a: usize, b: usize) -> usize
+    ensures { λ r. ⌜ r ≡ min a b ⌝ }
+{
+    if a < b {
+        return a;
+    }
+    b
+}
+
+fn farther(a: usize, b: usize) -> usize
+    ensures { λ r. ⌜ r ≡ max a b ⌝ }
+{
+    if a < b {
+        return b;
+    }
+    a
+}
+
+fn above(a: u32, b: u32) -> u32
+    ensures { λ r. ⌜ r ≡ a - b ⌝ }
+{
+    if a < b {
+        return 0;
+    }
+    a - b
 }
 
 // Sets the first k values to infinity.
@@ -220,14 +547,16 @@ fn alike(n: usize, at: usize, k: usize, room: &[u64]) -> bool
     all
 }
 
-// Whether both halves are the same.
-fn same(n: usize, room: &[u64]) -> bool
+// Whether both halves are the same, where they are but for the nodes from lo to before hi.
+fn same(n: usize, lo: usize, hi: usize, room: &[u64]) -> bool
     requires { ⌜ n + n ≤ length (now room) ⌝ }
+    requires { ⌜ hi ≤ n ⌝ }
+    requires { ⌜ Beside n lo hi (now room) ⌝ }
     ensures { λ r. ⌜ (r ≡ true → Same n (now (room .entry))) × (r ≡ false → ¬ Same n (now (room .entry))) ⌝ }
 {
-    let mut i = 0;
-    while i < n {
-        let k = block(n - i);
+    let mut i = lo;
+    while i < hi {
+        let k = block(hi - i);
         if !alike(n, i, k, room) {
             return false;
         }
@@ -237,7 +566,7 @@ fn same(n: usize, room: &[u64]) -> bool
 }
 
 // The rounds of a graph that is ready, until one changes nothing or the budget is spent: a leaf, for a caller that has the check's facts.
-// The halves change roles, so begun that the round that spends the budget stands first; where a round changes nothing they are the same.
+// The next round is worked out in the second half; then the first is brought up to it, and only what may have changed is worked out again.
 pub fn run(s: &[u8], n: usize, h: u32, c: u32, budget: u32, room: &mut [u64]) -> Outcome
     requires { ⌜ Ready (now s) n h c ⌝ }
     requires { ⌜ n + n ≤ length (now room) ⌝ }
@@ -245,18 +574,32 @@ pub fn run(s: &[u8], n: usize, h: u32, c: u32, budget: u32, room: &mut [u64]) ->
     ensures { λ r. ⌜ now (room .exit) ≡ filled (decoded (now (s .entry)) n h c) (outcomeCount r) (now (room .entry)) ⌝ }
 {
     clear(n + n, room);
-    let mut from = ((budget % 2) as usize) * n;
+    let mut first = [4294967295u32; 512];
+    let mut last = [0u32; 512];
+    let mut pos = [0usize; 512];
+    let middle = first_round(s, n, h, &mut first, &mut last, &mut pos, room);
+    let mut lows = [4294967295u32; 512];
+    let mut highs = [0u32; 512];
+    note_covers(s, n, c, middle, &mut lows, &mut highs);
     let mut i: u32 = 0;
+    let mut lo: usize = 0;
+    let mut hi = n;
     loop {
-        let to = n - from;
-        next_round(s, n, h, c, from, to, room);
-        if same(n, room) {
+        if same(n, lo, hi, room) {
             break Outcome::Settled(i);
         }
         if i == budget {
             break Outcome::Spent(i);
         }
-        from = to;
+        let m = publish(n, lo, hi, &first, &last, &pos, &lows, &highs, room);
+        let k = above(m.last, m.first);
+        let past = next_round(s, n, k, m.at, c, middle, m.low, m.high, room);
+        let from = hypers_from(s, n, h, m.first, m.last, m.at);
+        let to = hypers_to(s, n, h, m.first, m.last, past);
+        let covers_lo = covers_from(s, n, c, middle, m.low, m.high);
+        let covers_hi = covers_to(s, n, c, middle, m.low, m.high);
+        lo = nearer(from, covers_lo);
+        hi = farther(to, covers_hi);
         i += 1;
     }
 }
