@@ -82,8 +82,8 @@ covers-idle s n c middle b sound all = record {
         ap (λ (y : Cover). held (half n 0 b) (y .target)) (r .2)
         ∙ meaning-infinite (half-at n 0 b u (ok .target-named) ∙ ap (λ (w : ℕ). getD b w 0) same ∙ all u (ok .target-named))
 
--- a half that was infinite is infinite after a pass over the other
-pub stays-infinite : {n : ℕ} {b₀ b : List ℕ} {all : ℕ → ℕ} → Done n 0 n b₀ b all → ((v : ℕ) → v < n → getD b₀ v 0 ≡ infinite) → (v : ℕ) → v < n → getD b v 0 ≡ infinite
-stays-infinite {n} {b₀} {b} d was v l =
+-- a half that was infinite is infinite where it is the same
+pub stays-infinite : (n : ℕ) (b₀ b : List ℕ) → half n 0 b ≡ half n 0 b₀ → ((v : ℕ) → v < n → getD b₀ v 0 ≡ infinite) → (v : ℕ) → v < n → getD b v 0 ≡ infinite
+stays-infinite n b₀ b this was v l =
     let same : 0 + v ≡ v = omega arith in
-    (rw same at (sym (half-at n 0 b v l))) ∙ ap (λ (x : List ℕ). getD x v 0) (d .this) ∙ (rw same at (half-at n 0 b₀ v l)) ∙ was v l
+    (rw same at (sym (half-at n 0 b v l))) ∙ ap (λ (x : List ℕ). getD x v 0) this ∙ (rw same at (half-at n 0 b₀ v l)) ∙ was v l

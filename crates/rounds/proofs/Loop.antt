@@ -28,18 +28,10 @@ use Rattle.rounds.specs.Outcome.{ended, storedValues, filled}
 use Rattle.rounds.specs.Ready.{Climbs, Ready, Storable}
 use Rattle.rounds.specs.Room.{held, half, Done, Cleared, Same, Beside}
 use Rattle.rounds.specs.Index.{slotOf, unnoted, partOf, Spans, Noted, NotedCovers, Marked, Raised, Published}
+use Rattle.rounds.specs.Turns.{AtRound}
 use Rattle.rounds.proofs.Room.{half-at}
 use Rattle.rounds.proofs.Parts.{end-wide, ∈-items, part-sound, part-number, part-end, part-of, part-has}
 use Rattle.rounds.proofs.Climbing.{untouched}
-
--- round i stands first, and the next behind it; no round before it was settled
-pub record AtRound (g : Graph) (budget i : ℕ) (b₀ b : List ℕ) : Type 0 where
-  pub within : i ≤ budget
-  pub unsettled : (j : ℕ) → j < i → ¬ Settled g j
-  pub same-length : length b ≡ length b₀
-  pub this : (v : ℕ) → v < g .nodes → getD b v 0 ≡ stored (rounds g i v)
-  pub next : (v : ℕ) → v < g .nodes → getD b (g .nodes + v) 0 ≡ stored (rounds g (suc i) v)
-  pub past : drop (g .nodes + g .nodes) b ≡ drop (g .nodes + g .nodes) b₀
 
 -- numbers that store the values of an assignment
 pub values-are : (n : ℕ) (b : List ℕ) (x : Assignment) → n ≤ length b → ((v : ℕ) → v < n → getD b v 0 ≡ stored (x v)) → take n b ≡ storedValues n x
@@ -157,30 +149,37 @@ module _ (g : Graph) (closed : Closed g) (storable : Storable g) where
           past = t .past ∙ d .past ∙ w .past;
         })
 
+-- what a turn has at hand: the graph is ready, its records are noted, and what the changed nodes reach is marked
+pub record Marking (s : List ℕ) (n h c middle : ℕ) (first last pos lows highs b b₁ : List ℕ) (a z at ca cz : ℕ) : Type 0 where
+  pub ready : Ready s n h c
+  pub behind : middle ≡ end (hyperLayout s n) h 14
+  pub few : h ≤ unnoted
+  pub noted : Noted s n h [] first last pos
+  pub noted-covers : NotedCovers s n c middle lows highs
+  pub published : Published n n first last pos lows highs b b₁ a z at ca cz
+
 -- the edges that are marked
-module _ (s : List ℕ) (n h c middle : ℕ) (ready : Ready s n h c) (past-hypers : middle ≡ end (hyperLayout s n) h 14) {first last pos lows highs b b₁ : List ℕ} {a z at ca cz : ℕ}
-    (noted : Noted s n h [] first last pos) (noted-covers : NotedCovers s n c middle lows highs) (fits : h ≤ unnoted)
-    (d : Published n n first last pos lows highs b b₁ a z at ca cz) where
+module _ {s : List ℕ} {n h c middle : ℕ} {first last pos lows highs b b₁ : List ℕ} {a z at ca cz : ℕ} (marking : Marking s n h c middle first last pos lows highs b b₁ a z at ca cz) where
   pub upto : z ≤ h
-  upto = d .hypers .top h (noted .within)
+  upto = marking .published .hypers .top h (marking .noted .within)
 
   pub there : a < z → at ≡ end (hyperLayout s n) a 14
   there l =
-      let u = d .placed (omega (arith, upto)) in
-      u .3 ∙ noted .placed (u .0) (u .1) (omega (arith, u .2, upto)) ∙ ap (λ (k : ℕ). end (hyperLayout s n) k 14) (sym (u .2))
+      let u = marking .published .placed (omega (arith, upto, marking .few)) in
+      u .3 ∙ marking .noted .placed (u .0) (u .1) (omega (arith, u .2, upto, marking .few)) ∙ ap (λ (k : ℕ). end (hyperLayout s n) k 14) (sym (u .2))
 
-  pub marked-sound : Sound (hyperLayout s n) (z - a) at
-  marked-sound = part-sound (hyperLayout s n) h 14 a z at upto there (ready .sound .hypers)
+  pub marked-sound : {k : ℕ} → k ≡ z - a → Sound (hyperLayout s n) k at
+  marked-sound e = rw e (part-sound (hyperLayout s n) h 14 a z at upto there (marking .ready .sound .hypers))
 
   pub covers-upto : cz ≤ c
-  covers-upto = d .covers .top c (noted-covers .within)
+  covers-upto = marking .published .covers .top c (marking .noted-covers .within)
 
   -- where the marked hyperedges end
-  pub marked-past : {p : ℕ} → p ≡ end (hyperLayout s n) (z - a) at → a < z → p ≡ end (hyperLayout s n) z 14
-  marked-past e l = e ∙ part-end (hyperLayout s n) h 14 a z at upto there l
+  pub marked-past : {k p : ℕ} → k ≡ z - a → p ≡ end (hyperLayout s n) k at → a < z → p ≡ end (hyperLayout s n) z 14
+  marked-past counted e l = e ∙ ap (λ (k : ℕ). end (hyperLayout s n) k at) counted ∙ part-end (hyperLayout s n) h 14 a z at upto there l
 
   pub covers-climb : Climbs s (coverLayout s n) c middle
-  covers-climb = subst (Climbs s (coverLayout s n) c) (sym past-hypers) (ready .covers-climb)
+  covers-climb = subst (Climbs s (coverLayout s n) c) (sym (marking .behind)) (marking .ready .covers-climb)
 
   cover-at : (j : ℕ) → middle + j * 8 ≡ end (coverLayout s n) j middle
   cover-at j = sym (end-wide (coverLayout s n) 8 (λ p. refl) j middle)
@@ -193,7 +192,7 @@ module _ (s : List ℕ) (n h c middle : ℕ) (ready : Ready s n h c) (past-hyper
     stay-or v named {first} {last} {a} {z} {j} m sp out = go (ℕ-discrete (getD b v 0) (getD b (n + v) 0))
       where
         go : Dec (getD b v 0 ≡ getD b (n + v) 0) → rounds (decoded s n h c) i v ≡ rounds (decoded s n h c) (suc i) v
-        go (yes e) = same-stays (decoded s n h c) (ready .closed) (ready .storable) w v named e
+        go (yes e) = same-stays (decoded s n h c) (marking .ready .closed) (marking .ready .storable) w v named e
         go (no e) = let r = m .reach v named e in absurd (out (omega (arith, r .0, sp .from), omega (arith, r .1, sp .upto)))
 
     in-part : {x : Hyper} → x ∈ items (hyperLayout s n) h 14 → (j : ℕ) × (j < h) × (x ≡ hyperLayout s n .item (end (hyperLayout s n) j 14))
@@ -207,7 +206,7 @@ module _ (s : List ℕ) (n h c middle : ℕ) (ready : Ready s n h c) (past-hyper
 
         idle : ¬ ((a ≤ j) × (j < z)) → IdleHyper (rounds (decoded s n h c) (suc i)) x
         idle out = stayed-hyper (decoded s n h c) i m (λ t k.
-            stay-or (t .node) (ready .closed .hyper m k) (d .hypers) (spanned t (noted .reach j t l (subst (λ (y : Hyper). t ∈ y .targets) is k))) out)
+            stay-or (t .node) (marking .ready .closed .hyper m k) (marking .published .hypers) (spanned t (marking .noted .reach j t l (subst (λ (y : Hyper). t ∈ y .targets) is k))) out)
 
         go : Dec (j < a) → Dec (j < z) → (x ∈ items (hyperLayout s n) (z - a) at) ⊎ IdleHyper (rounds (decoded s n h c) (suc i)) x
         go (no low) (yes high) = inl (subst (λ (y : Hyper). y ∈ items (hyperLayout s n) (z - a) at) (sym is) (part-has (hyperLayout s n) h 14 a z at upto there j (omega arith) high))
@@ -220,14 +219,14 @@ module _ (s : List ℕ) (n h c middle : ℕ) (ready : Ready s n h c) (past-hyper
     cover-in-part {x} m (j, l, is) = go (decLt j ca) (decLt j cz)
       where
         whole : x ∈ items (coverLayout s n) c (end (hyperLayout s n) h 14)
-        whole = subst (λ (p : ℕ). x ∈ items (coverLayout s n) c p) past-hypers m
+        whole = subst (λ (p : ℕ). x ∈ items (coverLayout s n) c p) (marking .behind) m
 
         target-is : number 2 s (middle + j * 8 + 6) ≡ x .target
         target-is = ap (λ (p : ℕ). number 2 s (p + 6)) (cover-at j) ∙ ap (λ (y : Cover). y .target) (sym is)
 
         idle : ¬ ((ca ≤ j) × (j < cz)) → IdleCover (rounds (decoded s n h c) (suc i)) x
         idle out = stayed-cover (decoded s n h c) i whole
-            (stay-or (x .target) (ready .closed .cover whole) (d .covers) (subst (λ (v : ℕ). Spans lows highs (slotOf n v) j) target-is (noted-covers .reach j l)) out)
+            (stay-or (x .target) (marking .ready .closed .cover whole) (marking .published .covers) (subst (λ (v : ℕ). Spans lows highs (slotOf n v) j) target-is (marking .noted-covers .reach j l)) out)
 
         go : Dec (j < ca) → Dec (j < cz) → (x ∈ items (coverLayout s n) (cz - ca) (middle + ca * 8)) ⊎ IdleCover (rounds (decoded s n h c) (suc i)) x
         go (no low) (yes high) = inl (subst (λ (y : Cover). y ∈ items (coverLayout s n) (cz - ca) (middle + ca * 8)) (sym is)
@@ -236,16 +235,19 @@ module _ (s : List ℕ) (n h c middle : ℕ) (ready : Ready s n h c) (past-hyper
         go (no low) (no high) = inr (idle (λ o. high (o .1)))
 
     -- every other edge has targets that stayed
-    pub marked-part : Part (decoded s n h c) (partOf s n (z - a) at (cz - ca) (middle + ca * 8)) (rounds (decoded s n h c) (suc i))
+    all-marked : Part (decoded s n h c) (partOf s n (z - a) at (cz - ca) (middle + ca * 8)) (rounds (decoded s n h c) (suc i))
     unfolding decoded partOf
-    marked-part = record {
+    all-marked = record {
       nodes = refl;
       hyper-of = λ m. part-of (hyperLayout s n) h 14 a z at upto there m;
-      cover-of = λ {c = x} m. subst (λ (p : ℕ). x ∈ items (coverLayout s n) c p) past-hypers
+      cover-of = λ {c = x} m. subst (λ (p : ℕ). x ∈ items (coverLayout s n) c p) (marking .behind)
           (part-of (coverLayout s n) c middle ca cz (middle + ca * 8) covers-upto (λ q. cover-at ca) m);
       hyper-in = λ m. in-part m (∈-items (hyperLayout s n) h 14 m);
-      cover-in = λ {c = x} m. let m′ = subst (λ (p : ℕ). x ∈ items (coverLayout s n) c p) (sym past-hypers) m in cover-in-part m′ (∈-items (coverLayout s n) c middle m′);
+      cover-in = λ {c = x} m. let m′ = subst (λ (p : ℕ). x ∈ items (coverLayout s n) c p) (sym (marking .behind)) m in cover-in-part m′ (∈-items (coverLayout s n) c middle m′);
     }
+
+    pub marked-part : {k : ℕ} → k ≡ z - a → Part (decoded s n h c) (partOf s n k at (cz - ca) (middle + ca * 8)) (rounds (decoded s n h c) (suc i))
+    marked-part e = rw e all-marked
 
     -- a node of which no edge is marked stays in the next round too
     pub marked-beside : {b₂ : List ℕ} {lo hi : ℕ}
@@ -262,7 +264,7 @@ module _ (s : List ℕ) (n h c middle : ℕ) (ready : Ready s n h c) (past-hyper
         stays v named out =
             let w″ : AtRound (decoded s n h c) budget (suc i) b₀ b₂ = rw (add-one i) at w′ in
             w″ .this v named
-            ∙ ap stored (untouched (decoded s n h c) (partOf s n (z - a) at (cz - ca) (middle + ca * 8)) (ready .closed) (suc i) marked-part v named
+            ∙ ap stored (untouched (decoded s n h c) (partOf s n (z - a) at (cz - ca) (middle + ca * 8)) (marking .ready .closed) (suc i) all-marked v named
             (λ x m e.
             let r = part-number (hyperLayout s n) h 14 a z at upto there m in
             let q = hypers (r .0) (r .1) (r .2) in
@@ -274,3 +276,11 @@ module _ (s : List ℕ) (n h c middle : ℕ) (ready : Ready s n h c) (past-hyper
             let is : number 2 s (end (coverLayout s n) (r .0) middle) ≡ v = sym (ap (λ (y : Cover). y .source) (r .3)) ∙ e in
             out (omega (arith, q .0), omega (arith, q .1))))
             ∙ sym (w″ .next v named)
+
+-- all records, with all cover edges behind the hyperedges, are no less than the graph
+pub whole-part : (s : List ℕ) (n h c middle : ℕ) (x : Assignment) → middle ≡ end (hyperLayout s n) h 14 → Part (decoded s n h c) (partOf s n h 14 (c - 0) (middle + 0 * 8)) x
+unfolding decoded partOf
+whole-part s n h c middle x behind =
+    let at : middle + 0 * 8 ≡ end (hyperLayout s n) h 14 = omega (arith, behind) in
+    let all : c - 0 ≡ c = omega arith in
+    rw (at, all) (record { nodes = refl; hyper-of = λ m. m; cover-of = λ m. m; hyper-in = λ m. inl m; cover-in = λ m. inl m })

@@ -32,6 +32,10 @@ module _ {n i : ℕ} {first last b : List ℕ} {a z : ℕ} (d : Marked n i first
       go v l ne (yes e) = rw e (low, omega (arith, high))
       go v l ne (no e) = let r = d .reach v (omega arith) ne in (omega (arith, r .0, falls), omega (arith, r .1, high))
 
+-- the first half: none, k more that are the same, and one more
+pub raised-none : {n : ℕ} {b : List ℕ} → Raised n 0 b b
+raised-none = record { same-length = refl; done = λ v l. absurd (omega arith); stays = λ v l. refl; past = refl }
+
 module _ {n i : ℕ} {b₀ b : List ℕ} (d : Raised n i b₀ b) where
   raised-alike : (k : ℕ) → Alike n i k b → Raised n (i + k) b₀ b × ((v : ℕ) → i ≤ v → v < i + k → getD b₀ v 0 ≡ getD b₀ (n + v) 0)
   raised-alike k same = (
@@ -51,7 +55,7 @@ module _ {n i : ℕ} {b₀ b : List ℕ} (d : Raised n i b₀ b) where
       go v l (yes h) = d .done v h
       go v l (no h) = here v (omega arith) l ∙ d .stays (n + v) (omega arith)
 
-  raised-set : i < n → n + n ≤ length b₀ → Raised n (i + 1) b₀ (set b i (getD b (n + i) 0))
+  pub raised-set : i < n → n + n ≤ length b₀ → Raised n (i + 1) b₀ (set b i (getD b (n + i) 0))
   raised-set inside room = record {
     same-length = length-set b i _ ∙ d .same-length;
     done = λ v l. go v l (ℕ-discrete v i);
@@ -66,7 +70,7 @@ module _ {n i : ℕ} {b₀ b : List ℕ} (d : Raised n i b₀ b) where
 -- the same of all that is published
 pub published-none : {n : ℕ} {first last pos lows highs b : List ℕ} → Published n 0 first last pos lows highs b b unnoted 0 14 unnoted 0
 published-none = record {
-  raised = record { same-length = refl; done = λ v l. absurd (omega arith); stays = λ v l. refl; past = refl };
+  raised = raised-none;
   hypers = marked-none;
   placed = λ l. absurd (omega arith);
   covers = marked-none;

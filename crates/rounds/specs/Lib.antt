@@ -4,3 +4,4 @@ pub mod Promise
 pub mod Room
 pub mod Ready
 pub mod Index
+pub mod Turns

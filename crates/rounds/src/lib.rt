@@ -12,8 +12,9 @@ ghost use Rattle.rules.specs.Rounds as rules;
 ghost use Rattle.graph.specs.Message.{readGraph};
 ghost use Rattle.graph.specs.Layouts.{targetLayout, hyperLayout, coverLayout, decoded, TargetOk, HyperOk};
 ghost use Rattle.rounds.specs.Room.{held, Sides, half, hyperIn, Done, Cleared, Alike, Same, Beside};
-ghost use Rattle.rounds.specs.Index.{slotOf, unnoted, partOf, Noted, NotedCovers, Published};
+ghost use Rattle.rounds.specs.Index.{slotOf, unnoted, partOf, Noted, NotedCovers, Raised, Published};
 ghost use Rattle.rounds.specs.Ready.{Climbs, Ready};
+ghost use Rattle.rounds.specs.Turns.{AtRound};
 ghost use Rattle.rounds.specs.Outcome.{outcomeNumber, outcomeCount, ended, filled, outcomeOf, roomOf};
 ghost use Rattle.rounds.specs.Promise.{Promise};
 use graph::Checked;
@@ -328,38 +329,67 @@ fn take_first(s: &[u8], n: usize, k: u32, at: usize, room: &mut [u64])
     }
 }
 
-// Takes all hyperedges into the second half from an infinite first, notes them, and gives the position past them.
-fn first_round(
+// Takes all hyperedges into the second half from an infinite first, and gives the position past them. No target is read.
+fn first_round(s: &[u8], n: usize, h: u32, room: &mut [u64]) -> usize
+    requires { ⌜ Sound (hyperLayout (now s) n) h 14 ⌝ }
+    requires { ⌜ n + n ≤ length (now room) ⌝ }
+    requires { ⌜ ((v : ℕ) → v < n → getD (now room) v 0 ≡ infinite) ⌝ }
+    ensures { λ r. ⌜ r ≡ end (hyperLayout (now (s .entry)) n) h 14 ⌝ }
+    ensures { λ _. ⌜ Done n 0 n (now (room .entry)) (now (room .exit)) (λ v.
+        min (getD (now (room .entry)) (n + v) 0)
+        (stored (rules.best (held (half n 0 (now (room .entry)))) v (items (hyperLayout (now (s .entry)) n) h 14)))) ⌝ }
+{
+    let mut i = h;
+    let mut p: usize = 14;
+    let mut last: u32 = 0;
+    let mut stride: usize = 4;
+    while 0 < i {
+        let count = wire::number_at(s, p + 2, Width::Two);
+        i -= 1;
+        if count == last {
+            take_first(s, n, last, p, room);
+            p += stride;
+        } else {
+            take_first(s, n, count, p, room);
+            last = count;
+            stride = 4 + (count as usize) * 6;
+            p += stride;
+        }
+    }
+    p
+}
+
+// Notes h hyperedges for the slots of their targets.
+fn note_hypers(
     s: &[u8],
     n: usize,
     h: u32,
     first: &mut [u32; 512],
     last: &mut [u32; 512],
     pos: &mut [usize; 512],
-    room: &mut [u64],
-) -> usize
+)
     requires { ⌜ Sound (hyperLayout (now s) n) h 14 ⌝ }
-    requires { ⌜ n + n ≤ length (now room) ⌝ }
     requires { ⌜ Noted (now s) n 0 [] (now first) (now last) (now pos) ⌝ }
-    requires { ⌜ ((v : ℕ) → v < n → getD (now room) v 0 ≡ infinite) ⌝ }
-    ensures { λ r. ⌜ r ≡ end (hyperLayout (now (s .entry)) n) h 14 ⌝ }
-    ensures { λ _. ⌜ Done n 0 n (now (room .entry)) (now (room .exit)) (λ v.
-        min (getD (now (room .entry)) (n + v) 0)
-        (stored (rules.best (held (half n 0 (now (room .entry)))) v (items (hyperLayout (now (s .entry)) n) h 14)))) ⌝ }
     ensures { λ _. ⌜ Noted (now (s .entry)) n h [] (now (first .exit)) (now (last .exit)) (now (pos .exit)) ⌝ }
 {
-    let mut i = h;
     let mut j: u32 = 0;
     let mut p: usize = 14;
-    while 0 < i {
+    let mut before: u32 = 0;
+    let mut stride: usize = 4;
+    while j < h {
         let count = wire::number_at(s, p + 2, Width::Two);
-        take_first(s, n, count, p, room);
-        note(s, n, j, p, count, first, last, pos);
-        p += 4 + (count as usize) * 6;
-        i -= 1;
-        j += 1;
+        if count == before {
+            note(s, n, j, p, before, first, last, pos);
+            p += stride;
+            j += 1;
+        } else {
+            note(s, n, j, p, count, first, last, pos);
+            before = count;
+            stride = 4 + (count as usize) * 6;
+            p += stride;
+            j += 1;
+        }
     }
-    p
 }
 
 // Notes c cover edges at a position for the slots of their targets.
@@ -395,6 +425,20 @@ struct Marks {
     at: usize,
     low: u32,
     high: u32,
+}
+
+// Brings the first half up to the second.
+fn raise(n: usize, room: &mut [u64])
+    requires { ⌜ n + n ≤ length (now room) ⌝ }
+    ensures { λ _. ⌜ Raised n n (now (room .entry)) (now (room .exit)) ⌝ }
+{
+    let mut i = 0;
+    while i < n {
+        let other = n + i;
+        let value = room[other];
+        room[i] = value;
+        i += 1;
+    }
 }
 
 // Brings the first half up to the second, and marks what may change with it.
@@ -565,23 +609,33 @@ fn same(n: usize, lo: usize, hi: usize, room: &[u64]) -> bool
     true
 }
 
-// The rounds of a graph that is ready, until one changes nothing or the budget is spent: a leaf, for a caller that has the check's facts.
-// The next round is worked out in the second half; then the first is brought up to it, and only what may have changed is worked out again.
-pub fn run(s: &[u8], n: usize, h: u32, c: u32, budget: u32, room: &mut [u64]) -> Outcome
+// From rounds 1 and 2 on, until a round changes nothing or the budget is spent. The next round is worked out in the second half; then
+// the first is brought up to it. Why skipping is exact: a record whose targets stayed in the last round gives what it gave before, which
+// its source has already, since rounds fall; so only records of changed targets are worked out, and only their sources are compared.
+fn run_on(
+    s: &[u8],
+    n: usize,
+    h: u32,
+    c: u32,
+    middle: usize,
+    budget: u32,
+    room: &mut [u64],
+) -> Outcome
     requires { ⌜ Ready (now s) n h c ⌝ }
+    requires { ⌜ middle ≡ end (hyperLayout (now s) n) h 14 ⌝ }
     requires { ⌜ n + n ≤ length (now room) ⌝ }
+    requires { ⌜ AtRound (decoded (now s) n h c) budget 1 (now room) (now room) ⌝ }
     ensures { λ r. ⌜ r ≡ ended (decoded (now (s .entry)) n h c) budget ⌝ }
     ensures { λ r. ⌜ now (room .exit) ≡ filled (decoded (now (s .entry)) n h c) (outcomeCount r) (now (room .entry)) ⌝ }
 {
-    clear(n + n, room);
     let mut first = [4294967295u32; 512];
     let mut last = [0u32; 512];
     let mut pos = [0usize; 512];
-    let middle = first_round(s, n, h, &mut first, &mut last, &mut pos, room);
+    note_hypers(s, n, h, &mut first, &mut last, &mut pos);
     let mut lows = [4294967295u32; 512];
     let mut highs = [0u32; 512];
     note_covers(s, n, c, middle, &mut lows, &mut highs);
-    let mut i: u32 = 0;
+    let mut i: u32 = 1;
     let mut lo: usize = 0;
     let mut hi = n;
     loop {
@@ -602,6 +656,30 @@ pub fn run(s: &[u8], n: usize, h: u32, c: u32, budget: u32, room: &mut [u64]) ->
         hi = farther(to, covers_hi);
         i += 1;
     }
+}
+
+// The rounds of a graph that is ready, until one changes nothing or the budget is spent: a leaf, for a caller that has the check's facts.
+// Round 1 needs no target, and round 2 takes every record in; many questions settle there, so what is noted is noted only after them.
+pub fn run(s: &[u8], n: usize, h: u32, c: u32, budget: u32, room: &mut [u64]) -> Outcome
+    requires { ⌜ Ready (now s) n h c ⌝ }
+    requires { ⌜ n + n ≤ length (now room) ⌝ }
+    ensures { λ r. ⌜ r ≡ ended (decoded (now (s .entry)) n h c) budget ⌝ }
+    ensures { λ r. ⌜ now (room .exit) ≡ filled (decoded (now (s .entry)) n h c) (outcomeCount r) (now (room .entry)) ⌝ }
+{
+    clear(n + n, room);
+    let middle = first_round(s, n, h, room);
+    if same(n, 0, n, room) {
+        return Outcome::Settled(0);
+    }
+    if budget == 0 {
+        return Outcome::Spent(0);
+    }
+    raise(n, room);
+    next_round(s, n, h, 14, c, middle, 0, c, room);
+    if same(n, 0, n, room) {
+        return Outcome::Settled(1);
+    }
+    run_on(s, n, h, c, middle, budget, room)
 }
 
 // The rounds on a message: first the graph, then the room, then the budget.
