@@ -29,7 +29,7 @@ use Rattle.rounds.specs.Outcome.{outcomeCount, ended, filled, outcomeOn,
 use Rattle.rounds.specs.Promise.{Promise}
 use Rattle.rounds.specs.Ready.{Ready, Storable}
 use Rattle.rounds.proofs.Promised.{rounds-fit, kept}
-use Rattle.rounds.proofs.Climbing.{rising-climbs}
+use Rattle.wire.proofs.Parts.{rising-climbs}
 use Rattle.rounds.proofs.Laws.{count-reported}
 
 -- a well-formed graph that is read is ready, with its counts

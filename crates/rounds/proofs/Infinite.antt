@@ -23,7 +23,7 @@ use Rattle.rules.specs.Rounds.{Assignment, holds, covered, worst}
 use Rattle.graph.specs.Layouts.{targetLayout, coverLayout, HyperOk}
 use Rattle.rounds.specs.Room.{held, half, hyperIn, Done}
 use Rattle.rounds.proofs.Room.{half-at}
-use Rattle.rounds.proofs.Parts.{∈-items, sound-at}
+use Rattle.wire.proofs.Parts.{∈-items, sound-at}
 
 module _ (s : List ℕ) (n at : ℕ) (b : List ℕ) where
   pub first-none : number 2 s (at + 2) ≡ 0 → hyperIn s n 0 n at b ≡ set b (n + number 2 s at) 0

@@ -2,8 +2,6 @@
 --     Room       the halves; a pass over the next round's numbers: a turn that stores one, a turn that stores none; clearing
 --     Scan       a scan over the records of a message: a turn takes the next record in
 --     Next       with the hyperedges, with the cover edges: the round
---     Parts      records by their number, and a part of them
---     Climbing   sources that never fall; a node that a part has no edge of stays
 --     Infinite   round 1: from an infinite half only a hyperedge without targets gives anything
 --     Noting     noting records for the slots of their targets
 --     Publishing the first half is brought up to the second, and what may change with it is marked
@@ -20,8 +18,6 @@ pub mod Promised
 pub mod Laws
 pub mod Budget
 pub mod Begin
-pub mod Parts
-pub mod Climbing
 pub mod Infinite
 pub mod Noting
 pub mod Publishing

@@ -21,17 +21,18 @@ use Rattle.rules.specs.Rounds.{Assignment, Agree, round, rounds, Settled}
 use Rattle.rules.specs.Count.{count, First}
 use Rattle.rules.proofs.Order.{rounds-next}
 use Rattle.rules.proofs.Count.{count-first, first-unique, stops-spent}
-use Rattle.rules.proofs.Skip.{Part, IdleHyper, IdleCover, stayed-hyper, stayed-cover, skip-round}
+use Rattle.rules.proofs.Skip.{Part, IdleHyper, IdleCover, stayed-hyper, stayed-cover, skip-round, untouched}
 use Rattle.graph.specs.Layouts.{hyperLayout, coverLayout, decoded}
 use Rattle.rounds.specs.declared.Outcome.the-variants as Outcome
 use Rattle.rounds.specs.Outcome.{ended, storedValues, filled}
 use Rattle.rounds.specs.Ready.{Climbs, Ready, Storable}
 use Rattle.rounds.specs.Room.{held, half, Done, Cleared, Same, Beside}
 use Rattle.rounds.specs.Index.{slotOf, unnoted, partOf, Spans, Noted, NotedCovers, Marked, Raised, Published}
+use Rattle.rounds.specs.declared.Marks.{Marks}
 use Rattle.rounds.specs.Turns.{AtRound}
 use Rattle.rounds.proofs.Room.{half-at}
-use Rattle.rounds.proofs.Parts.{end-wide, ∈-items, part-sound, part-number, part-end, part-of, part-has}
-use Rattle.rounds.proofs.Climbing.{untouched}
+use Rattle.wire.proofs.Stride.{end-wide}
+use Rattle.wire.proofs.Parts.{∈-items, part-sound, part-number, part-end, part-of, part-has}
 
 -- numbers that store the values of an assignment
 pub values-are : (n : ℕ) (b : List ℕ) (x : Assignment) → n ≤ length b → ((v : ℕ) → v < n → getD b v 0 ≡ stored (x v)) → take n b ≡ storedValues n x
@@ -150,33 +151,33 @@ module _ (g : Graph) (closed : Closed g) (storable : Storable g) where
         })
 
 -- what a turn has at hand: the graph is ready, its records are noted, and what the changed nodes reach is marked
-pub record Marking (s : List ℕ) (n h c middle : ℕ) (first last pos lows highs b b₁ : List ℕ) (a z at ca cz : ℕ) : Type 0 where
+pub record Marking (s : List ℕ) (n h c middle : ℕ) (first last pos lows highs b b₁ : List ℕ) (m : Marks) : Type 0 where
   pub ready : Ready s n h c
   pub behind : middle ≡ end (hyperLayout s n) h 14
   pub few : h ≤ unnoted
   pub noted : Noted s n h [] first last pos
   pub noted-covers : NotedCovers s n c middle lows highs
-  pub published : Published n n first last pos lows highs b b₁ a z at ca cz
+  pub published : Published n n first last pos lows highs b b₁ m
 
 -- the edges that are marked
-module _ {s : List ℕ} {n h c middle : ℕ} {first last pos lows highs b b₁ : List ℕ} {a z at ca cz : ℕ} (marking : Marking s n h c middle first last pos lows highs b b₁ a z at ca cz) where
-  pub upto : z ≤ h
+module _ {s : List ℕ} {n h c middle : ℕ} {first last pos lows highs b b₁ : List ℕ} {marks : Marks} (marking : Marking s n h c middle first last pos lows highs b b₁ marks) where
+  pub upto : marks .last ≤ h
   upto = marking .published .hypers .top h (marking .noted .within)
 
-  pub there : a < z → at ≡ end (hyperLayout s n) a 14
+  pub there : marks .first < marks .last → marks .at ≡ end (hyperLayout s n) (marks .first) 14
   there l =
       let u = marking .published .placed (omega (arith, upto, marking .few)) in
       u .3 ∙ marking .noted .placed (u .0) (u .1) (omega (arith, u .2, upto, marking .few)) ∙ ap (λ (k : ℕ). end (hyperLayout s n) k 14) (sym (u .2))
 
-  pub marked-sound : {k : ℕ} → k ≡ z - a → Sound (hyperLayout s n) k at
-  marked-sound e = rw e (part-sound (hyperLayout s n) h 14 a z at upto there (marking .ready .sound .hypers))
+  pub marked-sound : {k : ℕ} → k ≡ marks .last - marks .first → Sound (hyperLayout s n) k (marks .at)
+  marked-sound e = rw e (part-sound (hyperLayout s n) h 14 (marks .first) (marks .last) (marks .at) upto there (marking .ready .sound .hypers))
 
-  pub covers-upto : cz ≤ c
+  pub covers-upto : marks .high ≤ c
   covers-upto = marking .published .covers .top c (marking .noted-covers .within)
 
   -- where the marked hyperedges end
-  pub marked-past : {k p : ℕ} → k ≡ z - a → p ≡ end (hyperLayout s n) k at → a < z → p ≡ end (hyperLayout s n) z 14
-  marked-past counted e l = e ∙ ap (λ (k : ℕ). end (hyperLayout s n) k at) counted ∙ part-end (hyperLayout s n) h 14 a z at upto there l
+  pub marked-past : {k p : ℕ} → k ≡ marks .last - marks .first → p ≡ end (hyperLayout s n) k (marks .at) → marks .first < marks .last → p ≡ end (hyperLayout s n) (marks .last) 14
+  marked-past counted e l = e ∙ ap (λ (k : ℕ). end (hyperLayout s n) k (marks .at)) counted ∙ part-end (hyperLayout s n) h 14 (marks .first) (marks .last) (marks .at) upto there l
 
   pub covers-climb : Climbs s (coverLayout s n) c middle
   covers-climb = subst (Climbs s (coverLayout s n) c) (sym (marking .behind)) (marking .ready .covers-climb)
@@ -196,27 +197,27 @@ module _ {s : List ℕ} {n h c middle : ℕ} {first last pos lows highs b b₁ :
         go (no e) = let r = m .reach v named e in absurd (out (omega (arith, r .0, sp .from), omega (arith, r .1, sp .upto)))
 
     in-part : {x : Hyper} → x ∈ items (hyperLayout s n) h 14 → (j : ℕ) × (j < h) × (x ≡ hyperLayout s n .item (end (hyperLayout s n) j 14))
-        → (x ∈ items (hyperLayout s n) (z - a) at) ⊎ IdleHyper (rounds (decoded s n h c) (suc i)) x
+        → (x ∈ items (hyperLayout s n) (marks .last - marks .first) (marks .at)) ⊎ IdleHyper (rounds (decoded s n h c) (suc i)) x
     unfolding decoded
-    in-part {x} m (j, l, is) = go (decLt j a) (decLt j z)
+    in-part {x} m (j, l, is) = go (decLt j (marks .first)) (decLt j (marks .last))
       where
         spanned : (t : Target) → Spans first last (slotOf n (t .node)) j ⊎ ((j + 1 ≡ h) × (t ∈ [])) → Spans first last (slotOf n (t .node)) j
         spanned t (inl sp) = sp
         spanned t (inr q) = absurd (List·Memᴰ·not-nil (q .1))
 
-        idle : ¬ ((a ≤ j) × (j < z)) → IdleHyper (rounds (decoded s n h c) (suc i)) x
+        idle : ¬ ((marks .first ≤ j) × (j < marks .last)) → IdleHyper (rounds (decoded s n h c) (suc i)) x
         idle out = stayed-hyper (decoded s n h c) i m (λ t k.
             stay-or (t .node) (marking .ready .closed .hyper m k) (marking .published .hypers) (spanned t (marking .noted .reach j t l (subst (λ (y : Hyper). t ∈ y .targets) is k))) out)
 
-        go : Dec (j < a) → Dec (j < z) → (x ∈ items (hyperLayout s n) (z - a) at) ⊎ IdleHyper (rounds (decoded s n h c) (suc i)) x
-        go (no low) (yes high) = inl (subst (λ (y : Hyper). y ∈ items (hyperLayout s n) (z - a) at) (sym is) (part-has (hyperLayout s n) h 14 a z at upto there j (omega arith) high))
+        go : Dec (j < marks .first) → Dec (j < marks .last) → (x ∈ items (hyperLayout s n) (marks .last - marks .first) (marks .at)) ⊎ IdleHyper (rounds (decoded s n h c) (suc i)) x
+        go (no low) (yes high) = inl (subst (λ (y : Hyper). y ∈ items (hyperLayout s n) (marks .last - marks .first) (marks .at)) (sym is) (part-has (hyperLayout s n) h 14 (marks .first) (marks .last) (marks .at) upto there j (omega arith) high))
         go (yes low) q = inr (idle (λ o. omega (arith, o .0)))
         go (no low) (no high) = inr (idle (λ o. high (o .1)))
 
     cover-in-part : {x : Cover} → x ∈ items (coverLayout s n) c middle → (j : ℕ) × (j < c) × (x ≡ coverLayout s n .item (end (coverLayout s n) j middle))
-        → (x ∈ items (coverLayout s n) (cz - ca) (middle + ca * 8)) ⊎ IdleCover (rounds (decoded s n h c) (suc i)) x
+        → (x ∈ items (coverLayout s n) (marks .high - marks .low) (middle + marks .low * 8)) ⊎ IdleCover (rounds (decoded s n h c) (suc i)) x
     unfolding decoded
-    cover-in-part {x} m (j, l, is) = go (decLt j ca) (decLt j cz)
+    cover-in-part {x} m (j, l, is) = go (decLt j (marks .low)) (decLt j (marks .high))
       where
         whole : x ∈ items (coverLayout s n) c (end (hyperLayout s n) h 14)
         whole = subst (λ (p : ℕ). x ∈ items (coverLayout s n) c p) (marking .behind) m
@@ -224,35 +225,35 @@ module _ {s : List ℕ} {n h c middle : ℕ} {first last pos lows highs b b₁ :
         target-is : number 2 s (middle + j * 8 + 6) ≡ x .target
         target-is = ap (λ (p : ℕ). number 2 s (p + 6)) (cover-at j) ∙ ap (λ (y : Cover). y .target) (sym is)
 
-        idle : ¬ ((ca ≤ j) × (j < cz)) → IdleCover (rounds (decoded s n h c) (suc i)) x
+        idle : ¬ ((marks .low ≤ j) × (j < marks .high)) → IdleCover (rounds (decoded s n h c) (suc i)) x
         idle out = stayed-cover (decoded s n h c) i whole
             (stay-or (x .target) (marking .ready .closed .cover whole) (marking .published .covers) (subst (λ (v : ℕ). Spans lows highs (slotOf n v) j) target-is (marking .noted-covers .reach j l)) out)
 
-        go : Dec (j < ca) → Dec (j < cz) → (x ∈ items (coverLayout s n) (cz - ca) (middle + ca * 8)) ⊎ IdleCover (rounds (decoded s n h c) (suc i)) x
-        go (no low) (yes high) = inl (subst (λ (y : Cover). y ∈ items (coverLayout s n) (cz - ca) (middle + ca * 8)) (sym is)
-            (part-has (coverLayout s n) c middle ca cz (middle + ca * 8) covers-upto (λ q. cover-at ca) j (omega arith) high))
+        go : Dec (j < marks .low) → Dec (j < marks .high) → (x ∈ items (coverLayout s n) (marks .high - marks .low) (middle + marks .low * 8)) ⊎ IdleCover (rounds (decoded s n h c) (suc i)) x
+        go (no low) (yes high) = inl (subst (λ (y : Cover). y ∈ items (coverLayout s n) (marks .high - marks .low) (middle + marks .low * 8)) (sym is)
+            (part-has (coverLayout s n) c middle (marks .low) (marks .high) (middle + marks .low * 8) covers-upto (λ q. cover-at (marks .low)) j (omega arith) high))
         go (yes low) q = inr (idle (λ o. omega (arith, o .0)))
         go (no low) (no high) = inr (idle (λ o. high (o .1)))
 
     -- every other edge has targets that stayed
-    all-marked : Part (decoded s n h c) (partOf s n (z - a) at (cz - ca) (middle + ca * 8)) (rounds (decoded s n h c) (suc i))
+    all-marked : Part (decoded s n h c) (partOf s n (marks .last - marks .first) (marks .at) (marks .high - marks .low) (middle + marks .low * 8)) (rounds (decoded s n h c) (suc i))
     unfolding decoded partOf
     all-marked = record {
       nodes = refl;
-      hyper-of = λ m. part-of (hyperLayout s n) h 14 a z at upto there m;
+      hyper-of = λ m. part-of (hyperLayout s n) h 14 (marks .first) (marks .last) (marks .at) upto there m;
       cover-of = λ {c = x} m. subst (λ (p : ℕ). x ∈ items (coverLayout s n) c p) (marking .behind)
-          (part-of (coverLayout s n) c middle ca cz (middle + ca * 8) covers-upto (λ q. cover-at ca) m);
+          (part-of (coverLayout s n) c middle (marks .low) (marks .high) (middle + marks .low * 8) covers-upto (λ q. cover-at (marks .low)) m);
       hyper-in = λ m. in-part m (∈-items (hyperLayout s n) h 14 m);
       cover-in = λ {c = x} m. let m′ = subst (λ (p : ℕ). x ∈ items (coverLayout s n) c p) (sym (marking .behind)) m in cover-in-part m′ (∈-items (coverLayout s n) c middle m′);
     }
 
-    pub marked-part : {k : ℕ} → k ≡ z - a → Part (decoded s n h c) (partOf s n k at (cz - ca) (middle + ca * 8)) (rounds (decoded s n h c) (suc i))
+    pub marked-part : {k : ℕ} → k ≡ marks .last - marks .first → Part (decoded s n h c) (partOf s n k (marks .at) (marks .high - marks .low) (middle + marks .low * 8)) (rounds (decoded s n h c) (suc i))
     marked-part e = rw e all-marked
 
     -- a node of which no edge is marked stays in the next round too
     pub marked-beside : {b₂ : List ℕ} {lo hi : ℕ}
-        → ((j : ℕ) → a ≤ j → j < z → (lo ≤ number 2 s (end (hyperLayout s n) j 14)) × (number 2 s (end (hyperLayout s n) j 14) < hi))
-        → ((j : ℕ) → ca ≤ j → j < cz → (lo ≤ number 2 s (end (coverLayout s n) j middle)) × (number 2 s (end (coverLayout s n) j middle) < hi))
+        → ((j : ℕ) → marks .first ≤ j → j < marks .last → (lo ≤ number 2 s (end (hyperLayout s n) j 14)) × (number 2 s (end (hyperLayout s n) j 14) < hi))
+        → ((j : ℕ) → marks .low ≤ j → j < marks .high → (lo ≤ number 2 s (end (coverLayout s n) j middle)) × (number 2 s (end (coverLayout s n) j middle) < hi))
         → AtRound (decoded s n h c) budget (i + 1) b₀ b₂ → Beside n lo hi b₂
     unfolding decoded partOf
     marked-beside {b₂} {lo} {hi} hypers covers w′ = record {
@@ -264,14 +265,14 @@ module _ {s : List ℕ} {n h c middle : ℕ} {first last pos lows highs b b₁ :
         stays v named out =
             let w″ : AtRound (decoded s n h c) budget (suc i) b₀ b₂ = rw (add-one i) at w′ in
             w″ .this v named
-            ∙ ap stored (untouched (decoded s n h c) (partOf s n (z - a) at (cz - ca) (middle + ca * 8)) (marking .ready .closed) (suc i) all-marked v named
+            ∙ ap stored (untouched (decoded s n h c) (partOf s n (marks .last - marks .first) (marks .at) (marks .high - marks .low) (middle + marks .low * 8)) (marking .ready .closed) (suc i) all-marked v named
             (λ x m e.
-            let r = part-number (hyperLayout s n) h 14 a z at upto there m in
+            let r = part-number (hyperLayout s n) h 14 (marks .first) (marks .last) (marks .at) upto there m in
             let q = hypers (r .0) (r .1) (r .2) in
             let is : number 2 s (end (hyperLayout s n) (r .0) 14) ≡ v = sym (ap (λ (y : Hyper). y .source) (r .3)) ∙ e in
             out (omega (arith, q .0), omega (arith, q .1)))
             (λ x m e.
-            let r = part-number (coverLayout s n) c middle ca cz (middle + ca * 8) covers-upto (λ q. cover-at ca) m in
+            let r = part-number (coverLayout s n) c middle (marks .low) (marks .high) (middle + marks .low * 8) covers-upto (λ q. cover-at (marks .low)) m in
             let q = covers (r .0) (r .1) (r .2) in
             let is : number 2 s (end (coverLayout s n) (r .0) middle) ≡ v = sym (ap (λ (y : Cover). y .source) (r .3)) ∙ e in
             out (omega (arith, q .0), omega (arith, q .1))))

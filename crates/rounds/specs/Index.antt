@@ -1,16 +1,17 @@
 -- Where each node is a target: for a slot of nodes the first and the last hyperedge that has one of them as a target.
-use Prim.Native.Nat.{ℕ, _+_, _*_, _/_, _%_, _<_, _≤_}
+use Prim.Native.Nat.{ℕ, _+_, _*_, _/_, _%_, _<_, _≤_, min, max}
 use mathlib.Core.List.{List}
 use mathlib.Core.Bool.{cond}
 use mathlib.Core.Logic.{_⊎_}
 use mathlib.Core.Path.{_≡_}
 use lib.ListN.{length, getD, drop}
-use lib.Dec.{leb}
+use lib.Dec.{leb, ltb}
 use Rattle.lists.specs.Lists.{_∈_}
 use Rattle.wire.specs.Bytes.{number}
 use Rattle.wire.specs.Layout.{items, end}
 use Rattle.rules.specs.Graph.{Graph, Target}
 use Rattle.graph.specs.Layouts.{hyperLayout, coverLayout}
+use Rattle.rounds.specs.declared.Marks.{Marks}
 
 -- the slot of a node: a slot each, or eight nodes to a slot
 unfoldable pub slotOf : ℕ → ℕ → ℕ
@@ -50,9 +51,22 @@ pub record Marked (n i : ℕ) (first last b : List ℕ) (a z : ℕ) : Type 0 whe
   pub reach : (v : ℕ) → v < i → ¬ (getD b v 0 ≡ getD b (n + v) 0) → (a ≤ getD first (slotOf n v) 0) × (getD last (slotOf n v) 0 ≤ z)
   pub top : (k : ℕ) → ((u : ℕ) → u < 512 → getD last u 0 ≤ k) → z ≤ k
 
--- the hyperedge a stands at a position
-abbrev pub Placed : (first pos : List ℕ) (a at : ℕ) → Type 0
-Placed first pos a at = a < unnoted → (u : ℕ) × (u < 512) × (a ≡ getD first u 0) × (at ≡ getD pos u 0)
+-- no marks; what a slot has noted is marked too
+abbrev pub noMarks : Marks
+noMarks = record { first = unnoted; last = 0; at = 14; low = unnoted; high = 0 }
+
+abbrev pub moreMarks : Marks → (first last at low high : ℕ) → Marks
+moreMarks m first last at low high = record {
+  first = min (m .first) first;
+  last = max (m .last) last;
+  at = cond (ltb first (m .first)) at (m .at);
+  low = min (m .low) low;
+  high = max (m .high) high;
+}
+
+-- the first marked hyperedge stands at its position
+abbrev pub Placed : (first pos : List ℕ) → Marks → Type 0
+Placed first pos m = m .first < unnoted → (u : ℕ) × (u < 512) × (m .first ≡ getD first u 0) × (m .at ≡ getD pos u 0)
 
 -- the first i numbers are brought up to the next round
 pub record Raised (n i : ℕ) (b₀ b : List ℕ) : Type 0 where
@@ -61,12 +75,12 @@ pub record Raised (n i : ℕ) (b₀ b : List ℕ) : Type 0 where
   pub stays : (v : ℕ) → i ≤ v → getD b v 0 ≡ getD b₀ v 0
   pub past : drop (n + n) b ≡ drop (n + n) b₀
 
--- all of that
-pub record Published (n i : ℕ) (first last pos coverFirst coverLast b₀ b : List ℕ) (a z at ca cz : ℕ) : Type 0 where
+-- and what they reach is marked
+pub record Published (n i : ℕ) (first last pos lows highs b₀ b : List ℕ) (m : Marks) : Type 0 where
   pub raised : Raised n i b₀ b
-  pub hypers : Marked n i first last b₀ a z
-  pub placed : Placed first pos a at
-  pub covers : Marked n i coverFirst coverLast b₀ ca cz
+  pub hypers : Marked n i first last b₀ (m .first) (m .last)
+  pub placed : Placed first pos m
+  pub covers : Marked n i lows highs b₀ (m .low) (m .high)
 
 -- the part of the graph with k hyperedges at a position, and c cover edges at another
 unfoldable pub partOf : List ℕ → (n k at c middle : ℕ) → Graph

@@ -2,7 +2,7 @@
 ghost use mathlib.Core.Path.{_≡_};
 ghost use mathlib.Core.Bool.{true, false, cond};
 ghost use Prim.Native.Nat.{ℕ, _+_, _-_, _*_, _<_, _≤_, min, max};
-ghost use mathlib.Core.List.{[]};
+ghost use mathlib.Core.List.{List, []};
 ghost use lib.ListN.{length, getD};
 ghost use Rattle.wire.specs.Bytes.{number};
 ghost use Rattle.wire.specs.Layout.{items, end, Sound};
@@ -12,7 +12,7 @@ ghost use Rattle.rules.specs.Rounds as rules;
 ghost use Rattle.graph.specs.Message.{readGraph};
 ghost use Rattle.graph.specs.Layouts.{targetLayout, hyperLayout, coverLayout, decoded, TargetOk, HyperOk};
 ghost use Rattle.rounds.specs.Room.{held, Sides, half, hyperIn, Done, Cleared, Alike, Same, Beside};
-ghost use Rattle.rounds.specs.Index.{slotOf, unnoted, partOf, Noted, NotedCovers, Raised, Published};
+ghost use Rattle.rounds.specs.Index.{slotOf, unnoted, partOf, Noted, NotedCovers, Raised, noMarks, moreMarks, Published};
 ghost use Rattle.rounds.specs.Ready.{Climbs, Ready};
 ghost use Rattle.rounds.specs.Turns.{AtRound};
 ghost use Rattle.rounds.specs.Outcome.{outcomeNumber, outcomeCount, ended, filled, outcomeOf, roomOf};
@@ -427,6 +427,46 @@ struct Marks {
     high: u32,
 }
 
+impl Marks {
+    // Nothing is reached.
+    fn none() -> Self
+        ensures { λ r. ⌜ r ≡ noMarks ⌝ }
+    {
+        Marks {
+            first: 4294967295,
+            last: 0,
+            at: 14,
+            low: 4294967295,
+            high: 0,
+        }
+    }
+
+    // What is noted of a slot is reached too.
+    fn more(self, first: u32, last: u32, at: usize, low: u32, high: u32) -> Self
+        ensures { λ r. ⌜ r ≡ moreMarks self first last at low high ⌝ }
+    {
+        let last = greater(self.last, last);
+        let low = lesser(self.low, low);
+        let high = greater(self.high, high);
+        if first < self.first {
+            return Marks {
+                first,
+                last,
+                at,
+                low,
+                high,
+            };
+        }
+        Marks {
+            first: self.first,
+            last,
+            at: self.at,
+            low,
+            high,
+        }
+    }
+}
+
 // Brings the first half up to the second.
 fn raise(n: usize, room: &mut [u64])
     requires { ⌜ n + n ≤ length (now room) ⌝ }
@@ -439,6 +479,42 @@ fn raise(n: usize, room: &mut [u64])
         room[i] = value;
         i += 1;
     }
+}
+
+// Brings the first half up to the second from a node to before another, and marks what may change with it.
+fn publish_block(
+    n: usize,
+    from: usize,
+    stop: usize,
+    first: &[u32; 512],
+    last: &[u32; 512],
+    pos: &[usize; 512],
+    lows: &[u32; 512],
+    highs: &[u32; 512],
+    marks: Marks,
+    room: &mut [u64],
+) -> Marks
+    requires { ⌜ n + n ≤ length (now room) ⌝ }
+    requires { ⌜ (from ≤ stop) × (stop ≤ n) ⌝ }
+    ensures { λ r. ⌜ ((b₀ : List ℕ) → n + n ≤ length b₀
+        → Published n from (now (first .entry)) (now (last .entry)) (now (pos .entry)) (now (lows .entry)) (now (highs .entry)) b₀ (now (room .entry)) marks
+        → Published n stop (now (first .entry)) (now (last .entry)) (now (pos .entry)) (now (lows .entry)) (now (highs .entry)) b₀ (now (room .exit)) r) ⌝ }
+{
+    let mut m = marks;
+    let mut v = from;
+    while v < stop {
+        let w = v;
+        let other = n + w;
+        let value = room[other];
+        let old = room[w];
+        v += 1;
+        if old != value {
+            room[w] = value;
+            let u = slot(n, w);
+            m = m.more(first[u], last[u], pos[u], lows[u], highs[u]);
+        }
+    }
+    m
 }
 
 // Brings the first half up to the second, and marks what may change with it.
@@ -457,51 +533,19 @@ fn publish(
     requires { ⌜ (lo ≤ n) × (hi ≤ n) ⌝ }
     requires { ⌜ Beside n lo hi (now room) ⌝ }
     ensures { λ r. ⌜ Published n n (now (first .entry)) (now (last .entry)) (now (pos .entry)) (now (lows .entry)) (now (highs .entry))
-        (now (room .entry)) (now (room .exit)) (r .first) (r .last) (r .at) (r .low) (r .high) ⌝ }
+        (now (room .entry)) (now (room .exit)) r ⌝ }
 {
-    let mut a: u32 = 4294967295;
-    let mut z: u32 = 0;
-    let mut at: usize = 14;
-    let mut ca: u32 = 4294967295;
-    let mut cz: u32 = 0;
+    let mut m = Marks::none();
     let mut v = lo;
     while v < hi {
         let k = block(hi - v);
-        let stop = v + k;
-        if alike(n, v, k, room) {
-            v = stop;
-        } else {
-            while v < stop {
-                let w = v;
-                let other = n + w;
-                let value = room[other];
-                let old = room[w];
-                v += 1;
-                if old != value {
-                    room[w] = value;
-                    let u = slot(n, w);
-                    let l = last[u];
-                    let f = first[u];
-                    let cl = highs[u];
-                    let cf = lows[u];
-                    z = greater(z, l);
-                    cz = greater(cz, cl);
-                    ca = lesser(ca, cf);
-                    if f < a {
-                        a = f;
-                        at = pos[u];
-                    }
-                }
-            }
+        let from = v;
+        v += k;
+        if !alike(n, from, k, room) {
+            m = publish_block(n, from, v, first, last, pos, lows, highs, m, room);
         }
     }
-    Marks {
-        first: a,
-        last: z,
-        at: at,
-        low: ca,
-        high: cz,
-    }
+    m
 }
 
 // The lesser and the greater of two numbers, and how much the one is above the other.

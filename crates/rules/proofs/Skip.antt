@@ -4,10 +4,10 @@ use mathlib.Core.Bool.{true}
 use mathlib.Core.Logic.{_⊎_, inl, inr}
 use Prim.Native.Nat.{ℕ, suc, _<_}
 use Rattle.lists.specs.Lists.{_∈_}
-use Rattle.value.specs.Value.{Value, plus, least, meets, _≼_, _⊑_}
+use Rattle.value.specs.Value.{Value, fin, inf, plus, least, meets, _≼_, _⊑_}
 use Rattle.rules.specs.Graph.{Graph, Target, Hyper, Cover, Closed}
 use Rattle.rules.specs.Rounds.{Assignment, holds, round, rounds, Agree, Below}
-use Rattle.value.proofs.Values.{least-≼, ≼-least, ⊑-antisym}
+use Rattle.value.proofs.Values.{least-≼, ≼-least, ⊑-inf, ⊑-antisym}
 use Rattle.rules.proofs.Reasons.{Reason, by-cover, by-hyper, reason, at-most}
 use Rattle.rules.proofs.Order.{round-agree, rounds-fall}
 
@@ -81,3 +81,21 @@ unfolding rounds
 skip-round g p closed i part {x} e v l =
     ap (least (rounds g i v)) (round-agree p (part-closed closed part) (λ u k. e u (rw (part .nodes) at k)) v (rw (part .nodes) l))
     ∙ skip g p (rounds g i) part (rounds-fall g closed i) v l
+
+-- a node without edges gets nothing
+no-edge : (p : Graph) (x : Assignment) (v : ℕ) → ((h : Hyper) → h ∈ p .hypers → ¬ (h .source ≡ v)) → ((c : Cover) → c ∈ p .covers → ¬ (c .source ≡ v)) → round p x v ≡ inf
+no-edge p x v hs cs = ⊑-antisym ⊑-inf (record { carries = λ q. none (reason p x v q) })
+  where
+    none : {k : ℕ} → Reason p x v k → inf ≼ k
+    none (by-cover c m s e) = absurd (cs c m s)
+    none (by-hyper h m s f) = absurd (hs h m s)
+
+least-inf : (a : Value) → least a inf ≡ a
+least-inf (fin a) = refl
+least-inf inf = refl
+
+-- so a node that the part has no edge of stays
+pub untouched : (g p : Graph) → Closed g → (i : ℕ) → Part g p (rounds g i) → (v : ℕ) → v < g .nodes
+    → ((h : Hyper) → h ∈ p .hypers → ¬ (h .source ≡ v)) → ((c : Cover) → c ∈ p .covers → ¬ (c .source ≡ v)) → rounds g i v ≡ rounds g (suc i) v
+untouched g p closed i part v l hs cs =
+    sym (least-inf (rounds g i v)) ∙ ap (least (rounds g i v)) (sym (no-edge p (rounds g i) v hs cs)) ∙ skip-round g p closed i part (λ u k. refl) v l

@@ -7,7 +7,7 @@ use borrow.Author.Needs.{needs}
 use Rattle.wire.specs.Bytes.{number}
 use Rattle.wire.specs.Layout.{end}
 use Rattle.graph.specs.Layouts.{hyperLayout, HyperOk}
-use Rattle.rounds.proofs.Parts.{sound-at}
+use Rattle.wire.proofs.Parts.{sound-at}
 use Rattle.rounds.proofs.hypers_from.Statement.{statement}
 use Rattle.rounds.proofs.hypers_from.Tie as tie
 

@@ -10,7 +10,7 @@ use Rattle.wire.specs.Layout.{items, end, Sound}
 use Rattle.wire.proofs.Layouts.{end-none}
 use Rattle.graph.specs.Layouts.{targetLayout, hyperLayout, HyperOk}
 use Rattle.rounds.specs.Index.{Noted}
-use Rattle.rounds.proofs.Parts.{end-next, sound-at}
+use Rattle.wire.proofs.Parts.{end-next, sound-at}
 use Rattle.rounds.proofs.Noting.{noted-open}
 use Rattle.rounds.proofs.note_hypers.Statement.{statement}
 use Rattle.rounds.proofs.note_hypers.Tie as tie

@@ -62,9 +62,8 @@ marking : (c : tie.After-publish Inv-loop μ-loop) →
     let a = start k .args in
     let hypers = k .note-hypers .last .1 .1 .1 in
     let covers = turn (unspent c) .before .note-covers .last .1 .1 .1 .1 in
-    let m = c .publish .result in
     Marking (now (a .s)) (a .n) (a .h) (a .c) (a .middle) (hypers .0) (hypers .1 .0) (hypers .1 .1 .0) (covers .0) (covers .1 .0)
-    (turn (unspent c) .loop .room) (c .publish .last .1 .1 .1 .1 .1 .1 .1 .1 .0) (m .first) (m .last) (m .at) (m .low) (m .high)
+    (turn (unspent c) .loop .room) (c .publish .last .1 .1 .1 .1 .1 .1 .1 .1 .0) (c .publish .result)
 marking c =
     let k = noted (turn (unspent c)) in
     record {

@@ -1,13 +1,14 @@
--- Records by their number: where each stands, and a part of them that starts at one of them. Assumes nothing.
+-- Records by their number: where each stands, a part of them that starts at one of them, and sources that never fall. Assumes nothing.
 use Prim.Native.Nat.{ℕ, zero, suc, _+_, _-_, _*_, _<_, _≤_}
-use mathlib.Core.List.{List, [], _∷_, List·Memᴰ·head, List·Memᴰ·tail, List·Memᴰ·not-nil}
+use mathlib.Core.List.{List, [], _∷_, map, List·Memᴰ·head, List·Memᴰ·tail, List·Memᴰ·not-nil}
 use mathlib.Core.Path.{_≡_, refl, sym, ap, subst, _∙_}
 use native.Mathlib.Decide.{decLt}
-use native.Mathlib.Nat.{not-suc-le-zero, suc-add, zero-add}
+use native.Mathlib.Nat.{not-suc-le-zero, suc-add, zero-add, le-trans}
 use native.Mathlib.Numerals.{add-one}
 use native.Mathlib.Omega.{arith}
 use Rattle.lists.specs.Lists.{_∈_}
+use Rattle.lists.specs.Order.{RisingFrom}
 use Rattle.wire.specs.Layout.{Layout, items, end, Sound, none, more}
 
 module _ {A : Type 0} (L : Layout A) where
   pub end-add : (i k at : ℕ) → end L (i + k) at ≡ end L k (end L i at)
@@ -50,14 +51,6 @@ module _ {A : Type 0} (L : Layout A) where
       go : Sound L 1 (end L i at) → L .Ok (end L i at)
       go (more ok r) = ok
 
-  -- records of one width
-  pub end-wide : (w : ℕ) → ((at : ℕ) → L .next at ≡ at + w) → (k at : ℕ) → end L k at ≡ at + k * w
-  unfolding end
-  end-wide w wide zero at = omega arith
-  end-wide w wide (suc k) at =
-      let there : at + w + k * w ≡ at + suc k * w = omega arith in
-      ap (end L k) (wide at) ∙ end-wide w wide k (at + w) ∙ there
-
   -- those from number a to before number z, which stand at p if there are any
   module _ (h at a z p : ℕ) (within : z ≤ h) (there : a < z → p ≡ end L a at) where
     pub part-sound : Sound L h at → Sound L (z - a) p
@@ -87,3 +80,19 @@ module _ {A : Type 0} (L : Layout A) where
         let whole : a + (i - a) ≡ i = omega arith in
         let is : end L (i - a) p ≡ end L i at = ap (end L (i - a)) (there l) ∙ sym (end-add a (i - a) at) ∙ ap (λ (k : ℕ). end L k at) whole in
         subst (λ (q : ℕ). L .item q ∈ items L (z - a) p) is (items-∈ (z - a) p (i - a) (omega arith))
+
+-- sources that rise along the list rise by number
+module _ {A : Type 0} (L : Layout A) (source : A → ℕ) where
+  rising-at : (b k at i : ℕ) → RisingFrom b (map source (items L k at)) → i < k → b ≤ source (L .item (end L i at))
+  unfolding items end RisingFrom
+  rising-at b zero at i r l = absurd (not-suc-le-zero l)
+  rising-at b (suc k) at zero r l = r .0
+  rising-at b (suc k) at (suc i) r l = le-trans (r .0) (rising-at (source (L .item at)) k (L .next at) i (r .1) (omega arith))
+
+  pub rising-climbs : (b k at i j : ℕ) → RisingFrom b (map source (items L k at)) → i ≤ j → j < k → source (L .item (end L i at)) ≤ source (L .item (end L j at))
+  unfolding items end RisingFrom
+  rising-climbs b zero at i j r l h = absurd (not-suc-le-zero h)
+  rising-climbs b (suc k) at zero zero r l h = omega arith
+  rising-climbs b (suc k) at zero (suc j) r l h = rising-at (source (L .item at)) k (L .next at) j (r .1) (omega arith)
+  rising-climbs b (suc k) at (suc i) zero r l h = absurd (not-suc-le-zero l)
+  rising-climbs b (suc k) at (suc i) (suc j) r l h = rising-climbs (source (L .item at)) k (L .next at) i j (r .1) (omega arith) (omega arith)
