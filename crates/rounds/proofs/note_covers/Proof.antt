@@ -11,7 +11,8 @@ use Rattle.wire.specs.Layout.{Sound}
 use Rattle.graph.specs.Layouts.{coverLayout, CoverOk}
 use Rattle.rounds.specs.Index.{slotOf, NotedCovers}
 use Rattle.rounds.proofs.Noting.{covers-more}
-use Rattle.wire.proofs.Parts.{sound-at, end-wide}
+use Rattle.wire.proofs.Stride.{end-wide}
+use Rattle.wire.proofs.Parts.{sound-at}
 use Rattle.rounds.proofs.note_covers.Statement.{statement}
 use Rattle.rounds.proofs.note_covers.Tie as tie
 

@@ -8,7 +8,8 @@ use lib.ListN.{length}
 use Rattle.graph.specs.Layouts.{coverLayout, CoverOk}
 use Rattle.rounds.specs.Room.{forth}
 use Rattle.rounds.proofs.Next.{none-covered}
-use Rattle.wire.proofs.Parts.{sound-at, end-wide, part-sound}
+use Rattle.wire.proofs.Stride.{end-wide}
+use Rattle.wire.proofs.Parts.{sound-at, part-sound}
 use Rattle.rounds.proofs.take_marked.Statement.{statement}
 use Rattle.rounds.proofs.take_marked.Tie as tie
 
