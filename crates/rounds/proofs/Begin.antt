@@ -1,6 +1,6 @@
 -- An accepted message is ready for the rounds, and so is the writing of a well-formed graph. Assumes nothing.
 use Prim.Native.Nat.{ℕ, _+_, _≤_, _<_}
-use mathlib.Core.List.{List}
+use mathlib.Core.List.{List, map}
 use mathlib.Core.Path.{_≡_, refl, sym, ap, subst, _∙_}
 use lib.ListN.{length}
 use native.Mathlib.Omega.{arith}
@@ -10,14 +10,15 @@ use Rattle.refusal.specs.declared.Refusal.the-variants.{Room}
 use Rattle.wire.specs.Bytes.{Bytes, number}
 use Rattle.wire.specs.Read.{Read, good, bad}
 use Rattle.wire.proofs.Fields.{value-inside, value-is}
-use Rattle.rules.specs.Graph.{Graph, Closed}
+use Rattle.rules.specs.Graph.{Graph, Hyper, Cover, Closed}
 use Rattle.graph.specs.declared.Checked.{Checked}
 use Rattle.graph.specs.declared.Checked.the-variants as Checked
 use Rattle.graph.specs.Message.{readGraph}
 use Rattle.graph.specs.Answers.{checked}
 use Rattle.graph.specs.WellFormed.{WellFormed}
 use Rattle.graph.specs.Write.{writeGraph}
-use Rattle.graph.specs.Layouts.{decoded}
+use Rattle.lists.specs.Order.{Rising}
+use Rattle.graph.specs.Layouts.{hyperLayout, coverLayout, decoded}
 use Rattle.graph.proofs.Accepted.{holds}
 use Rattle.graph.proofs.Answered.{checked-refused}
 use Rattle.graph.proofs.Exact.{accepted-written, written-accepted}
@@ -28,13 +29,24 @@ use Rattle.rounds.specs.Outcome.{outcomeCount, ended, filled, outcomeOn,
 use Rattle.rounds.specs.Promise.{Promise}
 use Rattle.rounds.specs.Ready.{Ready, Storable}
 use Rattle.rounds.proofs.Promised.{rounds-fit, kept}
+use Rattle.wire.proofs.Parts.{rising-climbs}
 use Rattle.rounds.proofs.Laws.{count-reported}
 
 -- a well-formed graph that is read is ready, with its counts
 ready-with : (s : List ℕ) (g : Graph) → readGraph s ≡ good g → WellFormed g → Ready s (g .nodes) (length (g .hypers)) (length (g .covers))
+unfolding decoded
 ready-with s g r wf =
+    let n = g .nodes in
     let held = holds s g r in
-    record { sound = held .sound; closed = subst Closed (held .is) (wf .closed); storable = subst Storable (held .is) (rounds-fit g wf) }
+    let rising = subst (λ (g : Graph). Rising (map (λ (x : Hyper). x .source) (g .hypers))) (held .is) (wf .hypers-ordered) in
+    let covers-rising = subst (λ (g : Graph). Rising (map (λ (x : Cover). x .source) (g .covers))) (held .is) (wf .covers-ordered) in
+    record {
+      sound = held .sound;
+      closed = subst Closed (held .is) (wf .closed);
+      storable = subst Storable (held .is) (rounds-fit g wf);
+      hypers-climb = λ i j l k. rising-climbs (hyperLayout s n) (λ x. x .source) 0 _ 14 i j rising l k;
+      covers-climb = λ i j l k. rising-climbs (coverLayout s n) (λ x. x .source) 0 _ _ i j covers-rising l k;
+    }
 
 -- a message that is checked as a graph of these counts
 pub record Begin (s : List ℕ) (n h c : ℕ) : Type 0 where

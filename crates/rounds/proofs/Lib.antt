@@ -2,7 +2,10 @@
 --     Room       the halves; a pass over the next round's numbers: a turn that stores one, a turn that stores none; clearing
 --     Scan       a scan over the records of a message: a turn takes the next record in
 --     Next       with the hyperedges, with the cover edges: the round
---     Loop       the loop over rounds: which half a round stands in, where a turn begins, when the next round is worked out, and how a turn ends
+--     Infinite   round 1: from an infinite half only a hyperedge without targets gives anything
+--     Noting     noting records for the slots of their targets
+--     Publishing the first half is brought up to the second, and what may change with it is marked
+--     Loop       the loop over rounds: where a turn begins, that what is marked is enough, and how a turn ends
 --     Promised   what the customer is promised follows from the definitions
 --     Laws       one answer, two budgets that settle, when BUDGET is given
 --     Budget     BUDGET has its number to itself
@@ -15,3 +18,6 @@ pub mod Promised
 pub mod Laws
 pub mod Budget
 pub mod Begin
+pub mod Infinite
+pub mod Noting
+pub mod Publishing

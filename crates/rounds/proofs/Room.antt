@@ -8,7 +8,7 @@ use lib.Seq.{take-set-le, drop-set-lt, drop-drop, getD-set-same, getD-set-other,
 use native.Mathlib.Decide.{ℕ-discrete, decLt}
 use native.Mathlib.Omega.{arith}
 use Rattle.value.specs.Stored.{infinite}
-use Rattle.rounds.specs.Room.{Sides, forth, back, half, Going, Cleared, Alike, Same}
+use Rattle.rounds.specs.Room.{Sides, forth, back, half, Going, Cleared, Alike, Same, Beside}
 
 -- both sides begin within the first n numbers
 pub sides-from : {n from to : ℕ} → Sides n from to → from ≤ n
@@ -28,35 +28,23 @@ half-set : {n from to : ℕ} → Sides n from to → (b : List ℕ) (j k : ℕ) 
 half-set {n} {to = to} (forth e f) b j k l = rw e (take-set-le n b (to + j) k (omega arith))
 half-set {n} {to = to} (back e f) b j k l = rw e (ap (take n) (drop-set-lt n b (to + j) k (omega arith)))
 
--- whether the halves are the same can be asked from either side
-pub same-sides : {n from to : ℕ} (b : List ℕ) → Sides n from to → Same n b → (v : ℕ) → v < n → getD b (from + v) 0 ≡ getD b (to + v) 0
-same-sides {n} {from} {to} b (forth e f) s v l =
-    let p : from + v ≡ v = omega arith in
-    let q : to + v ≡ n + v = omega arith in
-    rw (p, q) (s v l)
-same-sides {n} {from} {to} b (back e f) s v l =
-    let p : from + v ≡ n + v = omega arith in
-    let q : to + v ≡ v = omega arith in
-    rw (p, q) (sym (s v l))
+-- those below i are the same, and k more behind them; and where no more can differ
+abbrev pub SameBelow : (n i : ℕ) → List ℕ → Type 0
+SameBelow n i b = (v : ℕ) → v < i → v < n → getD b v 0 ≡ getD b (n + v) 0
 
-pub sides-same : {n from to : ℕ} (b : List ℕ) → Sides n from to → ((v : ℕ) → v < n → getD b (from + v) 0 ≡ getD b (to + v) 0) → Same n b
-sides-same {n} {from} {to} b (forth e f) h v l =
-    let p : from + v ≡ v = omega arith in
-    let q : to + v ≡ n + v = omega arith in
-    rw (p, q) at (h v l)
-sides-same {n} {from} {to} b (back e f) h v l =
-    let p : from + v ≡ n + v = omega arith in
-    let q : to + v ≡ v = omega arith in
-    sym (rw (p, q) at (h v l))
-
--- those below i are the same, and k more behind them
-pub same-more : (n i k : ℕ) (b : List ℕ) → ((v : ℕ) → v < i → getD b v 0 ≡ getD b (n + v) 0) → Alike n i k b
-    → (v : ℕ) → v < i + k → getD b v 0 ≡ getD b (n + v) 0
-same-more n i k b below more v l = go (decLt v i)
+pub same-more : (n i k : ℕ) (b : List ℕ) → SameBelow n i b → Alike n i k b → SameBelow n (i + k) b
+same-more n i k b below more v l named = go (decLt v i)
   where
     go : Dec (v < i) → getD b v 0 ≡ getD b (n + v) 0
-    go (yes h) = below v h
+    go (yes h) = below v h named
     go (no h) = let e : i + (v - i) ≡ v = omega arith in rw e at (more (v - i) (omega arith))
+
+pub same-all : {n lo hi : ℕ} {b : List ℕ} (i : ℕ) → SameBelow n i b → Beside n lo hi b → hi ≤ i → Same n b
+same-all {n} {lo} {hi} {b} i below beside h v l = go (decLt v i)
+  where
+    go : Dec (v < i) → getD b v 0 ≡ getD b (n + v) 0
+    go (yes k) = below v k l
+    go (no k) = beside .behind v (omega arith) l
 
 module _ {n from to : ℕ} {b₀ b : List ℕ} {left left′ : ℕ → ℕ → ℕ} {all : ℕ → ℕ} (g : Going n from to b₀ b left all) where
   -- a turn that stores nothing

@@ -2,7 +2,7 @@
 use Prim.Native.Nat.{ℕ, _+_, _*_, _-_, _<_, _≤_, min, max}
 use mathlib.Core.List.{List, _∷_}
 use mathlib.Core.Bool.{Bool, true, false, cond, _||_, _&&_}
-use mathlib.Core.Path.{_≡_, refl, sym, ap, subst}
+use mathlib.Core.Path.{_≡_, refl, sym, ap, subst, _∙_}
 use lib.ListN.{length, getD, set}
 use lib.Dec.{eqb}
 use borrow.Author.Tests.{eq-eqb, ne-eqb}
@@ -12,8 +12,8 @@ use Rattle.value.specs.Value.{plus, meets}
 use Rattle.value.specs.Stored.{stored, infinite}
 use Rattle.value.proofs.Stored.{stored-greatest, stored-least}
 use Rattle.wire.specs.Bytes.{number}
-use Rattle.wire.specs.Layout.{items}
-use Rattle.wire.proofs.Layouts.{items-more}
+use Rattle.wire.specs.Layout.{items, end, Sound}
+use Rattle.wire.proofs.Layouts.{items-more, end-more, end-none, sound-more}
 use Rattle.rules.specs.Graph.{Target, Hyper, Cover}
 use Rattle.rules.specs.Rounds.{Assignment, holds, worst, best, covered}
 use Rattle.value.specs.Coded.{boundOf}
@@ -97,6 +97,38 @@ module _ (s : List ℕ) (n from to : ℕ) (x : Assignment) (i p : ℕ) {b₀ b :
         past = g .past;
         each = λ v l. omega (arith, g′ .each v l, fits (to + v));
       }
+
+-- i hyperedges at p are left to take in, of k at a position
+pub record Left (s : List ℕ) (n from to k at : ℕ) (b₀ b : List ℕ) (i p : ℕ) : Type 0 where
+  pub sound : Sound (hyperLayout s n) i p
+  pub ends : end (hyperLayout s n) i p ≡ end (hyperLayout s n) k at
+  pub going : Going n from to b₀ b (leftHypers (held (half n from b₀)) (items (hyperLayout s n) i p))
+      (λ v. leftHypers (held (half n from b₀)) (items (hyperLayout s n) k at) v (getD b₀ (to + v) 0))
+
+-- all are
+pub left-all : {s : List ℕ} {n from to k at : ℕ} {b : List ℕ} → Sound (hyperLayout s n) k at → Left s n from to k at b b k at
+left-all sound = record { sound = sound; ends = refl; going = record { same-length = refl; this = refl; past = refl; each = λ v h. refl } }
+
+module _ {s : List ℕ} {n from to k at : ℕ} {b₀ b : List ℕ} {i p : ℕ} (d : Left s n from to k at b₀ b i p) where
+  -- the next one is sound
+  pub left-here : 0 < i → HyperOk s n p
+  left-here h = sound-more _ h (d .sound) .0
+
+  -- once it is taken in, one less is left, a stride further
+  pub left-turn : Sides n from to → n + n ≤ length b₀ → 0 < i → {b′ : List ℕ} → b′ ≡ hyperIn s n from to p b
+      → {stride : ℕ} → stride ≡ 4 + number 2 s (p + 2) * 6 → Left s n from to k at b₀ b′ (i - 1) (p + stride)
+  left-turn sides room h is {stride} e =
+      let next : p + stride ≡ p + 4 + number 2 s (p + 2) * 6 = omega arith in
+      rw (is, next) (record {
+        sound = sound-more _ h (d .sound) .1;
+        ends = sym (end-more _ _ _ h) ∙ d .ends;
+        going = hypers-turn _ _ _ _ _ i p (d .going) sides room h (left-here h) (ap held (d .going .this));
+      })
+
+  -- none is
+  pub left-none : i ≡ 0 → ((v : ℕ) → getD b v 0 ≤ infinite)
+      → (p ≡ end (hyperLayout s n) k at) × Done n from to b₀ b (λ v. leftHypers (held (half n from b₀)) (items (hyperLayout s n) k at) v (getD b₀ (to + v) 0))
+  left-none e fits = (sym (end-none _ _ _ e) ∙ d .ends, hypers-end _ _ _ _ _ _ _ (d .going) e fits)
 
 -- a turn takes the next cover edge in, whether it holds or not; at the end nothing is left to do
 module _ (s : List ℕ) (n from to : ℕ) (x : Assignment) (i p : ℕ) {b₀ b : List ℕ} {all : ℕ → ℕ}

@@ -3,3 +3,5 @@ pub mod Outcome
 pub mod Promise
 pub mod Room
 pub mod Ready
+pub mod Index
+pub mod Turns

@@ -1,5 +1,5 @@
 -- The room while the rounds go on: n numbers of a round, n of the next, and what stays.
-use Prim.Native.Nat.{ℕ, _+_, _<_, min}
+use Prim.Native.Nat.{ℕ, _+_, _<_, _≤_, min}
 use mathlib.Core.List.{List}
 use mathlib.Core.Path.{_≡_}
 use lib.ListN.{length, getD, set, take, drop}
@@ -52,3 +52,8 @@ Alike n at k b = (v : ℕ) → v < k → getD b (at + v) 0 ≡ getD b (n + (at +
 -- both halves are the same: the next round is this one
 abbrev pub Same : ℕ → List ℕ → Type 0
 Same n b = (v : ℕ) → v < n → getD b v 0 ≡ getD b (n + v) 0
+
+-- outside of the nodes from lo to before hi both halves are the same
+pub record Beside (n lo hi : ℕ) (b : List ℕ) : Type 0 where
+  pub before : (v : ℕ) → v < lo → v < n → getD b v 0 ≡ getD b (n + v) 0
+  pub behind : (v : ℕ) → hi ≤ v → v < n → getD b v 0 ≡ getD b (n + v) 0

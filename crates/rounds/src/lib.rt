@@ -1,17 +1,20 @@
 // The rounds on a graph message, in a lent room of values.
 ghost use mathlib.Core.Path.{_≡_};
 ghost use mathlib.Core.Bool.{true, false, cond};
-ghost use Prim.Native.Nat.{_+_, _≤_, min};
+ghost use Prim.Native.Nat.{ℕ, _+_, _-_, _*_, _<_, _≤_, min, max};
+ghost use mathlib.Core.List.{List, []};
 ghost use lib.ListN.{length, getD};
 ghost use Rattle.wire.specs.Bytes.{number};
 ghost use Rattle.wire.specs.Layout.{items, end, Sound};
 ghost use Rattle.value.specs.Value.{plus};
-ghost use Rattle.value.specs.Stored.{stored};
+ghost use Rattle.value.specs.Stored.{stored, infinite};
 ghost use Rattle.rules.specs.Rounds as rules;
 ghost use Rattle.graph.specs.Message.{readGraph};
-ghost use Rattle.graph.specs.Layouts.{targetLayout, hyperLayout, coverLayout, decoded, TargetOk, HyperOk, Scannable};
-ghost use Rattle.rounds.specs.Room.{held, Sides, half, hyperIn, Done, Cleared, Alike, Same};
-ghost use Rattle.rounds.specs.Ready.{Ready};
+ghost use Rattle.graph.specs.Layouts.{targetLayout, hyperLayout, coverLayout, decoded, TargetOk, HyperOk};
+ghost use Rattle.rounds.specs.Room.{held, Sides, half, hyperIn, Done, Cleared, Alike, Same, Beside};
+ghost use Rattle.rounds.specs.Index.{slotOf, unnoted, partOf, Noted, NotedCovers, Raised, noMarks, moreMarks, Published};
+ghost use Rattle.rounds.specs.Ready.{Climbs, Ready};
+ghost use Rattle.rounds.specs.Turns.{AtRound};
 ghost use Rattle.rounds.specs.Outcome.{outcomeNumber, outcomeCount, ended, filled, outcomeOf, roomOf};
 ghost use Rattle.rounds.specs.Promise.{Promise};
 use graph::Checked;
@@ -166,17 +169,429 @@ fn take_covers(s: &[u8], n: usize, from: usize, to: usize, k: u32, at: usize, ro
     }
 }
 
-// Takes the next round into the n values at `to`, from the n of this one at `from`: rounds fall, so older values may stand there.
-fn next_round(s: &[u8], n: usize, h: u32, c: u32, from: usize, to: usize, room: &mut [u64])
-    requires { ⌜ Scannable (now s) n h c ⌝ }
-    requires { ⌜ Sides n from to ⌝ }
+// Takes the cover edges from number a to before number z into the second half from the first; c of them stand at `middle`.
+fn take_marked(s: &[u8], n: usize, c: u32, middle: usize, a: u32, z: u32, room: &mut [u64])
+    requires { ⌜ Sound (coverLayout (now s) n) c middle ⌝ }
+    requires { ⌜ z ≤ c ⌝ }
     requires { ⌜ n + n ≤ length (now room) ⌝ }
-    ensures { λ _. ⌜ Done n from to (now (room .entry)) (now (room .exit)) (λ v.
-        min (getD (now (room .entry)) (to + v) 0)
-        (stored (rules.round (decoded (now (s .entry)) n h c) (held (half n from (now (room .entry)))) v))) ⌝ }
+    ensures { λ _. ⌜ Done n 0 n (now (room .entry)) (now (room .exit)) (λ v.
+        cond (rules.covered (held (half n 0 (now (room .entry)))) v (items (coverLayout (now (s .entry)) n) (z - a) (middle + a * 8))) 0
+        (getD (now (room .entry)) (n + v) 0)) ⌝ }
 {
-    let middle = take_hypers(s, n, from, to, h, 14, room);
-    take_covers(s, n, from, to, c, middle, room);
+    if a < z {
+        let at = middle + (a as usize) * 8;
+        take_covers(s, n, 0, n, z - a, at, room);
+    }
+}
+
+// The part of the graph that a round takes in: k hyperedges at a position, and the cover edges from number a to before number z.
+fn next_round(
+    s: &[u8],
+    n: usize,
+    k: u32,
+    at: usize,
+    c: u32,
+    middle: usize,
+    a: u32,
+    z: u32,
+    room: &mut [u64],
+) -> usize
+    requires { ⌜ Sound (hyperLayout (now s) n) k at ⌝ }
+    requires { ⌜ Sound (coverLayout (now s) n) c middle ⌝ }
+    requires { ⌜ z ≤ c ⌝ }
+    requires { ⌜ n + n ≤ length (now room) ⌝ }
+    ensures { λ r. ⌜ r ≡ end (hyperLayout (now (s .entry)) n) k at ⌝ }
+    ensures { λ _. ⌜ Done n 0 n (now (room .entry)) (now (room .exit)) (λ v.
+        min (getD (now (room .entry)) (n + v) 0)
+        (stored (rules.round (partOf (now (s .entry)) n k at (z - a) (middle + a * 8)) (held (half n 0 (now (room .entry)))) v))) ⌝ }
+{
+    let past = take_hypers(s, n, 0, n, k, at, room);
+    take_marked(s, n, c, middle, a, z, room);
+    past
+}
+
+// The sources of the hyperedges from number a, at a position, to before number z, at another, are from the first on ..
+fn hypers_from(s: &[u8], n: usize, h: u32, a: u32, z: u32, at: usize) -> usize
+    requires { ⌜ Sound (hyperLayout (now s) n) h 14 ⌝ }
+    requires { ⌜ Climbs (now s) (hyperLayout (now s) n) h 14 ⌝ }
+    requires { ⌜ z ≤ h ⌝ }
+    requires { ⌜ (a < z → at ≡ end (hyperLayout (now s) n) a 14) ⌝ }
+    ensures { λ r. ⌜ (r ≤ n) × ((j : ℕ) → a ≤ j → j < z → r ≤ number 2 (now (s .entry)) (end (hyperLayout (now (s .entry)) n) j 14)) ⌝ }
+{
+    if a < z {
+        return wire::number_at(s, at, Width::Two) as usize;
+    }
+    n
+}
+
+// .. and before what this gives.
+fn hypers_to(s: &[u8], n: usize, h: u32, a: u32, z: u32, past: usize) -> usize
+    requires { ⌜ Sound (hyperLayout (now s) n) h 14 ⌝ }
+    requires { ⌜ Climbs (now s) (hyperLayout (now s) n) h 14 ⌝ }
+    requires { ⌜ z ≤ h ⌝ }
+    requires { ⌜ (a < z → past ≡ end (hyperLayout (now s) n) z 14) ⌝ }
+    ensures { λ r. ⌜ (r ≤ n) × ((j : ℕ) → a ≤ j → j < z → number 2 (now (s .entry)) (end (hyperLayout (now (s .entry)) n) j 14) < r) ⌝ }
+{
+    if z <= a {
+        return 0;
+    }
+    if z < h {
+        let next = wire::number_at(s, past, Width::Two) as usize;
+        return next + 1;
+    }
+    n
+}
+
+// The same of cover edges.
+fn covers_from(s: &[u8], n: usize, c: u32, middle: usize, a: u32, z: u32) -> usize
+    requires { ⌜ Sound (coverLayout (now s) n) c middle ⌝ }
+    requires { ⌜ Climbs (now s) (coverLayout (now s) n) c middle ⌝ }
+    requires { ⌜ z ≤ c ⌝ }
+    ensures { λ r. ⌜ (r ≤ n) × ((j : ℕ) → a ≤ j → j < z → r ≤ number 2 (now (s .entry)) (end (coverLayout (now (s .entry)) n) j middle)) ⌝ }
+{
+    if a < z {
+        let at = middle + (a as usize) * 8;
+        return wire::number_at(s, at, Width::Two) as usize;
+    }
+    n
+}
+
+fn covers_to(s: &[u8], n: usize, c: u32, middle: usize, a: u32, z: u32) -> usize
+    requires { ⌜ Sound (coverLayout (now s) n) c middle ⌝ }
+    requires { ⌜ Climbs (now s) (coverLayout (now s) n) c middle ⌝ }
+    requires { ⌜ z ≤ c ⌝ }
+    ensures { λ r. ⌜ (r ≤ n) × ((j : ℕ) → a ≤ j → j < z → number 2 (now (s .entry)) (end (coverLayout (now (s .entry)) n) j middle) < r) ⌝ }
+{
+    if z <= a {
+        return 0;
+    }
+    let at = middle + ((z - 1) as usize) * 8;
+    let last = wire::number_at(s, at, Width::Two) as usize;
+    last + 1
+}
+
+// The slot of a node.
+fn slot(n: usize, v: usize) -> usize
+    ensures { λ r. ⌜ (r ≡ slotOf n v) × (r < 512) ⌝ }
+{
+    if n <= 512 {
+        return v % 512;
+    }
+    v / 8 % 512
+}
+
+// Notes hyperedge j, at position p, for the slots of its k targets.
+fn note(
+    s: &[u8],
+    n: usize,
+    j: u32,
+    p: usize,
+    k: u32,
+    first: &mut [u32; 512],
+    last: &mut [u32; 512],
+    pos: &mut [usize; 512],
+)
+    requires { ⌜ Sound (targetLayout (now s) n) k (p + 4) ⌝ }
+    requires { ⌜ p + 4 ≤ length (now s) ⌝ }
+    requires { ⌜ p ≡ end (hyperLayout (now s) n) j 14 ⌝ }
+    requires { ⌜ j < unnoted ⌝ }
+    requires { ⌜ Noted (now s) n (j + 1) (items (targetLayout (now s) n) k (p + 4)) (now first) (now last) (now pos) ⌝ }
+    ensures { λ _. ⌜ Noted (now (s .entry)) n (j + 1) [] (now (first .exit)) (now (last .exit)) (now (pos .exit)) ⌝ }
+{
+    let mut i = k;
+    let mut q = p + 4;
+    while 0 < i {
+        let v = wire::number_at(s, q + 4, Width::Two) as usize;
+        let u = slot(n, v);
+        q += 6;
+        i -= 1;
+        last[u] = j + 1;
+        let old = first[u];
+        if j < old {
+            first[u] = j;
+            pos[u] = p;
+        }
+    }
+}
+
+// Takes a hyperedge of k targets at a position into the second half from a first half that is infinite: only one without targets gives anything.
+fn take_first(s: &[u8], n: usize, k: u32, at: usize, room: &mut [u64])
+    requires { ⌜ HyperOk (now s) n at ⌝ }
+    requires { ⌜ k ≡ number 2 (now s) (at + 2) ⌝ }
+    requires { ⌜ n + n ≤ length (now room) ⌝ }
+    requires { ⌜ ((v : ℕ) → v < n → getD (now room) v 0 ≡ infinite) ⌝ }
+    ensures { λ _. ⌜ now (room .exit) ≡ hyperIn (now (s .entry)) n 0 n at (now (room .entry)) ⌝ }
+{
+    if k == 0 {
+        let source = wire::number_at(s, at, Width::Two) as usize;
+        let own = n + source;
+        room[own] = 0;
+    }
+}
+
+// Takes all hyperedges into the second half from an infinite first, and gives the position past them. No target is read.
+fn first_round(s: &[u8], n: usize, h: u32, room: &mut [u64]) -> usize
+    requires { ⌜ Sound (hyperLayout (now s) n) h 14 ⌝ }
+    requires { ⌜ n + n ≤ length (now room) ⌝ }
+    requires { ⌜ ((v : ℕ) → v < n → getD (now room) v 0 ≡ infinite) ⌝ }
+    ensures { λ r. ⌜ r ≡ end (hyperLayout (now (s .entry)) n) h 14 ⌝ }
+    ensures { λ _. ⌜ Done n 0 n (now (room .entry)) (now (room .exit)) (λ v.
+        min (getD (now (room .entry)) (n + v) 0)
+        (stored (rules.best (held (half n 0 (now (room .entry)))) v (items (hyperLayout (now (s .entry)) n) h 14)))) ⌝ }
+{
+    let mut i = h;
+    let mut p: usize = 14;
+    let mut last: u32 = 0;
+    let mut stride: usize = 4;
+    while 0 < i {
+        let count = wire::number_at(s, p + 2, Width::Two);
+        i -= 1;
+        if count == last {
+            take_first(s, n, last, p, room);
+            p += stride;
+        } else {
+            take_first(s, n, count, p, room);
+            last = count;
+            stride = 4 + (count as usize) * 6;
+            p += stride;
+        }
+    }
+    p
+}
+
+// Notes h hyperedges for the slots of their targets.
+fn note_hypers(
+    s: &[u8],
+    n: usize,
+    h: u32,
+    first: &mut [u32; 512],
+    last: &mut [u32; 512],
+    pos: &mut [usize; 512],
+)
+    requires { ⌜ Sound (hyperLayout (now s) n) h 14 ⌝ }
+    requires { ⌜ Noted (now s) n 0 [] (now first) (now last) (now pos) ⌝ }
+    ensures { λ _. ⌜ Noted (now (s .entry)) n h [] (now (first .exit)) (now (last .exit)) (now (pos .exit)) ⌝ }
+{
+    let mut j: u32 = 0;
+    let mut p: usize = 14;
+    let mut before: u32 = 0;
+    let mut stride: usize = 4;
+    while j < h {
+        let count = wire::number_at(s, p + 2, Width::Two);
+        if count == before {
+            note(s, n, j, p, before, first, last, pos);
+            p += stride;
+            j += 1;
+        } else {
+            note(s, n, j, p, count, first, last, pos);
+            before = count;
+            stride = 4 + (count as usize) * 6;
+            p += stride;
+            j += 1;
+        }
+    }
+}
+
+// Notes c cover edges at a position for the slots of their targets.
+fn note_covers(
+    s: &[u8],
+    n: usize,
+    c: u32,
+    middle: usize,
+    first: &mut [u32; 512],
+    last: &mut [u32; 512],
+)
+    requires { ⌜ Sound (coverLayout (now s) n) c middle ⌝ }
+    requires { ⌜ NotedCovers (now s) n 0 middle (now first) (now last) ⌝ }
+    ensures { λ _. ⌜ NotedCovers (now (s .entry)) n c middle (now (first .exit)) (now (last .exit)) ⌝ }
+{
+    let mut j: u32 = 0;
+    let mut p = middle;
+    while j < c {
+        let v = wire::number_at(s, p + 6, Width::Two) as usize;
+        let u = slot(n, v);
+        let old = first[u];
+        first[u] = lesser(old, j);
+        p += 8;
+        j += 1;
+        last[u] = j;
+    }
+}
+
+// The hyperedges that a changed node may reach: from the first, at a position, to before the last. And the cover edges.
+struct Marks {
+    first: u32,
+    last: u32,
+    at: usize,
+    low: u32,
+    high: u32,
+}
+
+impl Marks {
+    // Nothing is reached.
+    fn none() -> Self
+        ensures { λ r. ⌜ r ≡ noMarks ⌝ }
+    {
+        Marks {
+            first: 4294967295,
+            last: 0,
+            at: 14,
+            low: 4294967295,
+            high: 0,
+        }
+    }
+
+    // What is noted of a slot is reached too.
+    fn more(self, first: u32, last: u32, at: usize, low: u32, high: u32) -> Self
+        ensures { λ r. ⌜ r ≡ moreMarks self first last at low high ⌝ }
+    {
+        let last = greater(self.last, last);
+        let low = lesser(self.low, low);
+        let high = greater(self.high, high);
+        if first < self.first {
+            return Marks {
+                first,
+                last,
+                at,
+                low,
+                high,
+            };
+        }
+        Marks {
+            first: self.first,
+            last,
+            at: self.at,
+            low,
+            high,
+        }
+    }
+}
+
+// Brings the first half up to the second.
+fn raise(n: usize, room: &mut [u64])
+    requires { ⌜ n + n ≤ length (now room) ⌝ }
+    ensures { λ _. ⌜ Raised n n (now (room .entry)) (now (room .exit)) ⌝ }
+{
+    let mut i = 0;
+    while i < n {
+        let other = n + i;
+        let value = room[other];
+        room[i] = value;
+        i += 1;
+    }
+}
+
+// Brings the first half up to the second from a node to before another, and marks what may change with it.
+fn publish_block(
+    n: usize,
+    from: usize,
+    stop: usize,
+    first: &[u32; 512],
+    last: &[u32; 512],
+    pos: &[usize; 512],
+    lows: &[u32; 512],
+    highs: &[u32; 512],
+    marks: Marks,
+    room: &mut [u64],
+) -> Marks
+    requires { ⌜ n + n ≤ length (now room) ⌝ }
+    requires { ⌜ (from ≤ stop) × (stop ≤ n) ⌝ }
+    ensures { λ r. ⌜ ((b₀ : List ℕ) → n + n ≤ length b₀
+        → Published n from (now (first .entry)) (now (last .entry)) (now (pos .entry)) (now (lows .entry)) (now (highs .entry)) b₀ (now (room .entry)) marks
+        → Published n stop (now (first .entry)) (now (last .entry)) (now (pos .entry)) (now (lows .entry)) (now (highs .entry)) b₀ (now (room .exit)) r) ⌝ }
+{
+    let mut m = marks;
+    let mut v = from;
+    while v < stop {
+        let w = v;
+        let other = n + w;
+        let value = room[other];
+        let old = room[w];
+        v += 1;
+        if old != value {
+            room[w] = value;
+            let u = slot(n, w);
+            m = m.more(first[u], last[u], pos[u], lows[u], highs[u]);
+        }
+    }
+    m
+}
+
+// Brings the first half up to the second, and marks what may change with it.
+fn publish(
+    n: usize,
+    lo: usize,
+    hi: usize,
+    first: &[u32; 512],
+    last: &[u32; 512],
+    pos: &[usize; 512],
+    lows: &[u32; 512],
+    highs: &[u32; 512],
+    room: &mut [u64],
+) -> Marks
+    requires { ⌜ n + n ≤ length (now room) ⌝ }
+    requires { ⌜ (lo ≤ n) × (hi ≤ n) ⌝ }
+    requires { ⌜ Beside n lo hi (now room) ⌝ }
+    ensures { λ r. ⌜ Published n n (now (first .entry)) (now (last .entry)) (now (pos .entry)) (now (lows .entry)) (now (highs .entry))
+        (now (room .entry)) (now (room .exit)) r ⌝ }
+{
+    let mut m = Marks::none();
+    let mut v = lo;
+    while v < hi {
+        let k = block(hi - v);
+        let from = v;
+        v += k;
+        if !alike(n, from, k, room) {
+            m = publish_block(n, from, v, first, last, pos, lows, highs, m, room);
+        }
+    }
+    m
+}
+
+// The lesser and the greater of two numbers, and how much the one is above the other.
+fn lesser(a: u32, b: u32) -> u32
+    ensures { λ r. ⌜ r ≡ min a b ⌝ }
+{
+    if a < b {
+        return a;
+    }
+    b
+}
+
+fn greater(a: u32, b: u32) -> u32
+    ensures { λ r. ⌜ r ≡ max a b ⌝ }
+{
+    if a < b {
+        return b;
+    }
+    a
+}
+
+fn nearer(a: usize, b: usize) -> usize
+    ensures { λ r. ⌜ r ≡ min a b ⌝ }
+{
+    if a < b {
+        return a;
+    }
+    b
+}
+
+fn farther(a: usize, b: usize) -> usize
+    ensures { λ r. ⌜ r ≡ max a b ⌝ }
+{
+    if a < b {
+        return b;
+    }
+    a
+}
+
+fn above(a: u32, b: u32) -> u32
+    ensures { λ r. ⌜ r ≡ a - b ⌝ }
+{
+    if a < b {
+        return 0;
+    }
+    a - b
 }
 
 // Sets the first k values to infinity.
@@ -220,14 +635,16 @@ fn alike(n: usize, at: usize, k: usize, room: &[u64]) -> bool
     all
 }
 
-// Whether both halves are the same.
-fn same(n: usize, room: &[u64]) -> bool
+// Whether both halves are the same, where they are but for the nodes from lo to before hi.
+fn same(n: usize, lo: usize, hi: usize, room: &[u64]) -> bool
     requires { ⌜ n + n ≤ length (now room) ⌝ }
+    requires { ⌜ hi ≤ n ⌝ }
+    requires { ⌜ Beside n lo hi (now room) ⌝ }
     ensures { λ r. ⌜ (r ≡ true → Same n (now (room .entry))) × (r ≡ false → ¬ Same n (now (room .entry))) ⌝ }
 {
-    let mut i = 0;
-    while i < n {
-        let k = block(n - i);
+    let mut i = lo;
+    while i < hi {
+        let k = block(hi - i);
         if !alike(n, i, k, room) {
             return false;
         }
@@ -236,8 +653,57 @@ fn same(n: usize, room: &[u64]) -> bool
     true
 }
 
+// From rounds 1 and 2 on, until a round changes nothing or the budget is spent. The next round is worked out in the second half; then
+// the first is brought up to it. Why skipping is exact: a record whose targets stayed in the last round gives what it gave before, which
+// its source has already, since rounds fall; so only records of changed targets are worked out, and only their sources are compared.
+fn run_on(
+    s: &[u8],
+    n: usize,
+    h: u32,
+    c: u32,
+    middle: usize,
+    budget: u32,
+    room: &mut [u64],
+) -> Outcome
+    requires { ⌜ Ready (now s) n h c ⌝ }
+    requires { ⌜ middle ≡ end (hyperLayout (now s) n) h 14 ⌝ }
+    requires { ⌜ n + n ≤ length (now room) ⌝ }
+    requires { ⌜ AtRound (decoded (now s) n h c) budget 1 (now room) (now room) ⌝ }
+    ensures { λ r. ⌜ r ≡ ended (decoded (now (s .entry)) n h c) budget ⌝ }
+    ensures { λ r. ⌜ now (room .exit) ≡ filled (decoded (now (s .entry)) n h c) (outcomeCount r) (now (room .entry)) ⌝ }
+{
+    let mut first = [4294967295u32; 512];
+    let mut last = [0u32; 512];
+    let mut pos = [0usize; 512];
+    note_hypers(s, n, h, &mut first, &mut last, &mut pos);
+    let mut lows = [4294967295u32; 512];
+    let mut highs = [0u32; 512];
+    note_covers(s, n, c, middle, &mut lows, &mut highs);
+    let mut i: u32 = 1;
+    let mut lo: usize = 0;
+    let mut hi = n;
+    loop {
+        if same(n, lo, hi, room) {
+            break Outcome::Settled(i);
+        }
+        if i == budget {
+            break Outcome::Spent(i);
+        }
+        let m = publish(n, lo, hi, &first, &last, &pos, &lows, &highs, room);
+        let k = above(m.last, m.first);
+        let past = next_round(s, n, k, m.at, c, middle, m.low, m.high, room);
+        let from = hypers_from(s, n, h, m.first, m.last, m.at);
+        let to = hypers_to(s, n, h, m.first, m.last, past);
+        let covers_lo = covers_from(s, n, c, middle, m.low, m.high);
+        let covers_hi = covers_to(s, n, c, middle, m.low, m.high);
+        lo = nearer(from, covers_lo);
+        hi = farther(to, covers_hi);
+        i += 1;
+    }
+}
+
 // The rounds of a graph that is ready, until one changes nothing or the budget is spent: a leaf, for a caller that has the check's facts.
-// The halves change roles, so begun that the round that spends the budget stands first; where a round changes nothing they are the same.
+// Round 1 needs no target, and round 2 takes every record in; many questions settle there, so what is noted is noted only after them.
 pub fn run(s: &[u8], n: usize, h: u32, c: u32, budget: u32, room: &mut [u64]) -> Outcome
     requires { ⌜ Ready (now s) n h c ⌝ }
     requires { ⌜ n + n ≤ length (now room) ⌝ }
@@ -245,20 +711,19 @@ pub fn run(s: &[u8], n: usize, h: u32, c: u32, budget: u32, room: &mut [u64]) ->
     ensures { λ r. ⌜ now (room .exit) ≡ filled (decoded (now (s .entry)) n h c) (outcomeCount r) (now (room .entry)) ⌝ }
 {
     clear(n + n, room);
-    let mut from = ((budget % 2) as usize) * n;
-    let mut i: u32 = 0;
-    loop {
-        let to = n - from;
-        next_round(s, n, h, c, from, to, room);
-        if same(n, room) {
-            break Outcome::Settled(i);
-        }
-        if i == budget {
-            break Outcome::Spent(i);
-        }
-        from = to;
-        i += 1;
+    let middle = first_round(s, n, h, room);
+    if same(n, 0, n, room) {
+        return Outcome::Settled(0);
     }
+    if budget == 0 {
+        return Outcome::Spent(0);
+    }
+    raise(n, room);
+    next_round(s, n, h, 14, c, middle, 0, c, room);
+    if same(n, 0, n, room) {
+        return Outcome::Settled(1);
+    }
+    run_on(s, n, h, c, middle, budget, room)
 }
 
 // The rounds on a message: first the graph, then the room, then the budget.

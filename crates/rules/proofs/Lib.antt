@@ -4,8 +4,10 @@
 --     Size       how large a finite value can be
 --     Chain      a change comes from a change one round earlier
 --     Count      the count is the first unchanged round, there is one such only, and it is at most n (c + 1)
+--     Skip       a part of a graph with every edge that gives something new gives the same next round, and leaves other nodes alone
 pub mod Reasons
 pub mod Order
 pub mod Size
 pub mod Chain
 pub mod Count
+pub mod Skip

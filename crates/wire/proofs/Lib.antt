@@ -6,6 +6,7 @@
 --     Readers    the turns of a loop over records, and what a good reading of them says
 --     Layouts    records by position
 --     Stride     records of one width by position
+--     Parts      records by their number, and a part of them
 --     Turns      the turns of a loop over records
 --     Start      the reading of a message's start, from the answer
 --     Counts     counts in a header: the reading from the answer, and what a good one says
@@ -21,6 +22,7 @@ pub mod Spares
 pub mod Readers
 pub mod Layouts
 pub mod Stride
+pub mod Parts
 pub mod Turns
 pub mod Start
 pub mod Stands

@@ -1,4 +1,4 @@
--- Records of one width by position: one by its index, the first so many and the rest, the turns of a loop that counts up. Assumes nothing.
+-- Records of one width by position: where they end, one by its index, the first so many and the rest, the turns of a loop that counts up. Assumes nothing.
 use Prim.Native.Nat.{ℕ, zero, suc, _+_, _*_, _-_, _<_, _≤_}
 use mathlib.Core.List.{_∷_, _++_}
 use mathlib.Core.Option.{some}
@@ -8,11 +8,18 @@ use native.Mathlib.Omega.{arith}
 use lib.ListN.{getD, getElem?, take, drop}
 use lib.Seq.{take-at, drop-at}
 use Rattle.lists.proofs.Places.{place-getD}
-use Rattle.wire.specs.Layout.{Layout, items}
+use Rattle.wire.specs.Layout.{Layout, items, end}
 use Rattle.wire.proofs.Layouts.{items-more, items-length}
 
 -- each record is w long
 module _ {A : Type 0} (L : Layout A) (w : ℕ) (wide : (at : ℕ) → L .next at ≡ at + w) where
+  pub end-wide : (k at : ℕ) → end L k at ≡ at + k * w
+  unfolding end
+  end-wide zero at = omega arith
+  end-wide (suc k) at =
+      let there : at + w + k * w ≡ at + suc k * w = omega arith in
+      ap (end L k) (wide at) ∙ end-wide k (at + w) ∙ there
+
   pub items-append : (i k at : ℕ) → items L (i + k) at ≡ items L i at ++ items L k (at + i * w)
   unfolding items
   items-append zero k at = let here : at + 0 * w ≡ at = omega arith in rw (zero-add, here)

@@ -1,124 +1,166 @@
--- `rounds::run` meets its contract: each turn begins with round i in a half of the room, and works the next out in the other.
-use Prim.Native.Nat.{_-_, _*_, _%_}
-use mathlib.Core.Path.{_∙_}
+-- `rounds::run` meets its contract: rounds 0 and 1 stand in the room, then rounds 1 and 2, and `run_on` goes on from there.
+use Prim.Native.Nat.{ℕ, _+_, _*_, _≤_}
+use mathlib.Core.List.{List}
+use mathlib.Core.Path.{_≡_, refl, sym, ap, subst, _∙_}
 use denote.Ref.{now}
 use native.Mathlib.Omega.{arith}
 use borrow.Author.Needs.{needs}
-use Rattle.graph.specs.Layouts.{decoded}
-use Rattle.rounds.proofs.Room.{sides-from}
-use Rattle.rounds.proofs.Loop.{AtRound, Worked, stands-first, stands-sides, begins, from-here, filled-past, worked, ends-settled, settled-filled, ends-spent, spent-filled, goes-on}
+use lib.ListN.{length}
+use Rattle.wire.specs.Layout.{Sound, end}
+use Rattle.graph.specs.Layouts.{hyperLayout, coverLayout, decoded}
+use Rattle.rounds.specs.Room.{Beside}
+use Rattle.rounds.specs.Index.{partOf}
+use Rattle.rounds.specs.Turns.{AtRound}
+use Rattle.rounds.proofs.Infinite.{covers-idle, stays-infinite}
+use Rattle.rounds.proofs.Next.{round-done}
+use Rattle.rounds.proofs.Loop.{begins, from-here, holds-filled, filled-past, ends-settled, ends-spent, goes-on, whole-part}
 use Rattle.rounds.proofs.run.Statement.{statement}
 use Rattle.rounds.proofs.run.Tie as tie
 
-abbrev Inv-loop : tie.InvT-loop
-Inv-loop s n h c budget room₀ from₀ i₀ room from i = AtRound (decoded s n h c) budget i from room₀ room
+-- places, from the last to the first: the second round, the budget that is not spent, the first round, the cleared room, the call
+abbrev raised : tie.After-same-arg2 → tie.After-raise
+raised c = c .before .before .before .before .before .before .before
 
-abbrev μ-loop : tie.MeasureT-loop
-μ-loop s n h c budget room₀ from₀ i₀ room from i = budget - i
+abbrev unspent : tie.After-raise → tie.Else2
+unspent c = c .before .before
 
--- round 0 stands in the room where the loop begins
-begun : (c : tie.After-slice-known2 Inv-loop μ-loop) → let a = c .before .before .before .before .before .before .args in
-    AtRound (decoded (now (a .s)) (a .n) (a .h) (a .c)) (a .budget) 0 (a .budget % 2 * a .n) (now (a .room)) (c .before .before .clear .last .1 .0)
-unfolding decoded
-begun c =
-    let a = c .before .before .before .before .before .before in
-    begins _ (a .pre .0 .closed) (a .pre .0 .storable) (c .before .before .clear .ensures)
+abbrev first : tie.Else2 → tie.After-first-round
+first c = c .before .before .before .before .before .before
 
--- the next round stands in the other half, in a room as long as it was
-done : (c : tie.After-next-round Inv-loop μ-loop) → let a = c .before .before .before .before .before .before .before .before .before .args in
-    Worked (decoded (now (a .s)) (a .n) (a .h) (a .c)) (a .budget) (c .before .before .loop .i) (c .before .before .loop .from) (c .before .before .before .before .before .clear .last .1 .0) (c .next-round .last .1 .1 .1 .1 .1 .1 .0)
-unfolding decoded
-done c =
-    let a = c .before .before .before .before .before .before .before .before .before in
-    worked _ (a .pre .0 .closed) (a .pre .0 .storable) (c .before .before .loop .inv) (c .next-round .ensures)
+abbrev cleared : tie.After-first-round → tie.After-clear
+cleared c = c .before .before .before .before
 
-add-clear : tie.Need-add-clear Inv-loop μ-loop
+abbrev start : tie.After-clear → tie.Start
+start c = c .before .before .before .before
+
+-- the room is as long as it was, after the first round and after the second
+long : (c : tie.After-first-round) → start (cleared c) .args .n + start (cleared c) .args .n ≤ length (c .first-round .last .1 .1 .1 .0)
+long c = rw (c .first-round .ensures .1 .same-length ∙ cleared c .clear .ensures .same-length) (start (cleared c) .pre .1)
+
+add-clear : tie.Need-add-clear
 add-clear c = omega (arith, c .before .before .pre .1)
 
-clear-requires : tie.Need-clear-requires Inv-loop μ-loop
+clear-requires : tie.Need-clear-requires
 clear-requires c κs = c .before .before .before .pre .1
 
-cast-from : tie.Need-cast-from Inv-loop μ-loop
-cast-from c = search needs
+first-round-requires : tie.Need-first-round-requires
+first-round-requires c κs =
+    let k = c .before .before .before in
+    (start k .pre .0 .sound .hypers, (rw (k .clear .ensures .same-length) (start k .pre .1), λ v l. k .clear .ensures .cleared v (omega arith)))
 
-mul-from : tie.Need-mul-from Inv-loop μ-loop
-mul-from c = let a = c .before .before .before .before .before .before in omega (arith, sides-from (stands-sides (stands-first (a .args .n) (a .args .budget))))
+-- round 0 stands first, and round 1 behind it
+begun : (c : tie.After-first-round) → let a = start (cleared c) .args in AtRound (decoded (now (a .s)) (a .n) (a .h) (a .c)) (a .budget) 0 (now (a .room)) (c .first-round .last .1 .1 .1 .0)
+unfolding decoded partOf
+begun c =
+    let ready = start (cleared c) .pre .0 in
+    let k = cleared c .clear .ensures in
+    let t = c .first-round .ensures .1 in
+    begins _ (ready .closed) (ready .storable) k
+    (round-done _ _ _ _ _ _ _ _ _ _ _ t (covers-idle _ _ _ _ _ (ready .sound .covers) (stays-infinite _ _ _ (t .this) (λ v l. k .cleared v (omega arith)))))
 
-loop-holds : tie.Need-loop-holds Inv-loop μ-loop
-loop-holds c = from-here (begun c)
+-- nothing is said of the halves yet
+anywhere : {n : ℕ} {b : List ℕ} → Beside n 0 n b
+anywhere = record { before = λ v l h. absurd (omega arith); behind = λ v l h. absurd (omega arith) }
 
-sub-to : tie.Need-sub-to Inv-loop μ-loop
-unfolding decoded
-sub-to c = sides-from (stands-sides (c .loop .inv .stands))
+same-requires : tie.Need-same-requires
+same-requires c κs = (long (c .before .before .before), (omega arith, anywhere))
 
-next-round-requires : tie.Need-next-round-requires Inv-loop μ-loop
-unfolding decoded
-next-round-requires c κs =
-    let a = c .before .before .before .before .before .before .before .before in
-    let l = c .before .loop in
-    (a .pre .0 .sound, (stands-sides (l .inv .stands), rw (l .inv .same-length ∙ begun (c .before .before) .same-length) (a .pre .1)))
+same-length : tie.Need-same-length
+same-length c = begun (c .before .before .before .before .before) .same-length
 
-same-requires : tie.Need-same-requires Inv-loop μ-loop
-same-requires c κs =
-    rw (done (c .before .before .before) .at .same-length ∙ begun (c .before .before .before .before .before .before) .same-length) (c .before .before .before .before .before .before .before .before .before .before .before .before .pre .1)
-
-add-i : tie.Need-add-i Inv-loop μ-loop
-add-i c = omega (arith, c .before .before .before .before .before .before .before .before .loop .inv .within, c .if2 .left, c .before .before .before .before .before .before .before .before .before .before .before .before .before .before .before .fits .budget)
-
-loop-less : tie.Need-loop-less Inv-loop μ-loop
-loop-less c = omega (arith, c .before .before .before .before .before .before .before .before .loop .inv .within, c .if2 .left)
-
-loop-again : tie.Need-loop-again Inv-loop μ-loop
-unfolding decoded
-loop-again c =
-    let a = c .before .before .before .before .before .before .before .before .before .before .before .before .before .before .before in
-    goes-on _ (a .pre .0 .closed) (a .pre .0 .storable) (done (c .before .before .before .before .before .before)) (c .before .before .same .ensures .1 (c .before .if1 .left)) (c .if2 .left)
-
-same-length : tie.Need-same-length Inv-loop μ-loop
-same-length c = done (c .before .before .before .before .before) .at .same-length ∙ begun (c .before .before .before .before .before .before .before .before) .same-length
-
-returns : tie.Need-returns Inv-loop μ-loop
+returns : tie.Need-returns
 unfolding decoded
 returns c =
-    let a = c .before .before .before .before .before .before .before .before .before .before .before .before .before .before in
-    let w = done (c .before .before .before .before .before) in
-    let b = begun (c .before .before .before .before .before .before .before .before) in
-    let same = c .before .same .ensures .0 (c .if1 .taken) in (
-      ends-settled _ (a .pre .0 .closed) (a .pre .0 .storable) w same,
-      settled-filled _ (a .pre .0 .closed) (a .pre .0 .storable) w (rw (b .same-length) (a .pre .1)) same ∙ filled-past _ _ _ _ (b .past),
-    )
+    let f = c .before .before .before .before .before in
+    let a = start (cleared f) in
+    (ends-settled _ (a .pre .0 .closed) (a .pre .0 .storable) (begun f) (c .before .same .ensures .0 (c .if1 .taken)), holds-filled (a .pre .1) (begun f))
 
-same-length-2 : tie.Need-same-length-2 Inv-loop μ-loop
-same-length-2 c = done (c .before .before .before .before .before .before) .at .same-length ∙ begun (c .before .before .before .before .before .before .before .before .before) .same-length
+same-length-2 : tie.Need-same-length-2
+same-length-2 c = begun (c .before .before .before .before .before .before) .same-length
 
-returns-2 : tie.Need-returns-2 Inv-loop μ-loop
+returns-2 : tie.Need-returns-2
 unfolding decoded
 returns-2 c =
-    let a = c .before .before .before .before .before .before .before .before .before .before .before .before .before .before .before in
-    let w = done (c .before .before .before .before .before .before) in
-    let b = begun (c .before .before .before .before .before .before .before .before .before) in (
-      ends-spent _ (a .pre .0 .closed) (a .pre .0 .storable) w (c .before .before .same .ensures .1 (c .before .if1 .left)) (c .if2 .taken),
-      spent-filled _ (a .pre .0 .closed) (a .pre .0 .storable) w (rw (b .same-length) (a .pre .1)) (c .if2 .taken) ∙ filled-past _ _ _ _ (b .past),
-    )
+    let f = c .before .before .before .before .before .before in
+    let a = start (cleared f) in
+    (ends-spent _ (a .pre .0 .closed) (a .pre .0 .storable) (begun f) (c .before .before .same .ensures .1 (c .before .if1 .left)) (sym (c .if2 .taken)), holds-filled (a .pre .1) (begun f))
+
+raise-requires : tie.Need-raise-requires
+raise-requires c κs = long (first (c .before))
+
+-- the cover edges stand behind the hyperedges
+covers-sound : (c : tie.After-first-round) → let a = start (cleared c) .args in Sound (coverLayout (now (a .s)) (a .n)) (a .c) (c .first-round .result)
+covers-sound c =
+    let a = start (cleared c) in
+    subst (Sound (coverLayout (now (a .args .s)) (a .args .n)) (a .args .c)) (sym (c .first-round .ensures .0)) (a .pre .0 .sound .covers)
+
+next-round-requires : tie.Need-next-round-requires
+next-round-requires c κs =
+    let r = c .before .before .before in
+    let f = first (unspent r) in
+    (start (cleared f) .pre .0 .sound .hypers, (covers-sound f, (omega arith, rw (r .raise .ensures .same-length) (long f))))
+
+-- round 1 stands first, and round 2 behind it
+again : (c : tie.After-next-round) → let a = start (cleared (first (unspent (c .before .before .before .before)))) .args in
+    AtRound (decoded (now (a .s)) (a .n) (a .h) (a .c)) (a .budget) 1 (now (a .room)) (c .next-round .last .1 .1 .1 .1 .1 .1 .1 .1 .0)
+unfolding decoded
+again c =
+    let r = c .before .before .before .before in
+    let u = unspent r in
+    let f = first u in
+    let ready = start (cleared f) .pre .0 in
+    goes-on _ (ready .closed) (ready .storable) (begun f) (u .before .before .same .ensures .1 (u .before .if1 .left)) (λ e. u .if2 .left (sym e)) (r .raise .ensures) _
+    (whole-part _ _ _ _ _ _ (f .first-round .ensures .0)) (c .next-round .ensures .1)
+
+-- and the room is still as long
+longer : (c : tie.After-next-round) → let a = start (cleared (first (unspent (c .before .before .before .before)))) .args in a .n + a .n ≤ length (c .next-round .last .1 .1 .1 .1 .1 .1 .1 .1 .0)
+longer c = rw (again c .same-length) (start (cleared (first (unspent (c .before .before .before .before)))) .pre .1)
+
+same-requires-2 : tie.Need-same-requires-2
+same-requires-2 c κs = (longer (c .before .before .before), (omega arith, anywhere))
+
+same-length-3 : tie.Need-same-length-3
+same-length-3 c = again (c .before .before .before .before .before) .same-length
+
+returns-3 : tie.Need-returns-3
+unfolding decoded
+returns-3 c =
+    let w = c .before .before .before .before .before in
+    let a = start (cleared (first (unspent (w .before .before .before .before)))) in
+    (ends-settled _ (a .pre .0 .closed) (a .pre .0 .storable) (again w) (c .before .same2 .ensures .0 (c .if3 .taken)), holds-filled (a .pre .1) (again w))
+
+run-on-requires : tie.Need-run-on-requires
+run-on-requires c κs =
+    let w = c .before .before .before .before .before .before in
+    let f = first (unspent (w .before .before .before .before)) in
+    (start (cleared f) .pre .0, (f .first-round .ensures .0, (longer w, from-here (again w))))
+
+same-length-4 : tie.Need-same-length-4
+same-length-4 c = search needs
+
+returns-4 : tie.Need-returns-4
+unfolding decoded
+returns-4 c =
+    let w = c .before .before .before .before .before .before .before .before .before in
+    (c .before .before .run-on .ensures .0, c .before .before .run-on .ensures .1 ∙ filled-past _ _ _ _ (again w .past))
 
 pub run-spec : {M : Type 1} → statement M
 run-spec =
     tie.close
     (tie.spec
-    Inv-loop
-    μ-loop
     add-clear
     clear-requires
-    cast-from
-    mul-from
-    loop-holds
-    sub-to
-    next-round-requires
+    first-round-requires
     same-requires
-    add-i
-    loop-less
-    loop-again
     same-length
     returns
     same-length-2
-    returns-2)
+    returns-2
+    raise-requires
+    next-round-requires
+    same-requires-2
+    same-length-3
+    returns-3
+    run-on-requires
+    same-length-4
+    returns-4)

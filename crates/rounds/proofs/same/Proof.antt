@@ -6,18 +6,18 @@ use native.Mathlib.Omega.{arith}
 use lib.ListN.{getD}
 use borrow.Author.Tests.{not-true, not-false}
 use Rattle.lists.proofs.Tests.{clash}
-use Rattle.rounds.proofs.Room.{same-more}
+use Rattle.rounds.proofs.Room.{SameBelow, same-more, same-all}
 use Rattle.rounds.proofs.same.Statement.{statement}
 use Rattle.rounds.proofs.same.Tie as tie
 
 abbrev Inv-loop : tie.InvT-loop
-Inv-loop n room i₀ i = (i ≤ n) × ((v : ℕ) → v < i → getD room v 0 ≡ getD room (n + v) 0)
+Inv-loop n lo hi room i₀ i = SameBelow n i room
 
 abbrev μ-loop : tie.MeasureT-loop
-μ-loop n room i₀ i = n - i
+μ-loop n lo hi room i₀ i = hi - i
 
 loop-holds : tie.Need-loop-holds Inv-loop μ-loop
-loop-holds c = (omega arith, λ v h. absurd (omega arith))
+loop-holds c = c .before .pre .1 .1 .before
 
 sub-block : tie.Need-sub-block Inv-loop μ-loop
 sub-block c = omega arith
@@ -26,7 +26,7 @@ block-requires : tie.Need-block-requires Inv-loop μ-loop
 block-requires c κs = tt
 
 alike-requires : tie.Need-alike-requires Inv-loop μ-loop
-alike-requires c κs = (omega arith, c .before .before .before .before .pre)
+alike-requires c κs = let a = c .before .before .before .before in (omega (arith, a .pre .1 .0), a .pre .0)
 
 returns : tie.Need-returns Inv-loop μ-loop
 returns c = (
@@ -44,10 +44,10 @@ loop-again : tie.Need-loop-again Inv-loop μ-loop
 loop-again c =
     let a = c .before .before .before .before .before .before .args in
     let l = c .before .before .before .before .loop in
-    (omega arith, same-more (a .n) (l .i) _ (now (a .room)) (l .inv .1) (c .before .alike .ensures .0 (not-false _ (c .if1 .left))))
+    same-more (a .n) (l .i) _ (now (a .room)) (l .inv) (c .before .alike .ensures .0 (not-false _ (c .if1 .left)))
 
 returns-2 : tie.Need-returns-2 Inv-loop μ-loop
-returns-2 c = (λ e v h. c .before .loop .inv .1 v (omega arith), λ e. clash refl e)
+returns-2 c = (λ e. same-all _ (c .before .loop .inv) (c .before .before .before .pre .1 .1) (omega arith), λ e. clash refl e)
 
 pub same-spec : {M : Type 1} → statement M
 same-spec =
