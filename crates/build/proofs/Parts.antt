@@ -14,11 +14,13 @@ use Rattle.lists.proofs.Kept.{keep-fail}
 use Rattle.lists.proofs.Tests.{by-test, and-left, and-right}
 use Rattle.refusal.specs.declared.Refusal.the-variants.{Size, Room}
 use Rattle.value.specs.declared.Bound.{Bound}
+use Rattle.wire.specs.Start.{startWidth}
 use Rattle.wire.specs.Bytes.{bytes}
 use Rattle.wire.specs.Laid.{laid}
 use Rattle.wire.specs.Write.{writeAll, message}
 use Rattle.wire.proofs.Bytes.{length-bytes}
 use Rattle.rules.specs.Graph.{Graph}
+use Rattle.graph.specs.Format.{graphLength}
 use Rattle.graph.specs.WellFormed.{targetsOf}
 use Rattle.graph.specs.Write.{writeHyper, writeCover, writeBody, writeGraph}
 use Rattle.model.specs.Model.{Model}
@@ -95,7 +97,7 @@ message-parts : (g : Graph) (long : ℕ) → long ≡ length (writeGraph g)
     → writeGraph g ≡ headerBytes long (g .nodes) (length (g .hypers)) (length (g .covers)) ++ writeAll writeHyper (g .hypers) ++ writeAll writeCover (g .covers)
 unfolding writeGraph message writeBody
 message-parts g long e =
-    let is : long ≡ 6 + length (writeBody g) = e ∙ simp (length-append, length-bytes) (omega arith) in
+    let is : long ≡ startWidth + length (writeBody g) = e ∙ simp (length-append, length-bytes) (omega arith) in
     rw (is, one-byte) (simp append-assoc)
 
 pub graph-parts : (M : Model) (rows : List Row) (long hypers : ℕ) → long ≡ length (writeGraph (graphOf M rows)) → hypers ≡ length (graphOf M rows .hypers)
@@ -145,7 +147,7 @@ module _ {M : Model} {rows : List Row} {n k u : ℕ} {z : size.Size} (c : Counte
 
   -- the length of the message, as it is computed
   abbrev long : ℕ
-  long = 14 + z .hypers * 4 + z .targets * 6 + n * u * 8
+  long = graphLength (z .hypers) (z .targets) (n * u)
 
   pub long-is : long ≡ length (writeGraph g)
   long-is = rw (hypers-are, targets-are, ← covers-are) (sym (writing-length g))

@@ -17,6 +17,7 @@ use Rattle.lists.proofs.Places.{place-lt, ∈-place}
 use Rattle.lists.proofs.Tests.{and-left, and-right}
 use Rattle.wire.proofs.Bytes.{length-bytes}
 use Rattle.rules.specs.Graph.{Graph, Hyper}
+use Rattle.graph.specs.Format.{graphHeader}
 use Rattle.graph.specs.WellFormed.{targetsOf}
 use Rattle.graph.specs.Write.{writeGraph}
 use Rattle.reduction.specs.Built.{isUntil, untils, graphOf, Fits}
@@ -110,5 +111,5 @@ pub parts-fit : (h r e c : List ℕ) {size : ℕ} → length (h ++ r ++ e ++ c) 
     → (0 + length h ≤ size) × (0 + length (h ++ r) ≤ size) × (0 + length (h ++ r ++ e) ≤ size) × (0 + length (h ++ r ++ e ++ c) ≤ size)
 parts-fit h r e c fits = omega (arith, length-append h r, length-append (h ++ r) e, length-append (h ++ r ++ e) c)
 
-pub header-length : (long n h c : ℕ) → length (headerBytes long n h c) ≡ 14
+pub header-length : (long n h c : ℕ) → length (headerBytes long n h c) ≡ graphHeader
 header-length long n h c = simp (length-append, length-bytes)

@@ -9,12 +9,14 @@ ghost use Rattle.lists.specs.Making.{keep, span};
 ghost use Rattle.value.specs.Value.{inside};
 ghost use Rattle.wire.specs.Bytes.{bytes};
 ghost use Rattle.wire.specs.Laid.{laid, Laid};
+ghost use Rattle.graph.specs.Format.{graphHeader, hyperWidth, targetWidth, graphLength};
+ghost use Rattle.model.specs.Format.{transitionAt};
 ghost use Rattle.graph.specs.Write.{writeTarget, writeHyper, writeGraph};
 ghost use Rattle.model.specs.Model as model;
 ghost use Rattle.reduction.specs.Built as built;
 ghost use Rattle.build.specs.Held.{transitionsFrom, heldModel, heldRows, HoldsModel, HoldsRows, Starts, Own, Reads, RiseFrom, leading};
 ghost use Rattle.build.specs.Size.{inLimits, addSize, sizeOf, stateEdges, rowsEdges, leafEdges, nextSize, helperSize};
-ghost use Rattle.build.specs.Bytes.{hypersBytes, nearBytes, nearWidth, nearbyBytes, stepBytes, stepsBytes, nextEdges, helperList, rowBytes, rowsBytes, helperBytes, helpersBytes, coverBytes, coversOf, headerBytes, RowFits, Narrow, HelpersFit};
+ghost use Rattle.build.specs.Bytes.{singleWidth, pairWidth, hypersBytes, nearBytes, nearWidth, nearbyBytes, stepBytes, stepsBytes, nextEdges, helperList, rowBytes, rowsBytes, helperBytes, helpersBytes, coverBytes, coversOf, headerBytes, RowFits, Narrow, HelpersFit};
 ghost use Rattle.build.specs.Built.{builtNumber, builtLength, builtOf, roomOf, Writable};
 use formula::Quantifier;
 use formula::Row;
@@ -76,15 +78,15 @@ fn holds(m: &[u8], n: u32, p: u32, t: u32, a: u32, i: u32) -> bool
     requires { ⌜ a < n ⌝ }
     ensures { λ r. ⌜ r ≡ model.holds (heldModel (now (m .entry)) n p t) i a ⌝ }
 {
-    let at = 13 + (a as usize) * 4;
+    let at = model::HEADER + (a as usize) * model::LABEL;
     bit(wire::number_at(m, at, Width::Four), i)
 }
 
 // Where a transition of the model stands.
 fn transition_at(n: u32, first: u32) -> usize
-    ensures { λ r. ⌜ r ≡ 13 + n * 4 + first * 8 ⌝ }
+    ensures { λ r. ⌜ r ≡ transitionAt n first ⌝ }
 {
-    13 + (n as usize) * 4 + (first as usize) * 8
+    model::HEADER + (n as usize) * model::LABEL + (first as usize) * model::TRANSITION
 }
 
 // Passes 16 transitions at a time, from one on, while the last of them leaves state a: they come by rising `from`, so all of them do.
@@ -142,7 +144,7 @@ fn starts(m: &[u8], n: u32, p: u32, t: u32) -> [u32; 257]
 
 // How many of these transitions are within the bound. A count of 32 bits would have the compiler gather the weights byte by byte.
 fn near_count(m: &[u8], n: u32, first: u32, many: u32, bound: Bound) -> u64
-    requires { ⌜ 13 + n * 4 + (first + many) * 8 ≤ length (now m) ⌝ }
+    requires { ⌜ transitionAt n (first + many) ≤ length (now m) ⌝ }
     ensures { λ r. ⌜ r ≡ length (keep (λ u. inside bound (u .weight)) (transitionsFrom (now (m .entry)) n first many)) ⌝ }
 {
     let Bound::Within(most) = bound else {
@@ -152,8 +154,8 @@ fn near_count(m: &[u8], n: u32, first: u32, many: u32, bound: Bound) -> u64
     let mut i = many;
     let mut near: u64 = 0;
     while 0 < i {
-        let weight = wire::number_at(m, at + 2, Width::Four);
-        at += 8;
+        let weight = wire::number_at(m, at + model::WEIGHT_AT, Width::Four);
+        at += model::TRANSITION;
         i -= 1;
         if weight <= most {
             near += 1;
@@ -329,12 +331,12 @@ fn total_size(m: &[u8], n: u32, p: u32, t: u32, table: &[u32], f: &[u8], k: u32)
     ensures { λ r. ⌜ r ≡ sizeOf (rowsEdges (heldModel (now (m .entry)) n p t) (heldRows (now (f .entry)) k)) ⌝ }
 {
     let mut sum = Size::NONE;
-    let mut at: usize = 7;
+    let mut at = formula::HEADER;
     let mut i = k;
     while 0 < i {
         let row = formula::row_at(f, at);
         sum = sum.plus(row_total(m, n, p, t, table, row));
-        at += 8;
+        at += formula::ROW;
         i -= 1;
     }
     sum
@@ -346,11 +348,11 @@ fn count_untils(f: &[u8], k: u32, p: u32) -> u32
     ensures { λ r. ⌜ r ≡ length (built.untils (heldRows (now (f .entry)) k)) ⌝ }
 {
     let mut untils: u32 = 0;
-    let mut at: usize = 7;
+    let mut at = formula::HEADER;
     let mut i = k;
     while 0 < i {
         let row = formula::row_at(f, at);
-        at += 8;
+        at += formula::ROW;
         i -= 1;
         if let Row::Until(_, _, _, _) = row {
             untils += 1;
@@ -361,27 +363,27 @@ fn count_untils(f: &[u8], k: u32, p: u32) -> u32
 
 // The source and the target count of a hyperedge.
 fn put_head(room: &mut [u8], at: usize, source: u32, count: u32) -> usize
-    requires { ⌜ at + 4 ≤ length (now room) ⌝ }
+    requires { ⌜ at + hyperWidth ≤ length (now room) ⌝ }
     ensures { λ r. ⌜ Laid (now (room .entry)) at (bytes 2 source ++ bytes 2 count) (now (room .exit)) r ⌝ }
 {
     wire::store(room, at, Width::Two, source);
-    wire::store(room, at + 2, Width::Two, count);
-    at + 4
+    wire::store(room, at + graph::TARGET_COUNT_AT, Width::Two, count);
+    at + graph::HYPER
 }
 
 // A target.
 fn put_target(room: &mut [u8], at: usize, weight: u32, node: u32) -> usize
-    requires { ⌜ at + 6 ≤ length (now room) ⌝ }
+    requires { ⌜ at + targetWidth ≤ length (now room) ⌝ }
     ensures { λ r. ⌜ Laid (now (room .entry)) at (writeTarget (built.to weight node)) (now (room .exit)) r ⌝ }
 {
     wire::store(room, at, Width::Four, weight);
-    wire::store(room, at + 4, Width::Two, node);
-    at + 6
+    wire::store(room, at + graph::NODE_AT, Width::Two, node);
+    at + graph::TARGET
 }
 
 // A hyperedge with one target at weight 0.
 fn put_single(room: &mut [u8], at: usize, v: u32, node: u32) -> usize
-    requires { ⌜ at + 10 ≤ length (now room) ⌝ }
+    requires { ⌜ at + singleWidth ≤ length (now room) ⌝ }
     ensures { λ r. ⌜ Laid (now (room .entry)) at (writeHyper (built.hyper v (built.to 0 node ∷ []))) (now (room .exit)) r ⌝ }
 {
     let target = put_head(room, at, v, 1);
@@ -390,7 +392,7 @@ fn put_single(room: &mut [u8], at: usize, v: u32, node: u32) -> usize
 
 // A hyperedge with two targets, the first at weight 0.
 fn put_pair(room: &mut [u8], at: usize, v: u32, node: u32, weight: u32, other: u32) -> usize
-    requires { ⌜ at + 16 ≤ length (now room) ⌝ }
+    requires { ⌜ at + pairWidth ≤ length (now room) ⌝ }
     ensures { λ r. ⌜ Laid (now (room .entry)) at (writeHyper (built.hyper v (built.to 0 node ∷ built.to weight other ∷ []))) (now (room .exit)) r ⌝ }
 {
     let first = put_head(room, at, v, 2);
@@ -409,13 +411,16 @@ fn put_near(room: &mut [u8], at: usize, q: Quantifier, v: u32, node: u32) -> usi
     }
 }
 
+// How wide a hyperedge with one target is.
+const SINGLE: usize = graph::HYPER + graph::TARGET;
+
 // How many bytes that takes.
 fn near_width(q: Quantifier) -> usize
     ensures { λ r. ⌜ r ≡ nearWidth q ⌝ }
 {
     match q {
-        Quantifier::Some => 10,
-        Quantifier::Every => 6,
+        Quantifier::Some => SINGLE,
+        Quantifier::Every => graph::TARGET,
     }
 }
 
@@ -445,9 +450,9 @@ fn put_nearby(
     let mut p = transition_at(n, first);
     let mut i = many;
     while next < end {
-        let weight = wire::number_at(m, p + 2, Width::Four);
-        let to = wire::number_at(m, p + 6, Width::Two);
-        p += 8;
+        let weight = wire::number_at(m, p + model::WEIGHT_AT, Width::Four);
+        let to = wire::number_at(m, p + model::TO_AT, Width::Two);
+        p += model::TRANSITION;
         i -= 1;
         let past = put_near(room, next, q, v, to + shift);
         if weight <= most {
@@ -497,10 +502,10 @@ fn put_steps(
     let mut p = transition_at(n, first);
     let mut i = many;
     while 0 < i {
-        let weight = wire::number_at(m, p + 2, Width::Four);
-        let to = wire::number_at(m, p + 6, Width::Two);
+        let weight = wire::number_at(m, p + model::WEIGHT_AT, Width::Four);
+        let to = wire::number_at(m, p + model::TO_AT, Width::Two);
         next = put_step(room, next, q, v, left, weight, to + shift);
-        p += 8;
+        p += model::TRANSITION;
         i -= 1;
     }
     next
@@ -636,12 +641,12 @@ fn put_rows(
     ensures { λ e. ⌜ Laid (now (room .entry)) at (rowsBytes (heldModel (now (m .entry)) n p t) 0 (heldRows (now (f .entry)) k)) (now (room .exit)) e ⌝ }
 {
     let mut next = at;
-    let mut row_at: usize = 7;
+    let mut row_at = formula::HEADER;
     let mut r: u32 = 0;
     while r < k {
         let row = formula::row_at(f, row_at);
         next = put_row_states(room, next, m, n, p, t, table, r, row);
-        row_at += 8;
+        row_at += formula::ROW;
         r += 1;
     }
     next
@@ -734,12 +739,12 @@ fn put_helpers(
         (now (room .exit)) e ⌝ }
 {
     let mut next = at;
-    let mut row_at: usize = 7;
+    let mut row_at = formula::HEADER;
     let mut h = k;
     let mut i = k;
     while 0 < i {
         let row = formula::row_at(f, row_at);
-        row_at += 8;
+        row_at += formula::ROW;
         i -= 1;
         if let Row::Until(q, l, r, _) = row {
             next = put_helper_states(room, next, m, n, p, t, table, h, q, l, r);
@@ -751,16 +756,16 @@ fn put_helpers(
 
 // The header of a graph message.
 fn put_header(room: &mut [u8], long: u32, n: u32, h: u32, c: u32) -> usize
-    requires { ⌜ 14 ≤ length (now room) ⌝ }
+    requires { ⌜ graphHeader ≤ length (now room) ⌝ }
     ensures { λ e. ⌜ Laid (now (room .entry)) 0 (headerBytes long n h c) (now (room .exit)) e ⌝ }
 {
     wire::store(room, 0, Width::Four, long);
-    wire::store(room, 4, Width::One, 1);
-    wire::store(room, 5, Width::One, 1);
-    wire::store(room, 6, Width::Two, n);
-    wire::store(room, 8, Width::Four, h);
-    wire::store(room, 12, Width::Two, c);
-    14
+    wire::store(room, wire::VERSION_AT, Width::One, graph::VERSION);
+    wire::store(room, wire::KIND_AT, Width::One, graph::KIND);
+    wire::store(room, graph::NODES_AT, Width::Two, n);
+    wire::store(room, graph::HYPERS_AT, Width::Four, h);
+    wire::store(room, graph::COVERS_AT, Width::Two, c);
+    graph::HEADER
 }
 
 // The cover edges of an until row's nodes, over all states.
@@ -774,9 +779,9 @@ fn put_cover_states(room: &mut [u8], at: usize, n: u32, r: u32, h: u32, bound: B
     let mut a: u32 = 0;
     while a < n {
         wire::store(room, next, Width::Two, a + n * r);
-        wire::store(room, next + 2, Width::Four, code);
-        wire::store(room, next + 6, Width::Two, a + n * h);
-        next += 8;
+        wire::store(room, next + graph::COVER_BOUND_AT, Width::Four, code);
+        wire::store(room, next + graph::COVER_TARGET_AT, Width::Two, a + n * h);
+        next += graph::COVER;
         a += 1;
     }
     next
@@ -790,13 +795,13 @@ fn put_covers(room: &mut [u8], at: usize, n: u32, p: u32, f: &[u8], k: u32) -> u
     ensures { λ e. ⌜ Laid (now (room .entry)) at (coversOf n (heldRows (now (f .entry)) k)) (now (room .exit)) e ⌝ }
 {
     let mut next = at;
-    let mut row_at: usize = 7;
+    let mut row_at = formula::HEADER;
     let mut h = k;
     let mut r: u32 = 0;
     while r < k {
         let row = formula::row_at(f, row_at);
         let place = r;
-        row_at += 8;
+        row_at += formula::ROW;
         r += 1;
         if let Row::Until(_, _, _, b) = row {
             next = put_cover_states(room, next, n, place, h, b);
@@ -853,9 +858,12 @@ fn too_large(nodes: u32, size: Size) -> bool
 // The length of the message of a graph of this size, with so many cover edges.
 fn message_length(size: Size, covers: u32) -> usize
     requires { ⌜ inLimits covers size ≡ true ⌝ }
-    ensures { λ r. ⌜ r ≡ 14 + size .hypers * 4 + size .targets * 6 + covers * 8 ⌝ }
+    ensures { λ r. ⌜ r ≡ graphLength (size .hypers) (size .targets) covers ⌝ }
 {
-    14 + (size.hypers as usize) * 4 + (size.targets as usize) * 6 + (covers as usize) * 8
+    graph::HEADER
+        + (size.hypers as usize) * graph::HYPER
+        + (size.targets as usize) * graph::TARGET
+        + (covers as usize) * graph::COVER
 }
 
 // The graph of an accepted model and formula: SIZE and ROOM are decided before anything is written.

@@ -11,6 +11,7 @@ use Rattle.lists.proofs.Tests.{and-left, and-right}
 use Rattle.value.specs.Coded.{codeOf}
 use Rattle.value.proofs.Coded.{code-bound, bound-sayable, bound-code, code-fits}
 use Rattle.wire.proofs.Bytes.{length-bytes}
+use Rattle.formula.specs.Format.{rowWidth}
 use Rattle.formula.specs.declared.Quantifier.the-variants.{Some, Every}
 use Rattle.formula.specs.declared.Row.{Row}
 use Rattle.formula.specs.declared.Row.the-variants.{True, False, Proposition, Negation, And, Or, Next, Until}
@@ -52,7 +53,7 @@ spelt (Until Some l r b) =
 spelt (Until Every l r b) =
     record { operator = 9; code = codeOf b; written = refl; known = omega arith; spare = refl; is = λ s. ap (Until Every l r) (bound-code b s); fits = code-fits b }
 
-pub row-length : (row : Row) → length (writeRow row) ≡ 8
+pub row-length : (row : Row) → length (writeRow row) ≡ rowWidth
 row-length row = rw (spelt row .written) (simp (length-append, length-bytes))
 
 -- a row without fault is written with the fields that it was read from, whose names and bound it has

@@ -20,14 +20,44 @@ ghost use Rattle.formula.specs.Rows as rows;
 ghost use Rattle.formula.specs.Message as m;
 ghost use Rattle.formula.specs.Layouts.{rowAt, rowLayout};
 ghost use Rattle.formula.specs.Answers as answers;
+ghost use Rattle.formula.specs.Format.{boundAt, rowWidth};
 use refusal::Refusal;
 use value::Bound;
+use wire::Count;
 use wire::Counted;
 use wire::Field;
+use wire::Head;
 use wire::Opened;
 use wire::State;
 use wire::Step;
 use wire::Width;
+
+// The header of a formula message, and its count.
+pub const HEADER: usize = 7;
+
+const HEAD: Head = Head {
+    length: HEADER,
+    version: 1,
+    kind: 3,
+};
+
+const ROWS: Count = Count {
+    at: 6,
+    width: Width::One,
+    least: 1,
+    most: 64,
+};
+
+// Where the fields of a row stand behind its operator, and how wide it is.
+pub const LEFT_AT: usize = 1;
+
+pub const RIGHT_AT: usize = LEFT_AT + 1;
+
+pub const ZERO_AT: usize = RIGHT_AT + 1;
+
+pub const BOUND_AT: usize = ZERO_AT + 1;
+
+pub const ROW: usize = BOUND_AT + 4;
 
 // On some run, or on every run; some transition, or every transition.
 pub enum Quantifier {
@@ -148,14 +178,14 @@ fn judge(p: u32, place: u32, operator: u32, left: u32, right: u32, zero: u32, bo
 fn header(s: &[u8]) -> Checked
     ensures { λ r. ⌜ r ≡ answers.counted (m.readHeader (now (s .entry))) ⌝ }
 {
-    if let Opened::Refused(e) = wire::open(s, 7, 1, 3) {
+    if let Opened::Refused(e) = wire::open(s, HEAD) {
         return Checked::Refused(e);
     }
-    let f = match wire::count_at(s, 6, Width::One, 1, 64) {
+    let f = match wire::read_count(s, ROWS) {
         Counted::Count(f) => f,
         Counted::Refused(e) => return Checked::Refused(e),
     };
-    if s.len() != 7 + (f as usize) * 8 {
+    if s.len() != HEADER + (f as usize) * ROW {
         return Checked::Refused(Refusal::Length);
     }
     Checked::Formula(f)
@@ -163,13 +193,13 @@ fn header(s: &[u8]) -> Checked
 
 // The row that stands at a position of an accepted message.
 pub fn row_at(s: &[u8], at: usize) -> Row
-    requires { ⌜ at + 8 ≤ length (now s) ⌝ }
+    requires { ⌜ at + rowWidth ≤ length (now s) ⌝ }
     ensures { λ r. ⌜ r ≡ rowAt (now (s .entry)) at ⌝ }
 {
     let operator = wire::number_at(s, at, Width::One);
-    let left = wire::number_at(s, at + 1, Width::One);
-    let right = wire::number_at(s, at + 2, Width::One);
-    let bound = wire::number_at(s, at + 4, Width::Four);
+    let left = wire::number_at(s, at + LEFT_AT, Width::One);
+    let right = wire::number_at(s, at + RIGHT_AT, Width::One);
+    let bound = wire::number_at(s, at + BOUND_AT, Width::Four);
     row_of(operator, left, right, bound)
 }
 
@@ -199,7 +229,7 @@ fn count_row(counts: &mut [u8], row: Row)
 
 // One row, whose last field is there, and so are those before it; and the uses that it makes of others.
 fn one_row(s: &[u8], p: u32, bound: u32, st: State, counts: &mut [u8]) -> Step
-    requires { ⌜ fieldAt 4 (now s) (st .at + 4) ≡ Number bound ⌝ }
+    requires { ⌜ fieldAt 4 (now s) (st .at + boundAt) ≡ Number bound ⌝ }
     requires { ⌜ (st .tally < 64) × (length (now counts) ≡ 64) × ((i : ℕ) → getD (now counts) i 0 < 254) ⌝ }
     ensures { λ r. ⌜ r ≡ step (one (m.rows (now (s .entry)) p) st) ⌝ }
     ensures { λ r. ⌜ ((next : State) → r ≡ Next next → (i : ℕ)
@@ -207,18 +237,18 @@ fn one_row(s: &[u8], p: u32, bound: u32, st: State, counts: &mut [u8]) -> Step
 {
     let at = st.at;
     let operator = wire::number_at(s, at, Width::One);
-    let left_at = at + 1;
+    let left_at = at + LEFT_AT;
     let left = wire::number_at(s, left_at, Width::One);
-    let right_at = at + 2;
+    let right_at = at + RIGHT_AT;
     let right = wire::number_at(s, right_at, Width::One);
-    let zero_at = at + 3;
+    let zero_at = at + ZERO_AT;
     let zero = wire::number_at(s, zero_at, Width::One);
     let row = match judge(p, st.tally, operator, left, right, zero, bound) {
         Judged::Fine(row) => row,
         Judged::Refused(e) => return Step::Refused(e),
     };
     count_row(counts, row);
-    let end = at + 8;
+    let end = at + ROW;
     let place = st.tally + 1;
     Step::Next(State {
         at: end,
@@ -229,15 +259,15 @@ fn one_row(s: &[u8], p: u32, bound: u32, st: State, counts: &mut [u8]) -> Step
 
 // The k rows up to the end of the message, and how often each is an operand: where no last field fits, none is left.
 fn all_rows(s: &[u8], p: u32, first: State, counts: &mut [u8]) -> Step
-    requires { ⌜ (first .at ≤ length (now s)) × (length (now s) + first .tally * 8 ≤ first .at + 512) ⌝ }
+    requires { ⌜ (first .at ≤ length (now s)) × (length (now s) + first .tally * rowWidth ≤ first .at + 64 * rowWidth) ⌝ }
     requires { ⌜ (length (now counts) ≡ 64) × ((i : ℕ) → getD (now counts) i 0 ≡ 0) ⌝ }
-    ensures { λ r. ⌜ ((k : ℕ) → first .at + k * 8 ≡ length (now (s .entry)) → r ≡ step (run (m.rows (now (s .entry)) p) k first)) ⌝ }
-    ensures { λ r. ⌜ ((k : ℕ) → first .at + k * 8 ≡ length (now (s .entry)) → (last : State) → r ≡ Next last → (i : ℕ)
+    ensures { λ r. ⌜ ((k : ℕ) → first .at + k * rowWidth ≡ length (now (s .entry)) → r ≡ step (run (m.rows (now (s .entry)) p) k first)) ⌝ }
+    ensures { λ r. ⌜ ((k : ℕ) → first .at + k * rowWidth ≡ length (now (s .entry)) → (last : State) → r ≡ Next last → (i : ℕ)
         → getD (now (counts .exit)) i 0 ≡ rows.uses i (items (rowLayout (now (s .entry))) k (first .at))) ⌝ }
 {
     let mut st = first;
     loop {
-        let bound_at = st.at + 4;
+        let bound_at = st.at + BOUND_AT;
         let Field::Number(bound) = wire::read(s, bound_at, Width::Four) else {
             return Step::Next(st);
         };
@@ -281,7 +311,7 @@ pub fn check(s: &[u8], p: u32) -> Checked
         s,
         p,
         State {
-            at: 7,
+            at: HEADER,
             prev: 0,
             tally: 0,
         },

@@ -4,6 +4,7 @@ use mathlib.Core.List.{List, _++_}
 use lib.ListN.{length}
 use Rattle.wire.specs.Bytes.{bytes}
 use Rattle.wire.specs.Write.{writeAll, message}
+use Rattle.graph.specs.Format.{graphHead}
 use Rattle.rules.specs.Graph.{Graph, Hyper, Cover, Target}
 use Rattle.value.specs.Coded.{codeOf}
 
@@ -25,6 +26,6 @@ writeBody g =
     bytes 2 (g .nodes) ++ bytes 4 (length (g .hypers)) ++ bytes 2 (length (g .covers))
     ++ writeAll writeHyper (g .hypers) ++ writeAll writeCover (g .covers)
 
--- version 1, kind 1
+-- behind the start
 unfoldable pub writeGraph : Graph → List ℕ
-writeGraph g = message 1 1 (writeBody g)
+writeGraph g = message graphHead (writeBody g)

@@ -137,7 +137,7 @@ fn row_length(s: &[u8], i: u32) -> usize
     requires { ⌜ length (rowText (now s) i) ≤ 2048 ⌝ }
     ensures { λ r. ⌜ r ≡ length (rowText (now (s .entry)) i) ⌝ }
 {
-    let at = 7 + (i as usize) * 8;
+    let at = formula::HEADER + (i as usize) * formula::ROW;
     let row = formula::row_at(s, at);
     match row {
         Row::True => 4,
@@ -156,7 +156,7 @@ fn put_row(s: &[u8], i: u32, room: &mut [u8], at: usize) -> usize
     requires { ⌜ at + length (rowText (now s) i) ≤ length (now room) ⌝ }
     ensures { λ r. ⌜ Laid (now (room .entry)) at (rowText (now (s .entry)) i) (now (room .exit)) r ⌝ }
 {
-    let row = formula::row_at(s, 7 + (i as usize) * 8);
+    let row = formula::row_at(s, formula::HEADER + (i as usize) * formula::ROW);
     match row {
         Row::True => put_word(room, at, b"true"),
         Row::False => put_word(room, at, b"false"),

@@ -6,6 +6,7 @@ use denote.Ref.{now}
 use native.Mathlib.Omega.{arith}
 use lib.ListN.{length}
 use borrow.Author.Needs.{needs}
+use Rattle.formula.specs.Format.{formulaHeader, rowWidth}
 use Rattle.formula.specs.Layouts.{rowAt, rowLayout}
 use Rattle.reduction.specs.Built.{isUntil}
 use Rattle.build.specs.Held.{heldRows}
@@ -17,7 +18,7 @@ use Rattle.build.proofs.count_untils.Tie as tie
 abbrev Inv-loop : tie.InvT-loop
 Inv-loop f k p untils₀ at₀ i₀ untils at i =
     let L = rowLayout f in
-    (at + i * 8 ≤ length f) × (untils + passing L isUntil i at ≡ passing L isUntil k 7)
+    (at + i * rowWidth ≤ length f) × (untils + passing L isUntil i at ≡ passing L isUntil k formulaHeader)
 
 abbrev μ-loop : tie.MeasureT-loop
 μ-loop f k p untils₀ at₀ i₀ untils at i = i
@@ -49,7 +50,7 @@ add-untils c =
     let l = c .before .before .before .before .loop in
     let f = now (c .before .before .before .before .before .before .args .f) in
     let k = c .before .before .before .before .before .before .args .k in
-    omega (arith, passing-here (rowLayout f) isUntil (l .i) (l .at) (omega arith) (until c), passing-le (rowLayout f) isUntil k 7)
+    omega (arith, passing-here (rowLayout f) isUntil (l .i) (l .at) (omega arith) (until c), passing-le (rowLayout f) isUntil k formulaHeader)
 
 loop-less : tie.Need-loop-less Inv-loop μ-loop
 loop-less c = omega arith

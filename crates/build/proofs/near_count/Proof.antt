@@ -10,6 +10,7 @@ use borrow.Author.Needs.{needs}
 use borrow.Author.Tests.{le-leb, lt-leb}
 use Rattle.wire.specs.Bytes.{number}
 use Rattle.wire.proofs.Layouts.{items-length}
+use Rattle.model.specs.Format.{weightAt, transitionWidth, transitionAt}
 use Rattle.model.specs.Model.{Transition}
 use Rattle.build.specs.Held.{transitionLayout, transitionsFrom}
 use Rattle.build.proofs.Counting.{passing, passing-le, passing-none, passing-here, passing-there, unbounded-all}
@@ -22,7 +23,7 @@ test most u = leb (u .weight) most
 abbrev Inv-loop : tie.InvT-loop
 Inv-loop m n first many most at₀ i₀ near₀ at i near =
     let L = transitionLayout m in
-    (at + i * 8 ≤ length m) × (near + passing L (test most) i at ≡ passing L (test most) many (13 + n * 4 + first * 8))
+    (at + i * transitionWidth ≤ length m) × (near + passing L (test most) i at ≡ passing L (test most) many (transitionAt n first))
 
 abbrev μ-loop : tie.MeasureT-loop
 μ-loop m n first many most at₀ i₀ near₀ at i near = i
@@ -70,24 +71,24 @@ sub-i c = omega arith
 
 -- one more is near, or not
 near-here : (c : tie.Then1 Inv-loop μ-loop) → let t = c .before .before in let l = t .before .loop in let L = transitionLayout (now (start t .args .m)) in
-    passing L (test (most t)) (l .i) (l .at) ≡ 1 + passing L (test (most t)) (l .i - 1) (l .at + 8)
+    passing L (test (most t)) (l .i) (l .at) ≡ 1 + passing L (test (most t)) (l .i - 1) (l .at + transitionWidth)
 near-here c =
     let t = c .before .before in
     let l = t .before .loop in
-    passing-here (transitionLayout (now (start t .args .m))) (test (most t)) (l .i) (l .at) (omega arith) (le-leb (number 4 (now (start t .args .m)) (l .at + 2)) (most t) (omega (arith, c .before .number-at .ensures, c .if1 .taken)))
+    passing-here (transitionLayout (now (start t .args .m))) (test (most t)) (l .i) (l .at) (omega arith) (le-leb (number 4 (now (start t .args .m)) (l .at + weightAt)) (most t) (omega (arith, c .before .number-at .ensures, c .if1 .taken)))
 
 near-there : (c : tie.Else1 Inv-loop μ-loop) → let t = c .before .before in let l = t .before .loop in let L = transitionLayout (now (start t .args .m)) in
-    passing L (test (most t)) (l .i) (l .at) ≡ passing L (test (most t)) (l .i - 1) (l .at + 8)
+    passing L (test (most t)) (l .i) (l .at) ≡ passing L (test (most t)) (l .i - 1) (l .at + transitionWidth)
 near-there c =
     let t = c .before .before in
     let l = t .before .loop in
-    passing-there (transitionLayout (now (start t .args .m))) (test (most t)) (l .i) (l .at) (omega arith) (lt-leb (number 4 (now (start t .args .m)) (l .at + 2)) (most t) (omega (arith, c .before .number-at .ensures, c .if1 .left)))
+    passing-there (transitionLayout (now (start t .args .m))) (test (most t)) (l .i) (l .at) (omega arith) (lt-leb (number 4 (now (start t .args .m)) (l .at + weightAt)) (most t) (omega (arith, c .before .number-at .ensures, c .if1 .left)))
 
 add-near : tie.Need-add-near Inv-loop μ-loop
 add-near c =
     let t = c .before .before in
     let a = start t .args in
-    omega (arith, near-here c, passing-le (transitionLayout (now (a .m))) (test (most t)) (a .many) (13 + a .n * 4 + a .first * 8))
+    omega (arith, near-here c, passing-le (transitionLayout (now (a .m))) (test (most t)) (a .many) (transitionAt (a .n) (a .first)))
 
 loop-less : tie.Need-loop-less Inv-loop μ-loop
 loop-less c = omega arith

@@ -4,6 +4,7 @@ use mathlib.Core.Path.{_≡_, ap, _∙_}
 use denote.Ref.{now}
 use native.Mathlib.Omega.{arith}
 use Rattle.wire.specs.Bytes.{number}
+use Rattle.model.specs.Format.{transitionAt}
 use Rattle.build.specs.Held.{transitionsFrom, leading}
 use Rattle.build.proofs.Ranges.{leading-more, leading-stop, leading-none}
 use Rattle.build.proofs.past_state.Statement.{statement}
@@ -31,7 +32,7 @@ number-at-requires c κs = omega (arith, c .transition-at .ensures, c .before .b
 -- what was read is where the transition leaves from
 read : (c : tie.After-number-at Inv-loop μ-loop) →
     let a = c .before .before .before .before .before .before .args in
-    c .number-at .result ≡ number 2 (now (a .m)) (13 + a .n * 4 + c .before .before .before .loop .i * 8)
+    c .number-at .result ≡ number 2 (now (a .m)) (transitionAt (a .n) (c .before .before .before .loop .i))
 read c =
     let a = c .before .before .before .before .before .before .args in
     c .number-at .ensures ∙ ap (number 2 (now (a .m))) (c .before .transition-at .ensures)

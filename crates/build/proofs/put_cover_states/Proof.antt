@@ -6,6 +6,7 @@ use lib.ListN.{length}
 use Rattle.lists.specs.Making.{span}
 use Rattle.wire.proofs.Laid.{stored, _then_, said}
 use Rattle.wire.proofs.Laid as laid
+use Rattle.graph.specs.Format.{coverBoundAt, coverTargetAt, coverWidth}
 use Rattle.build.specs.Bytes.{coverBytes}
 use Rattle.build.proofs.Nodes.{place-fits}
 use Rattle.build.proofs.Covers.{coverOf, cover-length, covers-coded}
@@ -38,7 +39,7 @@ abbrev begun : tie.In-loop Inv-loop μ-loop → tie.Start Inv-loop μ-loop
 begun c = c .before .before .before .before
 
 -- the next cover edge fits
-fits : (c : tie.In-loop Inv-loop μ-loop) → c .before .loop .next + 8 ≤ length (c .before .loop .room)
+fits : (c : tie.In-loop Inv-loop μ-loop) → c .before .loop .next + coverWidth ≤ length (c .before .loop .room)
 fits c =
     let a = begun c .args in
     let l = c .before .loop in
@@ -89,8 +90,8 @@ loop-again c =
     let a = begun turn .args in
     let l = turn .before .loop in
     let source = stored (l .next) 2 (l .a + a .n * a .r) (omega (arith, fits turn)) (first .store .ensures) in
-    let bound = stored (l .next + 2) 4 (turn .before .before .code .result) (omega (arith, fits turn, laid.same-length source)) (second .store2 .ensures) in
-    let target = stored (l .next + 6) 2 (l .a + a .n * a .h) (omega (arith, fits turn, laid.same-length source, laid.same-length bound)) (third .store3 .ensures) in
+    let bound = stored (l .next + coverBoundAt) 4 (turn .before .before .code .result) (omega (arith, fits turn, laid.same-length source)) (second .store2 .ensures) in
+    let target = stored (l .next + coverTargetAt) 2 (l .a + a .n * a .h) (omega (arith, fits turn, laid.same-length source, laid.same-length bound)) (third .store3 .ensures) in
     span-then (l .inv) (turn .loop-test .taken) refl (said (said (source then bound) refl refl (omega arith) then target) refl refl (omega arith))
 
 same-length : tie.Need-same-length Inv-loop μ-loop

@@ -5,6 +5,7 @@ use native.Mathlib.Omega.{arith}
 use borrow.Author.Needs.{needs}
 use Rattle.wire.proofs.Laid.{stored, _then_, said}
 use Rattle.wire.proofs.Laid as laid
+use Rattle.graph.specs.Format.{targetCountAt}
 use Rattle.build.proofs.put_head.Statement.{statement}
 use Rattle.build.proofs.put_head.Tie as tie
 
@@ -29,7 +30,7 @@ returns c =
     let first = second .before .before .before .before in
     let a = first .before .before .before .args in
     let one = stored (a .at) 2 (a .source) (omega arith) (first .store .ensures) in
-    let other = stored (a .at + 2) 2 (a .count) (omega (arith, laid.same-length one)) (second .store2 .ensures) in
+    let other = stored (a .at + targetCountAt) 2 (a .count) (omega (arith, laid.same-length one)) (second .store2 .ensures) in
     said (one then other) refl refl (omega arith)
 
 pub put-head-spec : {M : Type 1} → statement M

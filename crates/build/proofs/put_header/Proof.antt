@@ -1,8 +1,10 @@
 -- `build::put_header` meets its contract: the bytes of its six fields, one behind the other.
 use native.Mathlib.Omega.{arith}
 use borrow.Author.Needs.{needs}
+use Rattle.wire.specs.Start.{versionAt, kindAt}
 use Rattle.wire.proofs.Laid.{stored, _then_}
 use Rattle.wire.proofs.Laid as laid
+use Rattle.graph.specs.Format.{graphHead, nodesCount, hypersCount, coversCount}
 use Rattle.build.proofs.put_header.Statement.{statement}
 use Rattle.build.proofs.put_header.Tie as tie
 
@@ -37,11 +39,11 @@ returns c =
     let first = second .before .before .before .before in
     let a = first .before .before .before .args in
     let long = stored 0 4 (a .long) (omega arith) (first .store .ensures) in
-    let version = long then stored 4 1 1 (omega (arith, laid.same-length long)) (second .store2 .ensures) in
-    let kind = version then stored 5 1 1 (omega (arith, laid.same-length version)) (third .store3 .ensures) in
-    let nodes = kind then stored 6 2 (a .n) (omega (arith, laid.same-length kind)) (fourth .store4 .ensures) in
-    let hypers = nodes then stored 8 4 (a .h) (omega (arith, laid.same-length nodes)) (fifth .store5 .ensures) in
-    hypers then stored 12 2 (a .c) (omega (arith, laid.same-length hypers)) (sixth .store6 .ensures)
+    let version = long then stored versionAt 1 (graphHead .version) (omega (arith, laid.same-length long)) (second .store2 .ensures) in
+    let kind = version then stored kindAt 1 (graphHead .kind) (omega (arith, laid.same-length version)) (third .store3 .ensures) in
+    let nodes = kind then stored (nodesCount .at) 2 (a .n) (omega (arith, laid.same-length kind)) (fourth .store4 .ensures) in
+    let hypers = nodes then stored (hypersCount .at) 4 (a .h) (omega (arith, laid.same-length nodes)) (fifth .store5 .ensures) in
+    hypers then stored (coversCount .at) 2 (a .c) (omega (arith, laid.same-length hypers)) (sixth .store6 .ensures)
 
 pub put-header-spec : {M : Type 1} → statement M
 put-header-spec =

@@ -8,6 +8,7 @@ use lib.ListN.{length}
 use Rattle.wire.specs.Write.{writeAll}
 use Rattle.wire.proofs.Written.{writeAll-keep}
 use Rattle.formula.specs.declared.Quantifier.{Quantifier}
+use Rattle.model.specs.Format.{transitionWidth}
 use Rattle.model.specs.Model.{Transition}
 use Rattle.build.specs.Held.{transitionsFrom}
 use Rattle.build.specs.Bytes.{nearBytes, nearbyBytes}
@@ -70,7 +71,7 @@ some : (c : tie.In-loop Inv-loop μ-loop) → 0 < c .before .loop .i
 some c = near-some _ _ _ _ _ (λ u. near-long _ _ _) (c .before .loop .inv) (short c)
 
 -- it lies inside
-inside : (c : tie.In-loop Inv-loop μ-loop) → c .before .loop .p + 8 ≤ length (now (start c .args .m))
+inside : (c : tie.In-loop Inv-loop μ-loop) → c .before .loop .p + transitionWidth ≤ length (now (start c .args .m))
 inside c = next-readable _ _ _ (c .before .loop .inv) (some c)
 
 add-number-at : tie.Need-add-number-at Inv-loop μ-loop

@@ -15,6 +15,7 @@ use Rattle.wire.specs.Write.{writeAll}
 use Rattle.wire.proofs.Laid.{fits, said}
 use Rattle.rules.specs.Graph.{Target}
 use Rattle.graph.specs.Write.{writeTarget, writeHyper}
+use Rattle.model.specs.Format.{transitionAt}
 use Rattle.model.specs.Model.{Transition}
 use Rattle.reduction.specs.Built.{hyper}
 use Rattle.build.specs.Held.{transitionLayout, transitionsFrom}
@@ -85,7 +86,7 @@ cast-put-head : tie.Need-cast-put-head
 cast-put-head c =
     let code = c .before .before .before in
     let s = start code in
-    omega (arith, code .before .near-count .ensures, passing-le (transitionLayout (now (s .args .m))) (λ u. inside (s .args .bound) (u .weight)) (s .args .many) (13 + s .args .n * 4 + s .args .first * 8))
+    omega (arith, code .before .near-count .ensures, passing-le (transitionLayout (now (s .args .m))) (λ u. inside (s .args .bound) (u .weight)) (s .args .many) (transitionAt (s .args .n) (s .args .first)))
 
 put-head-requires : tie.Need-put-head-requires
 put-head-requires c κs =

@@ -2,6 +2,7 @@
 use native.Mathlib.Omega.{arith}
 use borrow.Author.Needs.{needs}
 use Rattle.wire.proofs.Laid.{sized}
+use Rattle.graph.specs.Format.{hyperWidth, targetWidth}
 use Rattle.graph.specs.Write.{writeTarget}
 use Rattle.reduction.specs.Built.{to}
 use Rattle.graph.proofs.Exact.{target-length}
@@ -13,13 +14,13 @@ put-head-requires : tie.Need-put-head-requires
 put-head-requires c κs = search needs
 
 put-target-requires : tie.Need-put-target-requires
-put-target-requires c κs = let h = sized (c .before .before .before .put-head .ensures) 4 (head-length _ _) in omega arith
+put-target-requires c κs = let h = sized (c .before .before .before .put-head .ensures) hyperWidth (head-length _ _) in omega arith
 
 put-target-requires-2 : tie.Need-put-target-requires-2
 put-target-requires-2 c κs =
     let first = c .before .before .before in
-    let h = sized (first .before .before .before .before .put-head .ensures) 4 (head-length _ _) in
-    let t = sized (first .put-target .ensures) 6 (target-length _) in
+    let h = sized (first .before .before .before .before .put-head .ensures) hyperWidth (head-length _ _) in
+    let t = sized (first .put-target .ensures) targetWidth (target-length _) in
     omega arith
 
 same-length : tie.Need-same-length
@@ -31,7 +32,7 @@ returns c =
     let first = second .before .before .before .before in
     let head = first .before .before .before .before in
     let a = head .before .before .before .args in
-    let h = sized (head .put-head .ensures) 4 (head-length _ _) in
+    let h = sized (head .put-head .ensures) hyperWidth (head-length _ _) in
     let last = single-laid writeTarget (to (a .weight) (a .other)) (second .put-target2 .ensures) in
     let both = more-laid writeTarget (to 0 (a .node)) (first .put-target .ensures) _ last in
     hyper-laid (a .v) _ (head .put-head .ensures) both

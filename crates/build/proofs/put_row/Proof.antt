@@ -11,7 +11,7 @@ use Rattle.wire.proofs.Laid.{fits}
 use Rattle.graph.specs.Write.{writeHyper}
 use Rattle.reduction.specs.Built.{to, rowEdges}
 use Rattle.build.specs.Held.{transitionsFrom, heldModel}
-use Rattle.build.specs.Bytes.{hypersBytes, nextEdges}
+use Rattle.build.specs.Bytes.{singleWidth, pairWidth, hypersBytes, nextEdges}
 use Rattle.build.proofs.Edges.{single-length, pair-length, single-laid, more-laid, hypers-more, first-fits, bare-fits, bare-laid, none-laid}
 use Rattle.build.proofs.Nodes.{operand-fits, next-are, own-read}
 use Rattle.build.proofs.put_row.Statement.{statement}
@@ -82,7 +82,7 @@ put-pair-requires : tie.Need-put-pair-requires
 unfolding heldModel
 put-pair-requires c κs =
     let s = c .before .before .before .before .before .before in
-    first-fits _ _ [] (s .args .at) 16 (pair-length _ _ _) (rw (c .before .before .row3 .given .1) at (s .pre .1 .1 .1))
+    first-fits _ _ [] (s .args .at) pairWidth (pair-length _ _ _) (rw (c .before .before .row3 .given .1) at (s .pre .1 .1 .1))
 
 enum-known-row-4 : tie.Need-enum-known-row-4
 enum-known-row-4 c = search needs
@@ -112,7 +112,7 @@ put-single-requires : tie.Need-put-single-requires
 put-single-requires c κs =
     let a = c .before .before .before .before .before .before .args in
     let right = a .a + a .n * c .before .before .row4 .given .0 .1 .0 in
-    first-fits _ _ ((to 0 right ∷ []) ∷ []) (a .at) 10 (single-length _ _) (choices-fit c)
+    first-fits _ _ ((to 0 right ∷ []) ∷ []) (a .at) singleWidth (single-length _ _) (choices-fit c)
 
 mul-put-single-2 : tie.Need-mul-put-single-2
 mul-put-single-2 c = omega (arith, right-choice (c .before .before .before .before))
@@ -126,7 +126,7 @@ put-single-requires-2 : tie.Need-put-single-requires-2
 put-single-requires-2 c κs =
     let put = c .before .before .before in
     let all = choices-fit (put .before) in
-    first-fits _ _ [] (put .put-single .result) 10 (single-length _ _) (fits (put .put-single .ensures) _ (rw hypers-more at all))
+    first-fits _ _ [] (put .put-single .result) singleWidth (single-length _ _) (fits (put .put-single .ensures) _ (rw hypers-more at all))
 
 enum-known-row-5 : tie.Need-enum-known-row-5
 enum-known-row-5 c = search needs

@@ -6,6 +6,7 @@ use denote.Ref.{now}
 use native.Mathlib.Omega.{arith}
 use Rattle.wire.specs.Layout.{items}
 use Rattle.wire.proofs.Laid.{Left, all-left, left-fits, left-then, none-left}
+use Rattle.formula.specs.Format.{formulaHeader, rowWidth, placeOf}
 use Rattle.formula.specs.Layouts.{rowAt, rowLayout}
 use Rattle.build.specs.Held.{heldModel, heldRows}
 use Rattle.build.specs.Bytes.{rowBytes, rowsBytes}
@@ -17,14 +18,14 @@ use Rattle.build.proofs.put_rows.Tie as tie
 abbrev Inv-loop : tie.InvT-loop
 Inv-loop room₀ at m n p t table f k next₀ row-at₀ r₀ room next row-at r =
     let M = heldModel m n p t in
-    (r ≤ k) × (row-at ≡ 7 + r * 8) × Left room₀ at (rowsBytes M 0 (heldRows f k)) room next (rowsBytes M r (items (rowLayout f) (k - r) (7 + r * 8)))
+    (r ≤ k) × (row-at ≡ placeOf r) × Left room₀ at (rowsBytes M 0 (heldRows f k)) room next (rowsBytes M r (items (rowLayout f) (k - r) (placeOf r)))
 
 abbrev μ-loop : tie.MeasureT-loop
 μ-loop room₀ at m n p t table f k next₀ row-at₀ r₀ room next row-at r = k - r
 
 -- the row is the one at its place
 row-is : (c : tie.After-row-at Inv-loop μ-loop) →
-    c .row-at .result ≡ rowAt (now (c .before .before .before .before .before .before .before .args .f)) (7 + c .before .before .loop .r * 8)
+    c .row-at .result ≡ rowAt (now (c .before .before .before .before .before .before .before .args .f)) (placeOf (c .before .before .loop .r))
 row-is c = c .row-at .ensures ∙ ap (rowAt _) (c .before .before .loop .inv .1)
 
 -- its bytes come next, and the other rows' behind them
@@ -37,17 +38,17 @@ abbrev behind : tie.After-row-at Inv-loop μ-loop → List ℕ
 behind c =
     let a = c .before .before .before .before .before .before .before .args in
     let r = c .before .before .loop .r + 1 in
-    rowsBytes (heldModel (now (a .m)) (a .n) (a .p) (a .t)) r (items (rowLayout (now (a .f))) (a .k - r) (7 + r * 8))
+    rowsBytes (heldModel (now (a .m)) (a .n) (a .p) (a .t)) r (items (rowLayout (now (a .f))) (a .k - r) (placeOf r))
 
 parts : (c : tie.After-row-at Inv-loop μ-loop) →
     let a = c .before .before .before .before .before .before .before .args in
     let r = c .before .before .loop .r in
-    rowsBytes (heldModel (now (a .m)) (a .n) (a .p) (a .t)) r (items (rowLayout (now (a .f))) (a .k - r) (7 + r * 8)) ≡ here c ++ behind c
+    rowsBytes (heldModel (now (a .m)) (a .n) (a .p) (a .t)) r (items (rowLayout (now (a .f))) (a .k - r) (placeOf r)) ≡ here c ++ behind c
 parts c =
     let s = c .before .before .before .before .before .before .before in
     let M = heldModel (now (s .args .m)) (s .args .n) (s .args .p) (s .args .t) in
     let r = c .before .before .loop .r in
-    rw (row-is c) (ap (rowsBytes M r) (items-left (rowLayout (now (s .args .f))) 8 (λ at. refl) 7 (s .args .k) r (c .before .loop-test .taken)) ∙ rows-more M r _ _)
+    rw (row-is c) (ap (rowsBytes M r) (items-left (rowLayout (now (s .args .f))) rowWidth (λ at. refl) formulaHeader (s .args .k) r (c .before .loop-test .taken)) ∙ rows-more M r _ _)
 
 loop-holds : tie.Need-loop-holds Inv-loop μ-loop
 unfolding heldRows

@@ -3,6 +3,7 @@ use mathlib.Core.List.{[], _∷_}
 use native.Mathlib.Omega.{arith}
 use borrow.Author.Needs.{needs}
 use Rattle.wire.proofs.Laid.{sized}
+use Rattle.graph.specs.Format.{hyperWidth}
 use Rattle.graph.specs.Write.{writeTarget}
 use Rattle.reduction.specs.Built.{to}
 use Rattle.build.proofs.Edges.{head-length, single-laid, hyper-laid}
@@ -13,7 +14,7 @@ put-head-requires : tie.Need-put-head-requires
 put-head-requires c κs = search needs
 
 put-target-requires : tie.Need-put-target-requires
-put-target-requires c κs = let h = sized (c .before .before .before .put-head .ensures) 4 (head-length _ _) in omega arith
+put-target-requires c κs = let h = sized (c .before .before .before .put-head .ensures) hyperWidth (head-length _ _) in omega arith
 
 same-length : tie.Need-same-length
 same-length c = search needs

@@ -6,6 +6,7 @@ use denote.Ref.{now}
 use native.Mathlib.Omega.{arith}
 use lib.ListN.{length}
 use Rattle.formula.specs.declared.Quantifier.{Quantifier}
+use Rattle.model.specs.Format.{transitionWidth}
 use Rattle.model.specs.Model.{Transition}
 use Rattle.build.specs.Held.{transitionsFrom}
 use Rattle.build.specs.Bytes.{stepBytes, stepsBytes}
@@ -33,7 +34,7 @@ loop-holds c =
     filling-all _ _ _ (s .pre .0) _ _ _ refl (s .pre .1) (c .transition-at .ensures)
 
 -- the next transition lies inside
-inside : (c : tie.In-loop Inv-loop μ-loop) → c .before .loop .p + 8 ≤ length (now (c .before .before .before .before .before .args .m))
+inside : (c : tie.In-loop Inv-loop μ-loop) → c .before .loop .p + transitionWidth ≤ length (now (c .before .before .before .before .before .args .m))
 inside c = next-readable _ _ _ (c .before .loop .inv) (c .loop-test .taken)
 
 add-number-at : tie.Need-add-number-at Inv-loop μ-loop

@@ -5,6 +5,7 @@ use native.Mathlib.Omega.{arith}
 use borrow.Author.Needs.{needs}
 use Rattle.wire.proofs.Laid.{stored, _then_, said}
 use Rattle.wire.proofs.Laid as laid
+use Rattle.graph.specs.Format.{nodeAt}
 use Rattle.graph.specs.Write.{writeTarget}
 use Rattle.build.proofs.put_target.Statement.{statement}
 use Rattle.build.proofs.put_target.Tie as tie
@@ -31,7 +32,7 @@ returns c =
     let first = second .before .before .before .before in
     let a = first .before .before .before .args in
     let one = stored (a .at) 4 (a .weight) (omega arith) (first .store .ensures) in
-    let other = stored (a .at + 4) 2 (a .node) (omega (arith, laid.same-length one)) (second .store2 .ensures) in
+    let other = stored (a .at + nodeAt) 2 (a .node) (omega (arith, laid.same-length one)) (second .store2 .ensures) in
     said (one then other) refl refl (omega arith)
 
 pub put-target-spec : {M : Type 1} → statement M

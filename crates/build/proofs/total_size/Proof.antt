@@ -9,6 +9,7 @@ use Rattle.lists.specs.Making.{span}
 use Rattle.wire.specs.Layout.{items}
 use Rattle.wire.proofs.Layouts.{items-more}
 use Rattle.model.specs.Model.{Model}
+use Rattle.formula.specs.Format.{rowWidth}
 use Rattle.formula.specs.declared.Row.{Row}
 use Rattle.formula.specs.Layouts.{rowLayout}
 use Rattle.build.specs.Held.{heldModel, heldRows}
@@ -21,7 +22,7 @@ use Rattle.build.proofs.total_size.Tie as tie
 abbrev Inv-loop : tie.InvT-loop
 Inv-loop m n p t table f k sum₀ at₀ i₀ sum at i =
     let M = heldModel m n p t in
-    (at + i * 8 ≤ length f) × (addSize sum (sizeOf (rowsEdges M (items (rowLayout f) i at))) ≡ sizeOf (rowsEdges M (heldRows f k)))
+    (at + i * rowWidth ≤ length f) × (addSize sum (sizeOf (rowsEdges M (items (rowLayout f) i at))) ≡ sizeOf (rowsEdges M (heldRows f k)))
 
 abbrev μ-loop : tie.MeasureT-loop
 μ-loop m n p t table f k sum₀ at₀ i₀ sum at i = i
@@ -33,7 +34,7 @@ heldIn c = heldModel (now (c .args .m)) (c .args .n) (c .args .p) (c .args .t)
 whole : (c : tie.After-row-total Inv-loop μ-loop) →
     let a = c .before .before .before .before .before .before .before in
     let l = c .before .before .before .loop in
-    let rest = items (rowLayout (now (a .args .f))) (l .i - 1) (l .at + 8) in
+    let rest = items (rowLayout (now (a .args .f))) (l .i - 1) (l .at + rowWidth) in
     addSize (addSize (l .sum) (c .row-total .result)) (sizeOf (rowsEdges (heldIn a) rest)) ≡ sizeOf (rowsEdges (heldIn a) (heldRows (now (a .args .f)) (a .args .k)))
 unfolding heldModel
 whole c =
@@ -42,7 +43,7 @@ whole c =
     let L = rowLayout (now (a .args .f)) in
     let here = sym (ap (λ (rows : List Row). addSize (l .sum) (sizeOf (rowsEdges (heldIn a) rows))) (items-more L (l .i) (l .at) (c .before .before .loop-test .taken))) in
     let one = sym (c .row-total .ensures ∙ ap (λ (row : Row). sizeOf (span (stateEdges (heldIn a) row) 0 (a .args .n))) (c .before .row-at .ensures)) in
-    rows-turn (heldIn a) (L .item (l .at)) (items L (l .i - 1) (l .at + 8)) (l .sum) (c .row-total .result) (here ∙ l .inv .1) one
+    rows-turn (heldIn a) (L .item (l .at)) (items L (l .i - 1) (l .at + rowWidth)) (l .sum) (c .row-total .result) (here ∙ l .inv .1) one
 
 fits : (c : tie.After-row-total Inv-loop μ-loop) → Small 4294967296 (addSize (c .before .before .before .loop .sum) (c .row-total .result))
 unfolding heldModel
@@ -51,7 +52,7 @@ fits c =
     let l = c .before .before .before .loop in
     let f = now (a .args .f) in
     let all = rows-small (heldIn a) (transitions-few (a .pre .0)) (states-few (a .pre .0)) (heldRows f (a .args .k)) in
-    let part = small-part (addSize (l .sum) (c .row-total .result)) (sizeOf (rowsEdges (heldIn a) (items (rowLayout f) (l .i - 1) (l .at + 8)))) (whole c) all in
+    let part = small-part (addSize (l .sum) (c .row-total .result)) (sizeOf (rowsEdges (heldIn a) (items (rowLayout f) (l .i - 1) (l .at + rowWidth)))) (whole c) all in
     omega (arith, part .hypers, part .targets, rows-length f (a .args .k), a .pre .1 .1 .rows-fit)
 
 loop-holds : tie.Need-loop-holds Inv-loop μ-loop
