@@ -29,7 +29,8 @@ use Rattle.formula.specs.Rows.{rowOf, operands, propositions, uses, used
 use Rattle.formula.specs.Message.{judgeRow, readRow, rows, readHeader, readFormula}
 use Rattle.formula.specs.Write.{fields, writeRow, writeFormula}
 use Rattle.formula.specs.WellFormed.{SayableRow, RowAt, WellFormed}
-use Rattle.formula.proofs.Good.{Named, names-named, row-good, header-good, formula-good, good-formula}
+use Rattle.formula.proofs.Good.{row-good, header-good, formula-good, good-formula}
+use Rattle.formula.proofs.Judging.{Named, spare-fields, named-fields}
 use Rattle.formula.proofs.Spelt.{left, right, spelt, row-length, said}
 
 -- ---- rows
@@ -105,15 +106,21 @@ module _ (s : List ℕ) (p : ℕ) where
         let zero-there : field 1 s (st .at + zeroAt) ≡ good 0 = stands-field 1 (omega arith) (there .zero-there) (omega arith) in
         let bound-there : field 4 s (st .at + boundAt) ≡ good (w .code) = stands-field 4 (omega arith) (there .bound-there) (w .fits (f .sayable)) in
         let is : rowOf (w .operator) (left row) (right row) (w .code) ≡ row = w .is (f .sayable) in
+        let idle = spare-fields (w .operator) (left row) (right row) 0 (w .code) (w .known) (rw is (w .spare)) in
+        let names = named-fields p (st .tally) (w .operator) (left row) (right row) (w .code) (w .known) (rw is (f .names)) in
         good-bind _ operator-there
         (good-bind _ left-there
         (good-bind _ right-there
         (good-bind _ zero-there
         (good-bind _ bound-there
         (good-demand _ (le-leb _ _ (w .known))
-        (good-demand _ (rw is (w .spare))
-        (good-demand _ (rw is (names-named p (st .tally) row (f .names)))
-        (rw is))))))));
+        (good-demand _ (idle .left)
+        (good-demand _ (idle .right)
+        (good-demand _ (idle .zero)
+        (good-demand _ (idle .bound)
+        (good-demand _ (names .0)
+        (good-demand _ (names .1)
+        (rw is))))))))))));
     moves = λ st row. rw row-length;
   }
 

@@ -10,7 +10,7 @@ use Rattle.formula.specs.Message.{judgeRow, readRow, readHeader, readFor
 module _ (s : List ℕ) where
   row : (p : ℕ) (st : State) → Spares (readRow s p st)
   unfolding readRow judgeRow
-  row p st = taken _ (λ operator. taken _ (λ left. taken _ (λ right. taken _ (λ spare. taken _ (λ bound. asked _ _ refl (asked _ _ refl (asked _ _ refl fine)))))))
+  row p st = taken _ (λ operator. taken _ (λ left. taken _ (λ right. taken _ (λ spare. taken _ (λ bound. asked _ _ refl (asked _ _ refl (asked _ _ refl (asked _ _ refl (asked _ _ refl (asked _ _ refl (asked _ _ refl fine)))))))))))
 
   formula-header : Spares (readHeader s)
   unfolding readHeader

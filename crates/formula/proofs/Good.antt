@@ -25,27 +25,10 @@ use Rattle.wire.proofs.Readers.{all-length}
 use Rattle.wire.proofs.Exact.{good-bind, good-demand, all-there}
 use Rattle.formula.specs.Format.{formulaHeader, formulaHead, rowsCount, leftAt, rightAt, zeroAt, boundAt, rowWidth, formulaLength}
 use Rattle.formula.specs.declared.Row.{Row}
-use Rattle.formula.specs.Rows.{rowOf, spareZero, operands, propositions, named, usedOnce}
+use Rattle.formula.specs.Rows.{rowOf, usedOnce}
 use Rattle.formula.specs.Message.{judgeRow, readRow, rows, readHeader, readFormula}
-
--- the names of a row exist: its propositions are below p, and its operands are earlier rows
-pub record Named (p place : ℕ) (row : Row) : Type 0 where
-  pub existing : {q : ℕ} → q ∈ propositions row → q < p
-  pub earlier : {l : ℕ} → l ∈ operands row → l < place
-
-pub named-names : (p place : ℕ) (row : Row) → named p place row ≡ true → Named p place row
-named-names p place row e =
-    let qs = all (λ q. ltb q p) (propositions row) in
-    let ls = all (λ l. ltb l place) (operands row) in
-    record {
-      existing = λ {q} m. ltb-true q p (all-true _ _ (and-left qs ls e) q m);
-      earlier = λ {l} m. ltb-true l place (all-true _ _ (and-right qs ls e) l m);
-    }
-
-pub names-named : (p place : ℕ) (row : Row) → Named p place row → named p place row ≡ true
-names-named p place row n =
-    rw (true-all (λ q. ltb q p) (propositions row) (λ q m. lt-ltb q p (n .existing m)))
-    (true-all (λ l. ltb l place) (operands row) (λ l m. lt-ltb l place (n .earlier m)))
+use Rattle.formula.proofs.Spelt.{spareZero}
+use Rattle.formula.proofs.Judging.{Named, fields-spare, fields-named}
 
 -- what a good judgement says of the fields
 pub record Fine (p place operator left right zero bound : ℕ) (row : Row) : Type 0 where
@@ -58,10 +41,20 @@ pub judge-good : (p place o l r z b : ℕ) (row : Row) → judgeRow p place o l 
 unfolding judgeRow
 judge-good p place o l r z b row e =
     let known = demand-good _ _ _ e in
-    let spare = demand-good _ _ _ (known .1) in
-    let named = demand-good _ _ _ (spare .1) in
-    let same : rowOf o l r b ≡ row = good-same (named .1) in
-    record { known = leb-true _ _ (known .0); is = same; spare = rw (← same) (spare .0); names = named-names p place row (rw (← same) (named .0)) }
+    let left-idle = demand-good _ _ _ (known .1) in
+    let right-idle = demand-good _ _ _ (left-idle .1) in
+    let zero-idle = demand-good _ _ _ (right-idle .1) in
+    let bound-idle = demand-good _ _ _ (zero-idle .1) in
+    let left-named = demand-good _ _ _ (bound-idle .1) in
+    let right-named = demand-good _ _ _ (left-named .1) in
+    let same : rowOf o l r b ≡ row = good-same (right-named .1) in
+    let few : o ≤ 9 = leb-true _ _ (known .0) in
+    record {
+      known = few;
+      is = same;
+      spare = rw (← same) (fields-spare o l r z b few (record { left = left-idle .0; right = right-idle .0; zero = zero-idle .0; bound = bound-idle .0 }));
+      names = rw (← same) (fields-named p place o l r b few (left-named .0) (right-named .0));
+    }
 
 module _ (s : List ℕ) (p : ℕ) where
   -- the fields of a row that fits are judged

@@ -13,16 +13,19 @@ use Rattle.wire.specs.Step.{start}
 use Rattle.wire.specs.declared.State.{State}
 use Rattle.formula.specs.declared.Row.{Row}
 use Rattle.formula.specs.Format.{formulaHeader, formulaHead, rowsCount, leftAt, rightAt, zeroAt, boundAt, rowWidth, formulaLength}
-use Rattle.formula.specs.Rows.{rowOf, spareZero, named, usedOnce}
+use Rattle.formula.specs.Rows.{rowOf, usesLeft, usesRight, usesBound, idle, named, leftLimit, usedOnce}
 
--- unknown operator FORM; an unused field not zero FORM; then left and right NAME
+-- field by field: unknown operator FORM; the first unused field not zero FORM; then left and right NAME
 unfoldable pub judgeRow : (p place operator left right spare bound : ℕ) → Read Row
 judgeRow p place operator left right spare bound = do
   demand (leb operator 9) Form
-  let row = rowOf operator left right bound
-  demand (spareZero row left right spare bound) Form
-  demand (named p place row) Name
-  good row
+  demand (idle (usesLeft operator) left) Form
+  demand (idle (usesRight operator) right) Form
+  demand (eqb spare 0) Form
+  demand (idle (usesBound operator) bound) Form
+  demand (named (usesLeft operator) left (leftLimit p place operator)) Name
+  demand (named (usesRight operator) right place) Name
+  good (rowOf operator left right bound)
 
 -- a row: operator (1), left (1), right (1), zero (1), bound (4)
 unfoldable pub readRow : List ℕ → ℕ → State → Read Row

@@ -1,18 +1,14 @@
 // The check of a formula message against a number of propositions: the first fault in the paper's order, or how many rows it has.
 ghost use mathlib.Core.Path.{_≡_};
 ghost use Prim.Native.Nat.{ℕ, _+_, _*_, _≤_, _<_};
-ghost use mathlib.Core.Bool.{_&&_};
 ghost use mathlib.Core.List.{List, [], _∷_};
-ghost use lib.Dec.{eqb, ltb};
 ghost use lib.ListN.{length, getD};
 ghost use Rattle.lists.specs.Lists.{_∈_};
-ghost use Rattle.refusal.specs.declared.Refusal.the-variants as fault;
 ghost use Rattle.wire.specs.declared.State.{State};
 ghost use Rattle.wire.specs.declared.Step.the-variants.{Next};
 ghost use Rattle.wire.specs.declared.Field.the-variants.{Number};
 ghost use Rattle.wire.specs.Field.{fieldAt};
 ghost use Rattle.wire.specs.Layout.{items};
-ghost use Rattle.wire.specs.Read as read;
 ghost use Rattle.wire.specs.Reader.{one, run};
 ghost use Rattle.wire.specs.Step.{step};
 ghost use Rattle.formula.specs.declared.Row.{Row};
@@ -119,59 +115,72 @@ fn row_of(operator: u32, left: u32, right: u32, bound: u32) -> Row
     }
 }
 
-// Whether four numbers are all zero.
-fn all_zero(a: u32, b: u32, c: u32, d: u32) -> bool
-    ensures { λ r. ⌜ r ≡ (eqb a 0 && (eqb b 0 && (eqb c 0 && eqb d 0))) ⌝ }
+// Whether an operator uses the field right: and, or, and the untils do.
+fn uses_right(operator: u32) -> bool
+    ensures { λ r. ⌜ r ≡ rows.usesRight operator ⌝ }
 {
-    if a != 0 {
-        return false;
+    if operator < 6 {
+        return 4 <= operator;
     }
-    if b != 0 {
-        return false;
-    }
-    if c != 0 {
-        return false;
-    }
-    d == 0
+    8 <= operator
 }
 
-// Whether both operands are below the row's own place.
-fn both_below(left: u32, right: u32, place: u32) -> bool
-    ensures { λ r. ⌜ r ≡ (ltb left place && ltb right place) ⌝ }
+// Whether a field that an operator doesn't use is zero; one that it uses may be any number.
+fn idle(used: bool, field: u32) -> bool
+    ensures { λ r. ⌜ r ≡ rows.idle used field ⌝ }
 {
-    left < place && right < place
+    if used {
+        return true;
+    }
+    field == 0
 }
 
-// The row, or its first fault: whether the fields that it doesn't use are zero comes before whether its names exist.
-fn first_fault(spare: bool, named: bool, row: Row) -> Judged
-    ensures { λ r. ⌜ r ≡ answers.judged (read._>>_ (read.demand spare fault.Form) (read._>>_ (read.demand named fault.Name) (read.good row))) ⌝ }
+// The names that left may have: the propositions, or the earlier rows.
+fn left_limit(p: u32, place: u32, operator: u32) -> u32
+    ensures { λ r. ⌜ r ≡ rows.leftLimit p place operator ⌝ }
 {
-    if !spare {
-        return Judged::Refused(Refusal::Form);
-    }
-    if !named {
-        return Judged::Refused(Refusal::Name);
-    }
-    Judged::Fine(row)
+    if operator < 4 { p } else { place }
 }
 
-// The row of these fields at a place, or its first fault; of the fields that should be zero, one that the row uses counts as zero.
+// Whether a field that names something names one of so many.
+fn named(used: bool, field: u32, limit: u32) -> bool
+    ensures { λ r. ⌜ r ≡ rows.named used field limit ⌝ }
+{
+    if used {
+        return field < limit;
+    }
+    true
+}
+
+// The row of these fields at a place, or its first fault, field by field.
 fn judge(p: u32, place: u32, operator: u32, left: u32, right: u32, zero: u32, bound: u32) -> Judged
     ensures { λ r. ⌜ r ≡ answers.judged (m.judgeRow p place operator left right zero bound) ⌝ }
 {
-    let row = row_of(operator, left, right, bound);
-    match operator {
-        0 | 1 => first_fault(all_zero(left, right, zero, bound), true, row),
-        2 | 3 => first_fault(all_zero(0, right, zero, bound), left < p, row),
-        4 | 5 => first_fault(
-            all_zero(0, 0, zero, bound),
-            both_below(left, right, place),
-            row,
-        ),
-        6 | 7 => first_fault(all_zero(0, right, zero, 0), left < place, row),
-        8 | 9 => first_fault(all_zero(0, 0, zero, 0), both_below(left, right, place), row),
-        _ => Judged::Refused(Refusal::Form),
+    if 9 < operator {
+        return Judged::Refused(Refusal::Form);
     }
+    let with_left = 2 <= operator;
+    let with_right = uses_right(operator);
+    let with_bound = 6 <= operator;
+    if !idle(with_left, left) {
+        return Judged::Refused(Refusal::Form);
+    }
+    if !idle(with_right, right) {
+        return Judged::Refused(Refusal::Form);
+    }
+    if zero != 0 {
+        return Judged::Refused(Refusal::Form);
+    }
+    if !idle(with_bound, bound) {
+        return Judged::Refused(Refusal::Form);
+    }
+    if !named(with_left, left, left_limit(p, place, operator)) {
+        return Judged::Refused(Refusal::Name);
+    }
+    if !named(with_right, right, place) {
+        return Judged::Refused(Refusal::Name);
+    }
+    Judged::Fine(row_of(operator, left, right, bound))
 }
 
 // The header, and that the message is as long as its count says.
