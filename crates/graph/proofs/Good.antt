@@ -1,9 +1,10 @@
 -- What a good reading says: each field is there, each demand is met. Assumes nothing.
 use Prim.Native.Nat.{ℕ, _+_, _*_, _<_, _≤_}
-use mathlib.Core.List.{List}
+use mathlib.Core.List.{List, [], _∷_}
 use mathlib.Core.Path.{_≡_, sym, ap, subst, _∙_}
 use lib.ListN.{length}
 use borrow.Author.Tests.{ltb-true, leb-true, eqb-true}
+use native.Mathlib.Nat.{add-zero, zero-add}
 use native.Mathlib.Omega.{arith}
 use Rattle.refusal.specs.declared.Refusal.the-variants.{Length}
 use Rattle.wire.specs.declared.Field.the-variants.{Number, Short}
@@ -22,6 +23,7 @@ use Rattle.value.specs.Coded.{boundOf}
 use Rattle.wire.specs.Step.{start}
 use Rattle.graph.specs.Format.{graphHeader, graphHead, nodesCount, hypersCount, coversCount, mostTargets, targetCountAt, hyperWidth, nodeAt, targetWidth, coverBoundAt, coverTargetAt}
 use Rattle.graph.specs.Message.{readTarget, readHyper, readTargets, readCover, targets, hypers, covers, firstTarget, Counts, readHeader, readGraph}
+use Rattle.graph.specs.WellFormed.{targetsOf}
 
 module _ (s : List ℕ) (n : ℕ) where
   -- what a good target says of the bytes
@@ -132,6 +134,15 @@ module _ (s : List ℕ) (n : ℕ) where
   pub cover-short : (st : State) → fieldAt 2 s (st .at + coverTargetAt) ≡ Short → readCover s n st ≡ bad Length
   unfolding readCover
   cover-short st h = length-after 2 s (st .at) _ (λ source. length-after 4 s (st .at + coverBoundAt) _ (λ bound. simp (reading, h)))
+
+-- the state past hyperedges has counted their targets
+tally-past : (s : List ℕ) (n : ℕ) (st : State) (hs : List Hyper) → past (hypers s n) st hs .tally ≡ st .tally + targetsOf hs
+unfolding past targetsOf
+tally-past s n st [] = sym (add-zero _)
+tally-past s n st (h ∷ hs) = tally-past s n (hypers s n .next st h) hs ∙ omega arith
+
+pub targets-told : (s : List ℕ) (n at : ℕ) {end : State} (hs : List Hyper) → past (hypers s n) (start at) hs ≡ end → targetsOf hs ≡ end .tally
+targets-told s n at hs e = sym (tally-past s n (start at) hs ∙ zero-add _) ∙ ap (λ (st : State). st .tally) e
 
 -- what a good header says of the bytes
 pub record HeaderAt (s : List ℕ) (k : Counts) : Type 0 where

@@ -77,9 +77,9 @@ pub const COVER_TARGET_AT: usize = COVER_BOUND_AT + 4;
 
 pub const COVER: usize = COVER_TARGET_AT + 2;
 
-// How many nodes, hyperedges and cover edges an accepted message has, or its first fault.
+// How many nodes, hyperedges, cover edges and targets of all hyperedges an accepted message has, or its first fault.
 pub enum Checked {
-    Graph(u32, u32, u32),
+    Graph(u32, u32, u32, u32),
     Refused(Refusal),
 }
 
@@ -89,7 +89,7 @@ impl Checked {
         ensures { λ r. ⌜ r ≡ answers.checkedNumber self ⌝ }
     {
         match self {
-            Checked::Graph(_, _, _) => 0,
+            Checked::Graph(_, _, _, _) => 0,
             Checked::Refused(e) => e.number(),
         }
     }
@@ -252,7 +252,7 @@ fn covers(s: &[u8], n: u32, k: u32, first: State) -> Step
     Step::Next(st)
 }
 
-// The header.
+// The header: its counts, and no target yet.
 fn header(s: &[u8]) -> Checked
     ensures { λ r. ⌜ r ≡ answers.counted (m.readHeader (now (s .entry))) ⌝ }
 {
@@ -271,18 +271,18 @@ fn header(s: &[u8]) -> Checked
         Counted::Count(c) => c,
         Counted::Refused(e) => return Checked::Refused(e),
     };
-    Checked::Graph(n, h, c)
+    Checked::Graph(n, h, c, 0)
 }
 
-// A whole graph message: the counts of its header, or its first fault.
+// A whole graph message: the counts of its header and its targets, or its first fault.
 pub fn check(s: &[u8]) -> Checked
     ensures { λ r. ⌜ r ≡ answers.checked (m.readGraph (now (s .entry))) ⌝ }
 {
     let head = header(s);
-    let Checked::Graph(n, h, c) = head else {
+    let Checked::Graph(n, h, c, _) = head else {
         return head;
     };
-    let middle = match hypers(
+    let last = match hypers(
         s,
         n,
         h,
@@ -292,9 +292,10 @@ pub fn check(s: &[u8]) -> Checked
             tally: 0,
         },
     ) {
-        Step::Next(st) => st.at,
+        Step::Next(st) => st,
         Step::Refused(e) => return Checked::Refused(e),
     };
+    let middle = last.at;
     let end = match covers(
         s,
         n,
@@ -311,5 +312,5 @@ pub fn check(s: &[u8]) -> Checked
     if end != s.len() {
         return Checked::Refused(Refusal::Length);
     }
-    head
+    Checked::Graph(n, h, c, last.tally)
 }

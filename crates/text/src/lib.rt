@@ -55,18 +55,26 @@ pub fn put_word(room: &mut [u8], at: usize, word: &[u8]) -> usize
     at + i
 }
 
+// Stores a number of 64 bits in decimal at a position; returns the position past it.
+pub fn put_long(room: &mut [u8], at: usize, n: u64) -> usize
+    requires { ⌜ at + length (t.longDecimal n) ≤ length (now room) ⌝ }
+    ensures { λ r. ⌜ Laid (now (room .entry)) at (t.longDecimal n) (now (room .exit)) r ⌝ }
+{
+    let last = if n < 10 {
+        at
+    } else {
+        put_long(room, at, n / 10)
+    };
+    room[last] = 48 + ((n % 10) as u8);
+    last + 1
+}
+
 // Stores a number in decimal at a position; returns the position past it.
 pub fn put_decimal(room: &mut [u8], at: usize, n: u32) -> usize
     requires { ⌜ at + length (t.decimal n) ≤ length (now room) ⌝ }
     ensures { λ r. ⌜ Laid (now (room .entry)) at (t.decimal n) (now (room .exit)) r ⌝ }
 {
-    let last = if n < 10 {
-        at
-    } else {
-        put_decimal(room, at, n / 10)
-    };
-    room[last] = 48 + ((n % 10) as u8);
-    last + 1
+    put_long(room, at, n as u64)
 }
 
 // How many digits a number has in decimal.

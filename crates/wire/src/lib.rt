@@ -3,7 +3,7 @@ ghost use mathlib.Core.Path.{_≡_};
 ghost use Prim.Native.Nat.{_+_, _≤_};
 ghost use lib.ListN.{length};
 ghost use Rattle.wire.specs.Bytes.{number, put};
-ghost use Rattle.wire.specs.Field.{widthOf, fieldAt};
+ghost use Rattle.wire.specs.Field.{widthOf, longWidth, fieldAt};
 ghost use Rattle.wire.specs.Start.{readStart, openedOf};
 ghost use Rattle.wire.specs.Counts.{readCount, countedOf};
 use refusal::Refusal;
@@ -27,6 +27,9 @@ impl Width {
         }
     }
 }
+
+// How many bytes a number of 64 bits has.
+pub const LONG: usize = 8;
 
 // What reading a field finds: its number, or too few bytes.
 pub enum Field {
@@ -96,6 +99,20 @@ pub fn number_at(s: &[u8], at: usize, width: Width) -> u32
     n
 }
 
+// The number of a field of 8 bytes that is known to fit. Numbers of 4 bytes have a function of their own, so that they need no wider sum.
+pub fn long_at(s: &[u8], at: usize) -> u64
+    requires { ⌜ at + longWidth ≤ length (now s) ⌝ }
+    ensures { λ r. ⌜ r ≡ number longWidth (now (s .entry)) at ⌝ }
+{
+    let mut n: u64 = 0;
+    let mut i = 0;
+    while i < LONG {
+        n = n * 256 + (s[at + i] as u64);
+        i += 1;
+    }
+    n
+}
+
 // The field at a position. The last position where one fits does not depend on this one, so a loop needs a single test for each.
 pub fn read(s: &[u8], at: usize, width: Width) -> Field
     ensures { λ r. ⌜ r ≡ fieldAt (widthOf width) (now (s .entry)) at ⌝ }
@@ -117,6 +134,20 @@ pub fn store(b: &mut [u8], at: usize, width: Width, v: u32)
     ensures { λ _. ⌜ now (b .exit) ≡ put (now (b .entry)) at (widthOf width) v ⌝ }
 {
     let mut i = width.bytes();
+    let mut rest = v;
+    while 0 < i {
+        i -= 1;
+        b[at + i] = (rest % 256) as u8;
+        rest /= 256;
+    }
+}
+
+// Stores the 8 bytes of a number where they fit.
+pub fn store_long(b: &mut [u8], at: usize, v: u64)
+    requires { ⌜ at + longWidth ≤ length (now b) ⌝ }
+    ensures { λ _. ⌜ now (b .exit) ≡ put (now (b .entry)) at longWidth v ⌝ }
+{
+    let mut i = LONG;
     let mut rest = v;
     while 0 < i {
         i -= 1;

@@ -14,11 +14,11 @@ use Rattle.wire.proofs.Reading.{reading}
 use Rattle.wire.proofs.Readers.{run-good, run-bad, run-keeps, all-length}
 use Rattle.wire.specs.declared.State.{State}
 use Rattle.wire.specs.Step.{start}
-use Rattle.graph.specs.Format.{graphHeader}
+use Rattle.graph.specs.Format.{graphHeader, coversCount}
 use Rattle.graph.specs.Message.{readHeader, readGraph}
 use Rattle.graph.specs.Message as m
 use Rattle.graph.specs.Answers.{checked}
-use Rattle.graph.proofs.Good.{header-good, hypers-stay}
+use Rattle.graph.proofs.Good.{header-good, hypers-stay, targets-told}
 use Rattle.wire.proofs.Turns.{step-next, step-refused}
 use Rattle.graph.proofs.Answered.{counted-graph, counted-refused}
 use Rattle.graph.proofs.check.Statement.{statement}
@@ -30,7 +30,7 @@ head-good : (c : tie.After-known-told) → let k = c .before .head .given .0 in
 head-good c = counted-graph _ (by (c .before .before .before .header .ensures) (c .before .head .given .1))
 
 headed : (c : tie.After-known-told) → graphHeader ≤ length (now (c .before .before .before .before .before .args .s))
-headed c = value-inside 2 (now (c .before .before .before .before .before .args .s)) 12 (header-good _ _ (head-good c) .c-counted .there)
+headed c = value-inside 2 (now (c .before .before .before .before .before .args .s)) (coversCount .at) (header-good _ _ (head-good c) .c-counted .there)
 
 hypers-next : (c : tie.After-known-told2) → let k = c .before .before .before .before .before .head .given .0 in
     run (m.hypers (now (c .before .before .before .before .before .before .before .before .before .args .s)) (k .0)) (k .1 .0) (start graphHeader) ≡ good (c .before .st .given .0 .0)
@@ -112,6 +112,7 @@ returns-5 c =
       eq-eqb _ _ (c .if1 .left),
       all-length _ _ _ _ (hs .there),
       all-length _ _ _ _ (cs .there),
+      targets-told _ _ _ (hs .got) (hs .ends),
     )
 
 pub check-spec : {M : Type 1} → statement M

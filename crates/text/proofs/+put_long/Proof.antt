@@ -1,4 +1,4 @@
--- The proof of the cycle of calls {put_decimal}: the measure is the number; the digits of its tenth part come first, then its last digit.
+-- The proof of the cycle of calls {put_long}: the measure is the number; the digits of its tenth part come first, then its last digit.
 use Prim.Native.Nat.{ℕ, _<_, _+_}
 use mathlib.Core.Logic.{⊎-elim}
 use mathlib.Core.List.{List}
@@ -11,11 +11,11 @@ use Rattle.wire.specs.Laid.{Laid}
 use Rattle.text.proofs.Decimal.{front, front-none, front-some, front-length, decimal-last}
 use Rattle.wire.proofs.Laid.{nothing, more, said}
 use Rattle.wire.proofs.Laid as laid
-use Rattle.text.proofs.put_decimal.Reads as f
-use Rattle.text.proofs.put_decimal.Kinds as kinds
-use Rattle.text.proofs.+put_decimal.Lts-put_decimal as lts
-use Rattle.text.proofs.+put_decimal.{statement}
-use Rattle.text.proofs.+put_decimal.Tie.{close}
+use Rattle.text.proofs.put_long.Reads as f
+use Rattle.text.proofs.put_long.Kinds as kinds
+use Rattle.text.proofs.+put_long.Lts-put_long as lts
+use Rattle.text.proofs.+put_long.{statement}
+use Rattle.text.proofs.+put_long.Tie.{close}
 
 abbrev μ : Measures 1 kinds.ps ℕ
 μ κs a = a .1 .1 .0
@@ -28,10 +28,10 @@ module _ (t : ℕ) where
   abbrev below : In 1 kinds.ps
   below = and 1 kinds.ps (falls 1 kinds.ps _<_ μ t) f.Pre
 
-  put-decimal-requires : lts.Need-put-decimal-requires (below, f.Post) given f.Post
-  put-decimal-requires c κs =
+  put-long-requires : lts.Need-put-long-requires (below, f.Post) given f.Post
+  put-long-requires c κs =
       let n = c .before .before .before .args .n in
-      (omega arith, omega (arith, front-length n (omega arith), ap length (front-some n (omega arith))))
+      (omega arith, omega (arith, front-length 18 n (omega arith), ap length (front-some 20 n (omega arith))))
 
   cast-room : lts.Need-cast-room (below, f.Post) given f.Post
   cast-room c = omega arith
@@ -50,11 +50,11 @@ module _ (t : ℕ) where
     abbrev n : ℕ
     n = c .before .before .args .n
 
-    stored : Laid b at (front n) (c .if1 .room) (c .if1 .last)
-    stored = ⊎-elim (λ w. said (nothing b at (omega arith)) (front-none n (omega arith)) (w .1) (w .2)) (λ w. said (w .2 .ensures) (front-some n (omega arith)) (w .5) (w .6)) (c .if1 .came)
+    stored : Laid b at (front 20 n) (c .if1 .room) (c .if1 .last)
+    stored = ⊎-elim (λ w. said (nothing b at (omega arith)) (front-none 20 n (omega arith)) (w .1) (w .2)) (λ w. said (w .2 .ensures) (front-some 20 n (omega arith)) (w .5) (w .6)) (c .if1 .came)
 
-    room-left : at + length (front n) < length b
-    room-left = omega (arith, front-length n (omega arith))
+    room-left : at + length (front 20 n) < length b
+    room-left = omega (arith, front-length 18 n (omega arith))
 
   slice-write-room : lts.Need-slice-write-room (below, f.Post) given f.Post
   slice-write-room c = omega (arith, stored c .next-is, laid.same-length (stored c), room-left c)
@@ -63,11 +63,11 @@ module _ (t : ℕ) where
   add-result c = omega (arith, stored (c .before) .next-is, room-left (c .before))
 
   returns : lts.Need-returns (below, f.Post) given f.Post
-  returns c = said (more (stored (c .before)) _ (room-left (c .before))) (decimal-last _ (omega arith)) refl refl
+  returns c = said (more (stored (c .before)) _ (room-left (c .before))) (decimal-last 18 _ (omega arith)) refl refl
 
   same-length : lts.Need-same-length (below, f.Post) given f.Post
   same-length c = laid.same-length (returns c)
 
-pub +put-decimal-spec : {M : Type 1} → statement M
-+put-decimal-spec =
-    close μ λ t. lts.spec (below t, f.Post) (given t) f.Post (put-decimal-requires t) (cast-room t) (add-room t) (slice-write-room t) (add-result t) (same-length t) (returns t)
+pub +put-long-spec : {M : Type 1} → statement M
++put-long-spec =
+    close μ λ t. lts.spec (below t, f.Post) (given t) f.Post (put-long-requires t) (cast-room t) (add-room t) (slice-write-room t) (add-result t) (same-length t) (returns t)
