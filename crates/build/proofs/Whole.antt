@@ -21,7 +21,7 @@ use Rattle.graph.specs.Write.{writeCover, writeBody, writeGraph}
 use Rattle.model.specs.Model.{Model}
 use Rattle.formula.specs.declared.Row.{Row}
 use Rattle.reduction.specs.Built.{rowEdges, helperEdges, isUntil, untils, rowCovers, layout, hyper, cover, Limit, graphOf}
-use Rattle.build.specs.declared.Size.{Size}
+use Rattle.build.specs.declared.sizing.Size.{Size}
 use Rattle.build.specs.Size.{noSize, addSize, sizeOf, stateEdges, rowsEdges}
 use Rattle.build.proofs.Untils.{other-row, by-row}
 use Rattle.build.proofs.Sizes.{none-add, add-swap, size-append, size-span, size-spans, helper-size}

@@ -98,10 +98,6 @@ coversFrom n r h (row ∷ rows) = ifUntil row (λ q l k b. coverBytes n r h b ++
 abbrev pub coversOf : ℕ → List Row → List ℕ
 coversOf n rows = coversFrom n 0 (length rows) rows
 
--- the header of a graph message
-abbrev pub headerBytes : (long n h c : ℕ) → List ℕ
-headerBytes long n h c = bytes 4 long ++ bytes 1 1 ++ bytes 1 1 ++ bytes 2 n ++ bytes 4 h ++ bytes 2 c
-
 -- the node numbers of a row at place r and of its operands fit 2 bytes
 pub record RowFits (n r : ℕ) (row : Row) : Type 0 where
   pub node : n * r + n ≤ 4096

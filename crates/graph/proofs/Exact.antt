@@ -23,7 +23,7 @@ use Rattle.value.specs.Coded.{codeOf, Sayable}
 use Rattle.wire.specs.Step.{start}
 use Rattle.graph.specs.Format.{graphHeader, graphHead, nodesCount, hypersCount, coversCount, mostTargets, targetCountAt, hyperWidth, nodeAt, targetWidth, coverBoundAt, coverTargetAt, coverWidth}
 use Rattle.graph.specs.Message.{readTarget, readTargets, readHyper, readCover, readHeader, readGraph, targets, hypers, covers, firstTarget}
-use Rattle.graph.specs.Write.{writeTarget, writeHyper, writeCover, writeBody, writeGraph}
+use Rattle.graph.specs.Write.{writeTarget, writeHyper, writeCover, writeCounts, writeBody, writeGraph}
 use Rattle.graph.specs.WellFormed.{targetsOf, WellFormed}
 use Rattle.value.proofs.Coded.{code-bound, bound-sayable, bound-code, code-fits}
 use Rattle.graph.proofs.Good.{target-good, hyper-good, cover-good, HeaderAt, header-good, counts, GraphAt, graph-good}
@@ -169,8 +169,8 @@ module _ (s : List ℕ) (n : ℕ) where
 -- ---- whole messages
 
 -- the bytes of the counts
-abbrev writeCounts : Graph → List ℕ
-writeCounts g = bytes 2 (g .nodes) ++ bytes 4 (length (g .hypers)) ++ bytes 2 (length (g .covers))
+abbrev countsOf : Graph → List ℕ
+countsOf g = writeCounts (g .nodes) (length (g .hypers)) (length (g .covers))
 
 body-length : (g : Graph) → startWidth + length (writeBody g) ≡ graphHeader + length (writeAll writeHyper (g .hypers)) + length (writeAll writeCover (g .covers))
 unfolding writeBody
@@ -188,22 +188,22 @@ laid-body : {s : List ℕ} (g : Graph) → Laid s g → Stands s startWidth (wri
 unfolding writeBody
 laid-body {s} g l =
     let n-and-h : Stands s startWidth (bytes 2 (g .nodes) ++ bytes 4 (length (g .hypers))) = stands-both (simp length-bytes) (l .n-there) (l .h-there) in
-    let counts-there : Stands s startWidth (writeCounts g) = stands-both (simp (length-append, length-bytes)) n-and-h (l .c-there) in
-    let front : Stands s startWidth (writeCounts g ++ writeAll writeHyper (g .hypers)) = stands-both (simp (length-append, length-bytes)) counts-there (l .hypers-there) in
+    let counts-there : Stands s startWidth (countsOf g) = stands-both (simp (length-append, length-bytes)) n-and-h (l .c-there) in
+    let front : Stands s startWidth (countsOf g ++ writeAll writeHyper (g .hypers)) = stands-both (simp (length-append, length-bytes)) counts-there (l .hypers-there) in
     stands-both (simp (length-append, length-bytes) (omega arith)) front (l .covers-there)
 
 body-laid : {s : List ℕ} (g : Graph) → Stands s startWidth (writeBody g) → Laid s g
 unfolding writeBody
 body-laid {s} g h =
-    let front : Stands s startWidth (writeCounts g ++ writeAll writeHyper (g .hypers)) = stands-first _ _ h in
-    let counts-there : Stands s startWidth (writeCounts g) = stands-first _ _ front in
+    let front : Stands s startWidth (countsOf g ++ writeAll writeHyper (g .hypers)) = stands-first _ _ h in
+    let counts-there : Stands s startWidth (countsOf g) = stands-first _ _ front in
     let n-and-h : Stands s startWidth (bytes 2 (g .nodes) ++ bytes 4 (length (g .hypers))) = stands-first _ _ counts-there in
     record {
       n-there = stands-first _ _ n-and-h;
       h-there = stands-second (bytes 2 (g .nodes)) _ (simp length-bytes) n-and-h;
       c-there = stands-second (bytes 2 (g .nodes) ++ bytes 4 (length (g .hypers))) _ (simp (length-append, length-bytes)) counts-there;
-      hypers-there = stands-second (writeCounts g) _ (simp (length-append, length-bytes)) front;
-      covers-there = stands-second (writeCounts g ++ writeAll writeHyper (g .hypers)) _ (simp (length-append, length-bytes) (omega arith)) h;
+      hypers-there = stands-second (countsOf g) _ (simp (length-append, length-bytes)) front;
+      covers-there = stands-second (countsOf g ++ writeAll writeHyper (g .hypers)) _ (simp (length-append, length-bytes) (omega arith)) h;
     }
 
 -- parts that a good message has make it good

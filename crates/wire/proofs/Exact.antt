@@ -15,7 +15,7 @@ use Rattle.wire.specs.Read.{Read, good, _>>=_, _>>_, demand, field}
 use Rattle.wire.specs.Reader.{Reader, readAll, past}
 use Rattle.wire.specs.Start.{readStart, versionAt, kindAt, startWidth}
 use Rattle.wire.specs.declared.Head.{Head}
-use Rattle.wire.specs.Write.{writeAll, message}
+use Rattle.wire.specs.Write.{writeAll, writeStart, message}
 use Rattle.wire.proofs.Bytes.{length-bytes}
 use Rattle.wire.proofs.Reading.{bind-good, demand-good, good-same, good-then, good-and, met, never}
 use Rattle.wire.proofs.Readers.{all-length}
@@ -127,29 +127,15 @@ pub message-length : (head : Head) (rest : List ℕ) → length (message head re
 unfolding message
 message-length head rest = simp (length-append, length-bytes) (omega arith)
 
--- the start, as fields
-abbrev startOf : (total v k : ℕ) → List ℕ
-startOf total v k = bytes 4 total ++ bytes 1 v ++ bytes 1 k
-
-start-length : (total v k : ℕ) → length (startOf total v k) ≡ startWidth
-start-length total v k = simp (length-append, length-bytes)
-
-message-fields : (head : Head) (rest : List ℕ) → head .version < 256 → head .kind < 256
-    → message head rest ≡ startOf (startWidth + length rest) (head .version) (head .kind) ++ rest
-unfolding message bytes
-message-fields head rest v-byte k-byte =
-    let v-is : head .version % 256 ≡ head .version = omega arith in
-    let k-is : head .kind % 256 ≡ head .kind = omega arith in
-    rw (v-is, k-is) (simp append-assoc)
+start-length : (head : Head) (long : ℕ) → length (writeStart head long) ≡ startWidth
+start-length head long = simp (length-append, length-bytes)
 
 -- behind the start stands the rest
 pub message-rest : (head : Head) (rest : List ℕ) → Stands (message head rest) startWidth rest
 unfolding message
 message-rest head rest =
-    let start : List ℕ = bytes 4 (startWidth + length rest) ++ head .version ∷ head .kind ∷ [] in
-    let parts : message head rest ≡ start ++ rest = simp append-assoc in
-    let whole : Stands (message head rest) 0 (start ++ rest) = rw parts (stands-self (start ++ rest)) in
-    stands-second start rest (simp (length-append, length-bytes)) whole
+    let start = writeStart head (startWidth + length rest) in
+    stands-second start rest (simp (length-append, length-bytes)) (stands-self (start ++ rest))
 
 -- what a good start says of a message
 pub record Started (s : List ℕ) (head : Head) : Type 0 where
@@ -159,7 +145,7 @@ pub record Started (s : List ℕ) (head : Head) : Type 0 where
   pub length-fits : length s < 2 ^ 32
 
 pub start-reads : {s : List ℕ} (head : Head) → Bytes s → readStart s head ≡ good tt → Started s head
-unfolding readStart
+unfolding readStart message
 start-reads {s} head b e =
     let v = head .version in
     let k = head .kind in
@@ -172,13 +158,13 @@ start-reads {s} head b e =
     let total-there = rw (eqb-true (total .value) (length s) (is-total .0)) at (field-stands 4 b (total .first)) in
     let version-there = rw (eqb-true (version .value) v (is-version .0)) at (field-stands 1 b (version .first)) in
     let kind-there = rw (eqb-true (kind .value) k (demand-met _ _ (kind .rest))) at (field-stands 1 b (kind .first)) in
-    let stands : Stands s 0 (startOf (length s) v k) =
+    let stands : Stands s 0 (writeStart head (length s)) =
     stands-both (simp (length-append, length-bytes)) (stands-both (simp length-bytes) (total-there .0) (version-there .0)) (kind-there .0) in
     let inside : startWidth ≤ length s = rw start-length at (stands-inside stands (rw start-length (omega arith))) in
-    let parts : s ≡ startOf (length s) v k ++ drop startWidth s = rw start-length at (stands-parts (omega arith) stands) in
+    let parts : s ≡ writeStart head (length s) ++ drop startWidth s = rw start-length at (stands-parts (omega arith) stands) in
     let rest : startWidth + length (drop startWidth s) ≡ length s = rw length-drop (omega arith) in
     record {
-      whole = parts ∙ sym (message-fields head (drop startWidth s) (version-there .1) (kind-there .1) ∙ ap (λ (n : ℕ). startOf n v k ++ drop startWidth s) rest);
+      whole = parts ∙ sym (ap (λ (n : ℕ). writeStart head n ++ drop startWidth s) rest);
       header-fits = leb-true _ _ (long .0);
       start-fits = inside;
       length-fits = total-there .1;
@@ -186,14 +172,14 @@ start-reads {s} head b e =
 
 pub start-written : (rest : List ℕ) (head : Head) → head .version < 256 → head .kind < 256 → head .length ≤ startWidth + length rest
     → startWidth + length rest < 2 ^ 32 → readStart (message head rest) head ≡ good tt
-unfolding readStart
+unfolding readStart message
 start-written rest head v-byte k-byte header-fits length-fits =
     let v = head .version in
     let k = head .kind in
     let n : ℕ = startWidth + length rest in
     let s : List ℕ = message head rest in
     let long : length s ≡ n = message-length head rest in
-    let stands : Stands s 0 (startOf n v k) = stands-first (startOf n v k) rest (rw (message-fields head rest v-byte k-byte) (stands-self _)) in
+    let stands : Stands s 0 (writeStart head n) = stands-first (writeStart head n) rest (stands-self _) in
     let front = stands-first (bytes 4 n ++ bytes 1 v) (bytes 1 k) stands in
     let total-there : field 4 s 0 ≡ good n = stands-field 4 (omega arith) (stands-first (bytes 4 n) (bytes 1 v) front) length-fits in
     let version-there : field 1 s versionAt ≡ good v = stands-field 1 (omega arith) (stands-second (bytes 4 n) (bytes 1 v) (simp length-bytes) front) v-byte in

@@ -11,6 +11,10 @@ unfoldable pub writeAll : {A : Type 0} → (A → List ℕ) → List A → List 
 writeAll w [] = []
 writeAll w (a ∷ l) = w a ++ writeAll w l
 
--- the total length, itself included (4 bytes), the version and the kind (a byte each), and the rest
+-- the total length, itself included (4 bytes), the version and the kind (a byte each)
+abbrev pub writeStart : Head → (long : ℕ) → List ℕ
+writeStart head long = bytes 4 long ++ bytes 1 (head .version) ++ bytes 1 (head .kind)
+
+-- the start, and the rest
 unfoldable pub message : Head → List ℕ → List ℕ
-message head rest = bytes 4 (startWidth + length rest) ++ head .version ∷ head .kind ∷ rest
+message head rest = writeStart head (startWidth + length rest) ++ rest
