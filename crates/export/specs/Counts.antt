@@ -10,7 +10,7 @@ use Rattle.formula.specs.declared.Checked.the-variants as Formula
 
 -- nodes, hyperedges and cover edges
 abbrev pub graphCounts : graph.Checked → List ℕ → List ℕ
-graphCounts (Graph.Graph n h c) came = n ∷ h ∷ c ∷ []
+graphCounts (Graph.Graph n h c t) came = n ∷ h ∷ c ∷ []
 graphCounts (Graph.Refused e) came = came
 
 -- states, propositions and transitions

@@ -26,7 +26,7 @@ pub extern "C" fn otzarvim_graph_check(message: &[u8], counts: &mut [u32; 3]) ->
     ensures { λ _. ⌜ now (counts .exit) ≡ graphCounts (g.checked (readGraph (now (message .entry)))) (now (counts .entry)) ⌝ }
 {
     match graph::check(message) {
-        graph::Checked::Graph(n, h, c) => {
+        graph::Checked::Graph(n, h, c, _) => {
             *counts = [n, h, c];
             0
         }

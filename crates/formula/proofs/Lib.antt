@@ -1,7 +1,7 @@
 -- Laws of formula messages.
 --     Good       what a good reading says of the bytes
 --     Faults     the reading doesn't give BUDGET
---     Judging    a row's judgement by its operator
+--     Judging    the tests of a row's fields, in terms of the row
 --     Uses       how often rows are operands, counted in a table
 --     Accepted   what an accepted message holds, by position
 --     Answered   the reading from an answer

@@ -7,6 +7,7 @@ use Rattle.refusal.specs.declared.Refusal.the-variants.{Budget}
 use Rattle.wire.specs.Read.{bad}
 use Rattle.wire.specs.declared.State.{State}
 use Rattle.wire.proofs.Spares.{Spares, fine, then, behind, asked, taken, all, limited, started, other-fault}
+use Rattle.graph.specs.Format.{graphHead}
 use Rattle.graph.specs.Message.{readTarget, readTargets, readHyper, readCover, readHeader, readGraph, targets, hypers, covers, firstTarget}
 
 module _ (s : List ℕ) where
@@ -27,7 +28,7 @@ module _ (s : List ℕ) where
   graph-header : Spares (readHeader s)
   unfolding readHeader
   graph-header =
-      behind (started s 14 1 1) (then (limited _ _ _ _ _) (λ n. then (limited _ _ _ _ _) (λ h. then (limited _ _ _ _ _) (λ c. fine))))
+      behind (started s graphHead) (then (limited _ _) (λ n. then (limited _ _) (λ h. then (limited _ _) (λ c. fine))))
 
   graph-spares : Spares (readGraph s)
   unfolding readGraph

@@ -4,6 +4,7 @@ use mathlib.Core.List.{List}
 use mathlib.Core.Path.{refl}
 use Rattle.wire.specs.declared.State.{State}
 use Rattle.wire.proofs.Spares.{Spares, fine, then, behind, asked, taken, all, limited, started}
+use Rattle.model.specs.Format.{modelHead}
 use Rattle.model.specs.Message.{readLabel, readTransition, readHeader, readModel, labels, transitions}
 
 module _ (s : List ℕ) where
@@ -18,8 +19,8 @@ module _ (s : List ℕ) where
   model-header : Spares (readHeader s)
   unfolding readHeader
   model-header =
-      behind (started s 13 1 2)
-      (then (limited _ _ _ _ _) (λ n. then (limited _ _ _ _ _) (λ p. then (limited _ _ _ _ _) (λ t. asked _ _ refl fine))))
+      behind (started s modelHead)
+      (then (limited _ _) (λ n. then (limited _ _) (λ p. then (limited _ _) (λ t. asked _ _ refl fine))))
 
   pub model-spares : Spares (readModel s)
   unfolding readModel

@@ -53,11 +53,11 @@ pub record Begin (s : List ℕ) (n h c : ℕ) : Type 0 where
   pub reads : readGraph s ≡ good (decoded s n h c)
   pub ready : Ready s n h c
 
-pub begin : (s : List ℕ) {n h c : ℕ} → Bytes s → checked (readGraph s) ≡ Checked.Graph n h c → Begin s n h c
+pub begin : (s : List ℕ) {n h c t : ℕ} → Bytes s → checked (readGraph s) ≡ Checked.Graph n h c t → Begin s n h c
 unfolding checked
-begin s {n} {h} {c} bytes e = go (readGraph s) refl e
+begin s {n} {h} {c} {t} bytes e = go (readGraph s) refl e
   where
-    go : (x : Read Graph) → readGraph s ≡ x → checked x ≡ Checked.Graph n h c → Begin s n h c
+    go : (x : Read Graph) → readGraph s ≡ x → checked x ≡ Checked.Graph n h c t → Begin s n h c
     go (bad f) r e = let z : _≡_ {A = ℕ} 0 1 = cc in absurd (omega arith)
     go (good g) r e =
         let nodes : g .nodes ≡ n = cc in

@@ -734,7 +734,7 @@ pub fn solve(message: &[u8], budget: u32, room: &mut [u64]) -> Outcome
 {
     match graph::check(message) {
         Checked::Refused(e) => Outcome::Refused(e),
-        Checked::Graph(nodes, h, c) => {
+        Checked::Graph(nodes, h, c, _) => {
             let n = nodes as usize;
             if room.len() < n + n {
                 return Outcome::Refused(Refusal::Room);

@@ -55,18 +55,26 @@ pub fn put_word(room: &mut [u8], at: usize, word: &[u8]) -> usize
     at + i
 }
 
+// Stores a number of 64 bits in decimal at a position; returns the position past it.
+pub fn put_long(room: &mut [u8], at: usize, n: u64) -> usize
+    requires { ⌜ at + length (t.longDecimal n) ≤ length (now room) ⌝ }
+    ensures { λ r. ⌜ Laid (now (room .entry)) at (t.longDecimal n) (now (room .exit)) r ⌝ }
+{
+    let last = if n < 10 {
+        at
+    } else {
+        put_long(room, at, n / 10)
+    };
+    room[last] = 48 + ((n % 10) as u8);
+    last + 1
+}
+
 // Stores a number in decimal at a position; returns the position past it.
 pub fn put_decimal(room: &mut [u8], at: usize, n: u32) -> usize
     requires { ⌜ at + length (t.decimal n) ≤ length (now room) ⌝ }
     ensures { λ r. ⌜ Laid (now (room .entry)) at (t.decimal n) (now (room .exit)) r ⌝ }
 {
-    let last = if n < 10 {
-        at
-    } else {
-        put_decimal(room, at, n / 10)
-    };
-    room[last] = 48 + ((n % 10) as u8);
-    last + 1
+    put_long(room, at, n as u64)
 }
 
 // How many digits a number has in decimal.
@@ -137,7 +145,7 @@ fn row_length(s: &[u8], i: u32) -> usize
     requires { ⌜ length (rowText (now s) i) ≤ 2048 ⌝ }
     ensures { λ r. ⌜ r ≡ length (rowText (now (s .entry)) i) ⌝ }
 {
-    let at = 7 + (i as usize) * 8;
+    let at = formula::HEADER + (i as usize) * formula::ROW;
     let row = formula::row_at(s, at);
     match row {
         Row::True => 4,
@@ -156,7 +164,7 @@ fn put_row(s: &[u8], i: u32, room: &mut [u8], at: usize) -> usize
     requires { ⌜ at + length (rowText (now s) i) ≤ length (now room) ⌝ }
     ensures { λ r. ⌜ Laid (now (room .entry)) at (rowText (now (s .entry)) i) (now (room .exit)) r ⌝ }
 {
-    let row = formula::row_at(s, 7 + (i as usize) * 8);
+    let row = formula::row_at(s, formula::HEADER + (i as usize) * formula::ROW);
     match row {
         Row::True => put_word(room, at, b"true"),
         Row::False => put_word(room, at, b"false"),

@@ -9,12 +9,14 @@ use Rattle.lists.proofs.Tests.{clash}
 use Rattle.refusal.specs.declared.Refusal.{Refusal}
 use Rattle.refusal.specs.declared.Refusal.the-variants.{Budget}
 use Rattle.refusal.specs.Number.{numberOf}
+use Rattle.wire.specs.declared.Head.{Head}
+use Rattle.wire.specs.declared.Count.{Count}
 use Rattle.wire.specs.declared.Field.{Field}
 use Rattle.wire.specs.declared.Field.the-variants.{Number, Short}
 use Rattle.wire.specs.Read.{Read, good, bad, _>>=_, _>>_, demand, ofField}
 use Rattle.wire.specs.Reader.{Reader, readAll}
 use Rattle.wire.specs.Start.{readStart}
-use Rattle.wire.specs.Counts.{countAt}
+use Rattle.wire.specs.Counts.{readCount}
 use Rattle.wire.proofs.Reading.{never, bad-same}
 
 pub record Spares {A : Type 0} (x : Read A) : Type 0 where
@@ -69,14 +71,14 @@ all R each zero st = fine
 all R each (suc k) st = then (each st) (λ a. then (all R each k (R .next st a)) (λ xs. fine))
 
 -- a count in a header
-pub limited : (k : ℕ) (s : List ℕ) (at least most : ℕ) → Spares (countAt k s at least most)
-unfolding countAt
-limited k s at least most = taken _ (λ n. asked _ _ refl (asked _ _ refl fine))
+pub limited : (s : List ℕ) (count : Count) → Spares (readCount s count)
+unfolding readCount
+limited s count = taken _ (λ n. asked _ _ refl (asked _ _ refl fine))
 
 -- the start of a message
-pub started : (s : List ℕ) (header version kind : ℕ) → Spares (readStart s header version kind)
+pub started : (s : List ℕ) (head : Head) → Spares (readStart s head)
 unfolding readStart
-started s header version kind = asked _ _ refl (taken _ (λ total. asked _ _ refl (taken _ (λ v. asked _ _ refl (taken _ (λ k. test _ _ refl))))))
+started s head = asked _ _ refl (taken _ (λ total. asked _ _ refl (taken _ (λ v. asked _ _ refl (taken _ (λ k. test _ _ refl))))))
 
 -- so the fault of a reading is another
 pub other-fault : {A : Type 0} {x : Read A} {e : Refusal} → Spares x → x ≡ bad e → ¬ (e ≡ Budget)

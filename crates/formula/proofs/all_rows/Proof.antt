@@ -13,6 +13,7 @@ use Rattle.wire.specs.Reader.{run}
 use Rattle.wire.specs.Step.{step}
 use Rattle.wire.proofs.Fields.{value-inside, short-past}
 use Rattle.wire.proofs.Turns.{step-next, not-next, turn-next, turn-refused, turn-none}
+use Rattle.formula.specs.Format.{rowWidth}
 use Rattle.formula.specs.Rows.{uses}
 use Rattle.formula.specs.Message as m
 use Rattle.formula.specs.Layouts.{rowAt, rowLayout}
@@ -24,14 +25,14 @@ use Rattle.formula.proofs.all_rows.Tie as tie
 -- the i rows that are left, of k rows that start at st₀
 record Left (s counts : List ℕ) (p k : ℕ) (st₀ st : State) : Type 0 where
   i : ℕ
-  long : st .at + i * 8 ≡ length s
+  long : st .at + i * rowWidth ≡ length s
   same : step (run (m.rows s p) i st) ≡ step (run (m.rows s p) k st₀)
   all-uses : (j : ℕ) → getD counts j 0 + uses j (items (rowLayout s) i (st .at)) ≡ uses j (items (rowLayout s) k (st₀ .at))
 
 abbrev Inv-loop : tie.InvT-loop
 Inv-loop s p counts₀ st₀ counts st =
-    (st .at ≤ length s) × (length s + st .tally * 8 ≤ st .at + 512) × (length counts ≡ 64) × ((j : ℕ) → getD counts j 0 ≤ 2 * st .tally)
-    × ((k : ℕ) → st₀ .at + k * 8 ≡ length s → Left s counts p k st₀ st)
+    (st .at ≤ length s) × (length s + st .tally * rowWidth ≤ st .at + 64 * rowWidth) × (length counts ≡ 64) × ((j : ℕ) → getD counts j 0 ≤ 2 * st .tally)
+    × ((k : ℕ) → st₀ .at + k * rowWidth ≡ length s → Left s counts p k st₀ st)
 
 abbrev μ-loop : tie.MeasureT-loop
 μ-loop s p counts₀ st₀ counts st = length s - st .at

@@ -16,6 +16,7 @@ use Rattle.wire.specs.Step.{start, step}
 use Rattle.wire.proofs.Reading.{reading}
 use Rattle.wire.proofs.Readers.{run-good, run-bad, all-length}
 use Rattle.wire.proofs.Turns.{step-next, step-refused}
+use Rattle.formula.specs.Format.{formulaHeader}
 use Rattle.formula.specs.declared.Row.{Row}
 use Rattle.formula.specs.Rows.{uses, usedOnce}
 use Rattle.formula.specs.Message.{readHeader, readFormula, rows}
@@ -33,12 +34,12 @@ head-good c = counted-formula _ (by (c .before .before .before .header .ensures)
 
 -- the reading of all rows
 abbrev all-read : tie.After-known-told → Read State
-all-read k = let a = k .before .before .before .before .before .before .args in run (rows (now (a .s)) (a .p)) (k .before .head .given .0 .0) (start 7)
+all-read k = let a = k .before .before .before .before .before .before .args in run (rows (now (a .s)) (a .p)) (k .before .head .given .0 .0) (start formulaHeader)
 
 -- the rows that were read, and how often each of them is an operand
 record Rows (s counts : List ℕ) (p f : ℕ) : Type 0 where
   got : List Row
-  there : readAll (rows s p) f (start 7) ≡ good got
+  there : readAll (rows s p) f (start formulaHeader) ≡ good got
   long : length got ≡ f
   uses-are : (i : ℕ) → getD counts i 0 ≡ uses i got
 
@@ -51,7 +52,7 @@ rows-got c =
     let told = c .enum-told2 .given .1 in
     let long = sym (header-good _ _ (head-good k) .long) in
     let ran = run-good _ _ _ _ (step-next (all-read k) (by {b = step (all-read k)} (r .all-rows .ensures .0 _ long) told)) in
-    let hold = rows-hold (now (a .s)) (a .p) (k .before .head .given .0 .0) (start 7) (ran .got) (omega (arith, header-good _ _ (head-good k))) (ran .there) in
+    let hold = rows-hold (now (a .s)) (a .p) (k .before .head .given .0 .0) (start formulaHeader) (ran .got) (omega (arith, header-good _ _ (head-good k))) (ran .there) in
     record { got = ran .got; there = ran .there; long = all-length _ _ _ _ (ran .there); uses-are = λ i. rw (hold .items-are) (r .all-rows .ensures .1 _ long _ told i) }
 
 returns : tie.Need-returns

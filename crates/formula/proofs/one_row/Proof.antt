@@ -11,6 +11,7 @@ use Rattle.wire.specs.Step.{step}
 use Rattle.wire.proofs.Fields.{value-inside, value-is}
 use Rattle.wire.proofs.Reading.{reading}
 use Rattle.wire.proofs.Turns.{not-next}
+use Rattle.formula.specs.Format.{boundAt, rowWidth}
 use Rattle.formula.specs.declared.Row.{Row}
 use Rattle.formula.specs.Message.{readRow, judgeRow}
 use Rattle.formula.specs.Answers.{judged}
@@ -25,8 +26,8 @@ abbrev start : tie.After-number-at4 → tie.Start
 start c = c .before .before .before .before .before .before
 
 -- the bound is there, so all of the row is
-inside : (c : tie.Start) → let a = c .args in a .st .at + 8 ≤ length (now (a .s))
-inside c = let a = c .args in omega (arith, value-inside 4 (now (a .s)) (a .st .at + 4) (c .pre .0))
+inside : (c : tie.Start) → let a = c .args in a .st .at + rowWidth ≤ length (now (a .s))
+inside c = let a = c .args in omega (arith, value-inside 4 (now (a .s)) (a .st .at + boundAt) (c .pre .0))
 
 -- the reading judges the fields that were read
 abbrev judgement : tie.After-number-at4 → Read Row
@@ -37,7 +38,7 @@ judgement c =
 fields-judged : (c : tie.After-number-at4) → let a = start c .args in readRow (now (a .s)) (a .p) (a .st) ≡ judgement c
 fields-judged c =
     let a = start c .args in
-    simp (row-inside (now (a .s)) (a .p) (a .st) (inside (start c)), c .before .before .before .number-at .ensures, c .before .before .number-at2 .ensures, c .before .number-at3 .ensures, c .number-at4 .ensures, value-is 4 (now (a .s)) (a .st .at + 4) (start c .pre .0))
+    simp (row-inside (now (a .s)) (a .p) (a .st) (inside (start c)), c .before .before .before .number-at .ensures, c .before .before .number-at2 .ensures, c .before .number-at3 .ensures, c .number-at4 .ensures, value-is 4 (now (a .s)) (a .st .at + boundAt) (start c .pre .0))
 
 -- the row that was read
 row-read : (c : tie.After-known-told) → let a = start (c .before .before .before .before) .args in readRow (now (a .s)) (a .p) (a .st) ≡ good (c .before .row .given .0 .0)

@@ -14,10 +14,11 @@ use Rattle.wire.proofs.Reading.{reading}
 use Rattle.wire.proofs.Readers.{run-good, run-bad, run-keeps, all-length}
 use Rattle.wire.specs.declared.State.{State}
 use Rattle.wire.specs.Step.{start}
+use Rattle.graph.specs.Format.{graphHeader, coversCount}
 use Rattle.graph.specs.Message.{readHeader, readGraph}
 use Rattle.graph.specs.Message as m
 use Rattle.graph.specs.Answers.{checked}
-use Rattle.graph.proofs.Good.{header-good, hypers-stay}
+use Rattle.graph.proofs.Good.{header-good, hypers-stay, targets-told}
 use Rattle.wire.proofs.Turns.{step-next, step-refused}
 use Rattle.graph.proofs.Answered.{counted-graph, counted-refused}
 use Rattle.graph.proofs.check.Statement.{statement}
@@ -28,11 +29,11 @@ head-good : (c : tie.After-known-told) → let k = c .before .head .given .0 in
     readHeader (now (c .before .before .before .before .before .args .s)) ≡ good (record { n = k .0; h = k .1 .0; c = k .1 .1 .0 })
 head-good c = counted-graph _ (by (c .before .before .before .header .ensures) (c .before .head .given .1))
 
-fourteen : (c : tie.After-known-told) → 14 ≤ length (now (c .before .before .before .before .before .args .s))
-fourteen c = value-inside 2 (now (c .before .before .before .before .before .args .s)) 12 (header-good _ _ (head-good c) .c-counted .there)
+headed : (c : tie.After-known-told) → graphHeader ≤ length (now (c .before .before .before .before .before .args .s))
+headed c = value-inside 2 (now (c .before .before .before .before .before .args .s)) (coversCount .at) (header-good _ _ (head-good c) .c-counted .there)
 
 hypers-next : (c : tie.After-known-told2) → let k = c .before .before .before .before .before .head .given .0 in
-    run (m.hypers (now (c .before .before .before .before .before .before .before .before .before .args .s)) (k .0)) (k .1 .0) (start 14) ≡ good (c .before .st .given .0 .0)
+    run (m.hypers (now (c .before .before .before .before .before .before .before .before .before .args .s)) (k .0)) (k .1 .0) (start graphHeader) ≡ good (c .before .st .given .0 .0)
 hypers-next c = step-next _ (by (c .before .before .before .hypers .ensures) (c .before .st .given .1))
 
 covers-next : (c : tie.After-known-told4) → let k = c .before .before .before .before .before .before .before .before .before .head .given .0 in
@@ -55,7 +56,7 @@ returns c =
     c .enum-told .given .1 ∙ simp (reading, refused)
 
 hypers-requires : tie.Need-hypers-requires
-hypers-requires c κs = (fourteen c, omega arith)
+hypers-requires c κs = (headed c, omega arith)
 
 enum-known-st : tie.Need-enum-known-st
 enum-known-st c = search needs
@@ -72,7 +73,7 @@ returns-2 c =
 covers-requires : tie.Need-covers-requires
 covers-requires c κs =
     let s = now (c .before .before .before .before .before .before .before .before .before .args .s) in
-    run-keeps _ (λ (st : State). st .at ≤ length s) (λ st next e. hypers-stay _ _ st next e .0) _ _ _ (fourteen (c .before .before .before .before)) (hypers-next c)
+    run-keeps _ (λ (st : State). st .at ≤ length s) (λ st next e. hypers-stay _ _ st next e .0) _ _ _ (headed (c .before .before .before .before)) (hypers-next c)
 
 enum-known-st-2 : tie.Need-enum-known-st-2
 enum-known-st-2 c = search needs
@@ -111,6 +112,7 @@ returns-5 c =
       eq-eqb _ _ (c .if1 .left),
       all-length _ _ _ _ (hs .there),
       all-length _ _ _ _ (cs .there),
+      targets-told _ _ _ (hs .got) (hs .ends),
     )
 
 pub check-spec : {M : Type 1} → statement M

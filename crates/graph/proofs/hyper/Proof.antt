@@ -11,6 +11,7 @@ use Rattle.wire.specs.Field.{fieldAt}
 use Rattle.wire.proofs.Bytes.{number-below}
 use Rattle.wire.proofs.Fields.{value-inside, value-is}
 use Rattle.wire.proofs.Reading.{reading}
+use Rattle.graph.specs.Format.{targetCountAt}
 use Rattle.graph.specs.Message.{readHyper}
 use Rattle.wire.specs.Step.{step}
 use Rattle.wire.proofs.Fields.{fits-there}
@@ -19,7 +20,7 @@ use Rattle.graph.proofs.hyper.Statement.{statement}
 use Rattle.graph.proofs.hyper.Tie as tie
 
 -- the fields that are there: the count, and so the source before it
-count-there : (c : tie.After-known-told) → let a = c .before .before .before .before .before .args in fieldAt 2 (now (a .s)) (a .st .at + 2) ≡ Number (c .before .count .given .0 .0)
+count-there : (c : tie.After-known-told) → let a = c .before .before .before .before .before .args in fieldAt 2 (now (a .s)) (a .st .at + targetCountAt) ≡ Number (c .before .count .given .0 .0)
 count-there c = by (c .before .before .before .read .ensures) (c .before .count .given .1)
 
 source-there : (c : tie.After-number-at) → let a = c .before .before .before .before .before .before .args in fieldAt 2 (now (a .s)) (a .st .at) ≡ Number (c .number-at .result)
@@ -63,7 +64,7 @@ hyper-targets-requires c κs =
     let k = c .before .before .before .before in
     let e = k .before .before .before .before in
     let s = now (e .before .args .s) in
-    let at = e .before .args .st .at + 2 in
+    let at = e .before .args .st .at + targetCountAt in
     omega (arith, value-inside 2 s at (count-there k), value-is 2 s at (count-there k), number-below 2 s at (λ i. omega (arith, e .shared-slice-known .given i)))
 
 returns-4 : tie.Need-returns-4

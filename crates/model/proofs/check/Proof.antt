@@ -14,6 +14,7 @@ use Rattle.wire.proofs.Readers.{run-good, run-bad, all-length}
 use Rattle.wire.proofs.Turns.{step-next, step-refused}
 use Rattle.model.specs.Model.{noneDead}
 use Rattle.wire.specs.Step.{start}
+use Rattle.model.specs.Format.{modelHeader, labelAt}
 use Rattle.model.specs.Message.{readHeader, readModel}
 use Rattle.model.specs.Message as m
 use Rattle.model.specs.Answers.{checked}
@@ -29,11 +30,11 @@ head-good : (c : tie.After-known-told) → let k = c .before .head .given .0 in
 head-good c = counted-model _ (by (c .before .before .before .header .ensures) (c .before .head .given .1))
 
 labels-next : (c : tie.After-enum-told2) → let k = c .before .before .before .before .head .given .0 in
-    run (m.labels (now (c .before .before .before .before .before .before .before .before .args .s)) (k .1 .0)) (k .0) (start 13) ≡ good (c .enum-told2 .given .0 .0)
+    run (m.labels (now (c .before .before .before .before .before .before .before .before .args .s)) (k .1 .0)) (k .0) (start modelHeader) ≡ good (c .enum-told2 .given .0 .0)
 labels-next c = step-next _ (by (c .before .before .labels .ensures) (c .enum-told2 .given .1))
 
 transitions-next : (c : tie.After-known-told3) → let k = c .before .before .before .before .before .before .before .before .head .given .0 in
-    run (m.transitions (now (c .before .before .before .before .before .before .before .before .before .before .before .before .args .s)) (k .0)) (k .1 .1 .0) (start (13 + k .0 * 4)) ≡ good (c .before .st .given .0 .0)
+    run (m.transitions (now (c .before .before .before .before .before .before .before .before .before .before .before .before .args .s)) (k .0)) (k .1 .1 .0) (start (labelAt (k .0))) ≡ good (c .before .st .given .0 .0)
 transitions-next c =
     let h = c .before .before .before .before .before .before .before in
     step-next _ (by (c .before .before .before .transitions .ensures _ (sym (header-good _ _ (head-good h) .long))) (c .before .st .given .1))

@@ -10,6 +10,7 @@ use borrow.Fn.PlainCycle.{Measures, is, falls, and}
 use Rattle.lists.specs.Lists.{_∈_}
 use Rattle.lists.proofs.Places.{first, second}
 use Rattle.lists.proofs.Tests.{by}
+use Rattle.formula.specs.Format.{placeOf}
 use Rattle.formula.specs.declared.Row.{Row}
 use Rattle.formula.specs.Layouts.{rowAt}
 use Rattle.formula.specs.Rows.{operands}
@@ -55,7 +56,7 @@ module _ (t : ℕ) where
     ready : Ready s i
     ready = c .before .before .before .pre .1 .0
 
-    there : rowAt s (7 + i * 8) ≡ x
+    there : rowAt s (placeOf i) ≡ x
     there = by (c .row-at .ensures) e
 
     text-is : rowText s i ≡ made x (λ l. rowText s l)

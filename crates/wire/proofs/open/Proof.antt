@@ -8,23 +8,23 @@ use borrow.Author.Needs.{needs}
 use borrow.Author.Tests.{lt-leb, le-leb, eq-eqb, ne-eqb}
 use Rattle.lists.proofs.Tests.{by}
 use Rattle.wire.specs.Field.{fieldAt}
-use Rattle.wire.specs.Start.{readStart, openedOf}
+use Rattle.wire.specs.Start.{readStart, versionAt, kindAt, openedOf}
 use Rattle.wire.specs.declared.Field.the-variants.{Number}
 use Rattle.wire.proofs.Reading.{reading}
 use Rattle.wire.proofs.open.Statement.{statement}
 use Rattle.wire.proofs.open.Tie as tie
 
 -- the header's bytes are there, and so is each field
-headed : (c : tie.Else1) → let a = c .before .before .args in leb (a .header) (length (now (a .s))) ≡ true
+headed : (c : tie.Else1) → let a = c .before .before .args in leb (a .head .length) (length (now (a .s))) ≡ true
 headed c = le-leb _ _ (c .if1 .left)
 
 total-there : (c : tie.After-known-told) → fieldAt 4 (now (c .before .before .before .before .before .before .args .s)) 0 ≡ Number (c .before .total .given .0 .0)
 total-there c = by (c .before .before .before .read .ensures) (c .before .total .given .1)
 
-v-there : (c : tie.After-known-told2) → fieldAt 1 (now (c .before .before .before .before .before .before .before .before .before .before .before .args .s)) 4 ≡ Number (c .before .v .given .0 .0)
+v-there : (c : tie.After-known-told2) → fieldAt 1 (now (c .before .before .before .before .before .before .before .before .before .before .before .args .s)) versionAt ≡ Number (c .before .v .given .0 .0)
 v-there c = by (c .before .before .before .read2 .ensures) (c .before .v .given .1)
 
-k-there : (c : tie.After-known-told3) → fieldAt 1 (now (c .before .before .before .before .before .before .before .before .before .before .before .before .before .before .before .before .args .s)) 5 ≡ Number (c .before .k .given .0 .0)
+k-there : (c : tie.After-known-told3) → fieldAt 1 (now (c .before .before .before .before .before .before .before .before .before .before .before .before .before .before .before .before .args .s)) kindAt ≡ Number (c .before .k .given .0 .0)
 k-there c = by (c .before .before .before .read3 .ensures) (c .before .k .given .1)
 
 returns : tie.Need-returns
