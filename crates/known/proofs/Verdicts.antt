@@ -23,7 +23,7 @@ use Rattle.formula.specs.Formula.{formulaOf}
 use Rattle.formula.specs.Rows.{operands}
 use Rattle.formula.specs.WellFormed.{RowAt}
 use Rattle.formula.proofs.Trees.{Ordered}
-use Rattle.runs.specs.Runs.{Leads}
+use Rattle.runs.specs.Systems.{Leads, systemOf}
 use Rattle.runs.specs.Sat.{Sat}
 use Rattle.runs.proofs.Proper.{Proper}
 use Rattle.reduction.specs.Built.{graphOf}
@@ -65,21 +65,21 @@ module _ (q : Quantifier) (b : Bound) where
 
   -- where a row of the table has this graph and says OK, the value of a state's node of the until is 0 exactly where the state satisfies it
   exactly : (place count : ℕ) (values : List Value) {x : Value} → getElem? known place ≡ some (row (graphOf M (p0-until-p1 q b)) 9 0 count values)
-      → (a : ℕ) → a < 2 → getElem? values (a + 2 * 2) ≡ some x → (x ≡ fin 0) ↔ Sat M (formulaOf (p0-until-p1 q b) 2) a
+      → (a : ℕ) → a < 2 → getElem? values (a + 2 * 2) ≡ some x → (x ≡ fin 0) ↔ Sat (systemOf M) (formulaOf (p0-until-p1 q b) 2) a
   exactly place count values {x} is a l at =
       let r = row (graphOf M (p0-until-p1 q b)) 9 0 count values in
       let there = place-∈ known place is in
       rw (← (row-value r there (a + 2 * 2) at))
       (yes-exactly M (p0-until-p1 q b) proper-M ordered-rows count (row-settled r there closed refl) 2 (lit< tt) a l)
 
-pub T13-holds : Sat M (formulaOf T13 2) 0
+pub T13-holds : Sat (systemOf M) (formulaOf T13 2) 0
 T13-holds = exactly Some (Within 2) 12 4 _ refl 0 (lit< tt) refl .0 refl
 
-pub T14-fails : ¬ Sat M (formulaOf T14 2) 0
+pub T14-fails : ¬ Sat (systemOf M) (formulaOf T14 2) 0
 T14-fails h = let e = exactly Some (Within 1) 13 3 _ refl 0 (lit< tt) refl .1 h in let z : _≡_ {A = ℕ} 0 1 = cc in omega arith
 
-pub T15-fails : ¬ Sat M (formulaOf T15 2) 0
+pub T15-fails : ¬ Sat (systemOf M) (formulaOf T15 2) 0
 T15-fails h = let e = exactly Every Unbounded 14 3 _ refl 0 (lit< tt) refl .1 h in let z : _≡_ {A = ℕ} 0 1 = cc in omega arith
 
-pub T15-holds : Sat M (formulaOf T15 2) 1
+pub T15-holds : Sat (systemOf M) (formulaOf T15 2) 1
 T15-holds = exactly Every Unbounded 14 3 _ refl 1 (lit< tt) refl .0 refl

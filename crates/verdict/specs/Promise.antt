@@ -20,6 +20,7 @@ use Rattle.model.specs.WellFormed as model
 use Rattle.formula.specs.Formula.{rootOf}
 use Rattle.formula.specs.Write.{writeFormula}
 use Rattle.formula.specs.WellFormed as formula
+use Rattle.runs.specs.Systems.{systemOf}
 use Rattle.runs.specs.Sat.{Sat}
 use Rattle.build.specs.declared.Built.{Built}
 use Rattle.build.specs.declared.Built.the-variants as Built
@@ -40,7 +41,7 @@ pub record Asks (m f : List ℕ) (q : Question) : Type 0 where
 
 -- the state satisfies the formula by its runs
 abbrev pub Satisfies : Question → ℕ → Type 0
-Satisfies q state = Sat (q .model) (rootOf (q .rows)) state
+Satisfies q state = Sat (systemOf (q .model)) (rootOf (q .rows)) state
 
 -- the graph of the question stands in its room, with n the returned length
 pub record Stands (q : Question) (b b′ : List ℕ) (n : ℕ) : Type 0 where
