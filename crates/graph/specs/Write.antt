@@ -4,8 +4,9 @@ use mathlib.Core.List.{List, _++_}
 use lib.ListN.{length}
 use Rattle.wire.specs.Bytes.{bytes}
 use Rattle.wire.specs.Write.{writeAll, message}
-use Rattle.rules.specs.Graph.{Graph, Hyper, Cover, Target}
+use Rattle.rules.specs.Graph.{Hyper, Cover, Target}
 use Rattle.value.specs.Coded.{codeOf}
+use Rattle.graph.specs.Stored.{StoredGraph}
 
 -- weight (4) and node (2)
 unfoldable pub writeTarget : Target → List ℕ
@@ -20,11 +21,11 @@ unfoldable pub writeCover : Cover → List ℕ
 writeCover c = bytes 2 (c .source) ++ bytes 4 (codeOf (c .bound)) ++ bytes 2 (c .target)
 
 -- n (2), h (4), c (2), the hyperedges, the cover edges
-unfoldable pub writeBody : Graph → List ℕ
+unfoldable pub writeBody : StoredGraph → List ℕ
 writeBody g =
     bytes 2 (g .nodes) ++ bytes 4 (length (g .hypers)) ++ bytes 2 (length (g .covers))
     ++ writeAll writeHyper (g .hypers) ++ writeAll writeCover (g .covers)
 
 -- version 1, kind 1
-unfoldable pub writeGraph : Graph → List ℕ
+unfoldable pub writeGraph : StoredGraph → List ℕ
 writeGraph g = message 1 1 (writeBody g)
