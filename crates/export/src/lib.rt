@@ -11,12 +11,10 @@ ghost use Rattle.rounds.specs.Outcome as rounds;
 ghost use Rattle.rounds.specs.Promise as promise;
 ghost use Rattle.text.specs.Written as text;
 ghost use Rattle.build.specs.Built as b;
-ghost use Rattle.verdict.specs.Question.{readQuestion, readAsked};
 ghost use Rattle.verdict.specs.Answer as v;
 ghost use Rattle.verdict.specs.Promise.{Promise, PromiseAll, PromiseGraph};
-ghost use Rattle.export.specs.Counts.{graphCounts, modelCounts, formulaCount};
-ghost use Rattle.export.specs.Verdicts.{verdictNumber, asked, settled, settledStates};
-use verdict::Settled;
+ghost use Rattle.export.specs.Results.{graphCounts, modelCounts, formulaCount, verdictNumber, askedOne, askedAll, statesLent};
+use verdict::AllStates;
 use verdict::Verdict;
 
 // Checks a graph message; lends back its nodes, hyperedges and cover edges.
@@ -72,11 +70,11 @@ pub extern "C" fn otzarvim_rounds_solve(
     room: &mut [u64],
     count: &mut u32,
 ) -> u8
-    ensures { λ r. ⌜ r ≡ rounds.outcomeNumber (rounds.outcomeOf (readGraph (now (message .entry))) budget (now (room .entry))) ⌝ }
-    ensures { λ _. ⌜ now (room .exit) ≡ rounds.roomOf (readGraph (now (message .entry))) budget (now (room .entry)) ⌝ }
-    ensures { λ _. ⌜ now (count .exit) ≡ rounds.outcomeCount (rounds.outcomeOf (readGraph (now (message .entry))) budget (now (room .entry))) ⌝ }
+    ensures { λ r. ⌜ r ≡ rounds.outcomeNumber (rounds.outcomeOf (rounds.readRounds (now (message .entry)) (now (room .entry))) budget) ⌝ }
+    ensures { λ _. ⌜ now (room .exit) ≡ rounds.roundsRoom (rounds.readRounds (now (message .entry)) (now (room .entry))) budget (now (room .entry)) ⌝ }
+    ensures { λ _. ⌜ now (count .exit) ≡ rounds.outcomeCount (rounds.outcomeOf (rounds.readRounds (now (message .entry)) (now (room .entry))) budget) ⌝ }
     ensures { λ _. ⌜ promise.Promise (now (message .entry)) budget (now (room .entry)) (now (room .exit))
-        (rounds.outcomeOf (readGraph (now (message .entry))) budget (now (room .entry))) ⌝ }
+        (rounds.outcomeOf (rounds.readRounds (now (message .entry)) (now (room .entry))) budget) ⌝ }
 {
     let outcome = rounds::solve(message, budget, room);
     *count = outcome.count();
@@ -124,18 +122,18 @@ pub extern "C" fn otzarvim_verdict(
     count: &mut u32,
     length: &mut usize,
 ) -> u8
-    ensures { λ r. ⌜ r ≡ v.answerNumber (asked (now (model .entry)) (now (formula .entry)) state budget (now (bytes .entry)) (now (values .entry))) ⌝ }
-    ensures { λ _. ⌜ now (bytes .exit) ≡ v.bytesOf (readAsked (now (model .entry)) (now (formula .entry)) state) (now (bytes .entry)) (now (values .entry)) ⌝ }
-    ensures { λ _. ⌜ now (values .exit) ≡ v.valuesOf (readAsked (now (model .entry)) (now (formula .entry)) state) budget (now (bytes .entry))
+    ensures { λ r. ⌜ r ≡ v.answerNumber (askedOne (now (model .entry)) (now (formula .entry)) state budget (now (bytes .entry)) (now (values .entry))) ⌝ }
+    ensures { λ _. ⌜ now (bytes .exit) ≡ v.bytesOf (v.readAsked (now (model .entry)) (now (formula .entry)) state (now (bytes .entry)) (now (values .entry))) (now (bytes .entry)) ⌝ }
+    ensures { λ _. ⌜ now (values .exit) ≡ v.valuesOf (v.readAsked (now (model .entry)) (now (formula .entry)) state (now (bytes .entry)) (now (values .entry))) budget
         (now (values .entry)) ⌝ }
-    ensures { λ _. ⌜ now (verdict .exit) ≡ verdictNumber (v.answerVerdict (asked (now (model .entry)) (now (formula .entry)) state budget
+    ensures { λ _. ⌜ now (verdict .exit) ≡ verdictNumber (v.answerVerdict (askedOne (now (model .entry)) (now (formula .entry)) state budget
         (now (bytes .entry)) (now (values .entry)))) ⌝ }
-    ensures { λ _. ⌜ now (count .exit) ≡ v.answerCount (asked (now (model .entry)) (now (formula .entry)) state budget (now (bytes .entry))
+    ensures { λ _. ⌜ now (count .exit) ≡ v.answerCount (askedOne (now (model .entry)) (now (formula .entry)) state budget (now (bytes .entry))
         (now (values .entry))) ⌝ }
-    ensures { λ _. ⌜ now (length .exit) ≡ v.answerLength (asked (now (model .entry)) (now (formula .entry)) state budget (now (bytes .entry))
+    ensures { λ _. ⌜ now (length .exit) ≡ v.answerLength (askedOne (now (model .entry)) (now (formula .entry)) state budget (now (bytes .entry))
         (now (values .entry))) ⌝ }
     ensures { λ _. ⌜ Promise (now (model .entry)) (now (formula .entry)) state budget (now (bytes .entry)) (now (values .entry)) (now (bytes .exit))
-        (now (values .exit)) (asked (now (model .entry)) (now (formula .entry)) state budget (now (bytes .entry)) (now (values .entry))) ⌝ }
+        (now (values .exit)) (askedOne (now (model .entry)) (now (formula .entry)) state budget (now (bytes .entry)) (now (values .entry))) ⌝ }
 {
     let answer = verdict::decide(model, formula, state, budget, bytes, values);
     *verdict = verdict_number(answer.verdict());
@@ -152,11 +150,11 @@ pub extern "C" fn otzarvim_graph(
     bytes: &mut [u8],
     length: &mut usize,
 ) -> u8
-    ensures { λ r. ⌜ r ≡ b.builtNumber (v.graphBuilt (readQuestion (now (model .entry)) (now (formula .entry))) (now (bytes .entry))) ⌝ }
-    ensures { λ _. ⌜ now (bytes .exit) ≡ v.graphRoom (readQuestion (now (model .entry)) (now (formula .entry))) (now (bytes .entry)) ⌝ }
-    ensures { λ _. ⌜ now (length .exit) ≡ b.builtLength (v.graphBuilt (readQuestion (now (model .entry)) (now (formula .entry))) (now (bytes .entry))) ⌝ }
+    ensures { λ r. ⌜ r ≡ b.builtNumber (v.builtAlone (v.readBuilt (now (model .entry)) (now (formula .entry)) (now (bytes .entry)))) ⌝ }
+    ensures { λ _. ⌜ now (bytes .exit) ≡ v.bytesOf (v.readBuilt (now (model .entry)) (now (formula .entry)) (now (bytes .entry))) (now (bytes .entry)) ⌝ }
+    ensures { λ _. ⌜ now (length .exit) ≡ b.builtLength (v.builtAlone (v.readBuilt (now (model .entry)) (now (formula .entry)) (now (bytes .entry)))) ⌝ }
     ensures { λ _. ⌜ PromiseGraph (now (model .entry)) (now (formula .entry)) (now (bytes .entry)) (now (bytes .exit))
-        (v.graphBuilt (readQuestion (now (model .entry)) (now (formula .entry))) (now (bytes .entry))) ⌝ }
+        (v.builtAlone (v.readBuilt (now (model .entry)) (now (formula .entry)) (now (bytes .entry)))) ⌝ }
 {
     let built = verdict::graph(model, formula, bytes);
     *length = built.length();
@@ -175,29 +173,29 @@ pub extern "C" fn otzarvim_settle(
     length: &mut usize,
     states: &mut [u32; 2],
 ) -> u8
-    ensures { λ r. ⌜ r ≡ v.settledNumber (settled (now (model .entry)) (now (formula .entry)) budget (now (bytes .entry)) (now (values .entry))) ⌝ }
-    ensures { λ _. ⌜ now (bytes .exit) ≡ v.bytesOf (readQuestion (now (model .entry)) (now (formula .entry))) (now (bytes .entry)) (now (values .entry)) ⌝ }
-    ensures { λ _. ⌜ now (values .exit) ≡ v.valuesOf (readQuestion (now (model .entry)) (now (formula .entry))) budget (now (bytes .entry))
+    ensures { λ r. ⌜ r ≡ v.allNumber (askedAll (now (model .entry)) (now (formula .entry)) budget (now (bytes .entry)) (now (values .entry))) ⌝ }
+    ensures { λ _. ⌜ now (bytes .exit) ≡ v.bytesOf (v.readSettled (now (model .entry)) (now (formula .entry)) (now (bytes .entry)) (now (values .entry))) (now (bytes .entry)) ⌝ }
+    ensures { λ _. ⌜ now (values .exit) ≡ v.valuesOf (v.readSettled (now (model .entry)) (now (formula .entry)) (now (bytes .entry)) (now (values .entry))) budget
         (now (values .entry)) ⌝ }
-    ensures { λ _. ⌜ now (count .exit) ≡ v.settledCount (settled (now (model .entry)) (now (formula .entry)) budget (now (bytes .entry))
+    ensures { λ _. ⌜ now (count .exit) ≡ v.allCount (askedAll (now (model .entry)) (now (formula .entry)) budget (now (bytes .entry))
         (now (values .entry))) ⌝ }
-    ensures { λ _. ⌜ now (length .exit) ≡ v.settledLength (settled (now (model .entry)) (now (formula .entry)) budget (now (bytes .entry))
+    ensures { λ _. ⌜ now (length .exit) ≡ v.allLength (askedAll (now (model .entry)) (now (formula .entry)) budget (now (bytes .entry))
         (now (values .entry))) ⌝ }
-    ensures { λ _. ⌜ now (states .exit) ≡ settledStates (settled (now (model .entry)) (now (formula .entry)) budget (now (bytes .entry))
+    ensures { λ _. ⌜ now (states .exit) ≡ statesLent (askedAll (now (model .entry)) (now (formula .entry)) budget (now (bytes .entry))
         (now (values .entry))) (now (states .entry)) ⌝ }
     ensures { λ _. ⌜ PromiseAll (now (model .entry)) (now (formula .entry)) budget (now (bytes .entry)) (now (values .entry)) (now (bytes .exit))
-        (now (values .exit)) (settled (now (model .entry)) (now (formula .entry)) budget (now (bytes .entry)) (now (values .entry))) ⌝ }
+        (now (values .exit)) (askedAll (now (model .entry)) (now (formula .entry)) budget (now (bytes .entry)) (now (values .entry))) ⌝ }
 {
     let settled = verdict::settle(model, formula, budget, bytes, values);
     *count = settled.count();
     *length = settled.length();
     let number = settled.number();
     match settled {
-        Settled::Done(_, _, first, many) => {
+        AllStates::Settled(_, _, first, many) => {
             *states = [first, many];
             number
         }
-        Settled::Spent(_, _) => number,
-        Settled::Refused(_) => number,
+        AllStates::Spent(_, _) => number,
+        AllStates::Refused(_) => number,
     }
 }

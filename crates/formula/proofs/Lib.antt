@@ -1,6 +1,5 @@
 -- Laws of formula messages.
 --     Good       what a good reading says of the bytes
---     Faults     the reading doesn't give BUDGET
 --     Judging    the tests of a row's fields, in terms of the row
 --     Uses       how often rows are operands, counted in a table
 --     Accepted   what an accepted message holds, by position
@@ -10,7 +9,6 @@
 --     Sums       sums over a list and over a range of numbers
 --     Trees      the rows are a tree: the formula of a row, the size of the root, the rows that it reaches
 pub mod Good
-pub mod Faults
 pub mod Judging
 pub mod Uses
 pub mod Accepted

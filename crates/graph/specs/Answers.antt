@@ -3,7 +3,7 @@ use Prim.Native.Nat.{ℕ}
 use lib.ListN.{length}
 use Rattle.refusal.specs.Number.{ok, numberOf}
 use Rattle.wire.specs.Read.{Read, good, bad}
-use Rattle.rules.specs.Graph.{Graph}
+use Rattle.graph.specs.Stored.{StoredGraph}
 use Rattle.graph.specs.Message.{Counts}
 use Rattle.graph.specs.WellFormed.{targetsOf}
 use Rattle.graph.specs.declared.Checked.{Checked}
@@ -15,7 +15,7 @@ counted (good k) = Checked.Graph (k .n) (k .h) (k .c) 0
 counted (bad e) = Checked.Refused e
 
 -- an accepted graph with its counts and the number of all its targets, or the first fault
-unfoldable pub checked : Read Graph → Checked
+unfoldable pub checked : Read StoredGraph → Checked
 checked (good g) = Checked.Graph (g .nodes) (length (g .hypers)) (length (g .covers)) (targetsOf (g .hypers))
 checked (bad e) = Checked.Refused e
 

@@ -10,10 +10,11 @@ use Rattle.wire.specs.Reader.{Reader, readAll, past}
 use Rattle.wire.specs.Start.{readStart}
 use Rattle.wire.specs.Counts.{readCount}
 use Rattle.wire.specs.Step.{start}
-use Rattle.rules.specs.Graph.{Graph, Hyper, Cover, Target}
+use Rattle.rules.specs.Graph.{Hyper, Cover, Target}
 use Rattle.value.specs.Coded.{boundOf}
 use Rattle.wire.specs.declared.State.{State}
 use Rattle.graph.specs.Format.{graphHeader, graphHead, nodesCount, hypersCount, coversCount, mostTargets, targetCountAt, hyperWidth, nodeAt, targetWidth, coverBoundAt, coverTargetAt, coverWidth}
+use Rattle.graph.specs.Stored.{StoredGraph}
 
 -- where a hyperedge's targets start
 abbrev pub firstTarget : State → State
@@ -104,7 +105,7 @@ readHeader s = do
   good (record { n = n; h = h; c = c })
 
 -- a whole message: the header, the hyperedges, the cover edges, and nothing left over
-unfoldable pub readGraph : List ℕ → Read Graph
+unfoldable pub readGraph : List ℕ → Read StoredGraph
 readGraph s = do
   counts ← readHeader s
   hs ← readAll (hypers s (counts .n)) (counts .h) (start graphHeader)

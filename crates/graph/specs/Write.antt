@@ -5,8 +5,9 @@ use lib.ListN.{length}
 use Rattle.wire.specs.Bytes.{bytes}
 use Rattle.wire.specs.Write.{writeAll, writeStart, message}
 use Rattle.graph.specs.Format.{graphHead}
-use Rattle.rules.specs.Graph.{Graph, Hyper, Cover, Target}
+use Rattle.rules.specs.Graph.{Hyper, Cover, Target}
 use Rattle.value.specs.Coded.{codeOf}
+use Rattle.graph.specs.Stored.{StoredGraph}
 
 -- weight (4) and node (2)
 unfoldable pub writeTarget : Target → List ℕ
@@ -29,10 +30,10 @@ abbrev pub writeHeader : (long n h c : ℕ) → List ℕ
 writeHeader long n h c = writeStart graphHead long ++ writeCounts n h c
 
 -- the counts, the hyperedges, the cover edges
-unfoldable pub writeBody : Graph → List ℕ
+unfoldable pub writeBody : StoredGraph → List ℕ
 writeBody g =
     writeCounts (g .nodes) (length (g .hypers)) (length (g .covers)) ++ writeAll writeHyper (g .hypers) ++ writeAll writeCover (g .covers)
 
 -- behind the start
-unfoldable pub writeGraph : Graph → List ℕ
+unfoldable pub writeGraph : StoredGraph → List ℕ
 writeGraph g = message graphHead (writeBody g)

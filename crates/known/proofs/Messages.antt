@@ -24,7 +24,7 @@ unfolding number bytes fieldAt _>>=_ _>>_ demand ofField readAll readStart readC
 model-read = refl
 
 abbrev formulas : List (List Row)
-formulas = T13 ∷ T14 ∷ T15 ∷ []
+formulas = T13 .rows ∷ T14 .rows ∷ T15 .rows ∷ []
 
 pub formulas-read : map (λ (rows : List Row). formula.readFormula 2 (writeFormula rows)) formulas ≡ map (λ (rows : List Row). good rows) formulas
 unfolding number bytes fieldAt _>>=_ _>>_ demand ofField readAll readStart readCount writeAll message writeFormula writeRow formula.readFormula formula.readHeader formula.readRow formula.judgeRow rowOf times uses usedOnce all upTo boundOf

@@ -1,12 +1,10 @@
 -- Laws of model messages.
 --     Good       what a good reading says of the bytes
---     Faults     the reading doesn't give BUDGET
 --     Answered   the reading from an answer
 --     Dead       the first state that no transition leaves tells whether a state is dead
 --     Exact      accepted messages are exactly the writings of well-formed models
 --     Bits       a label has no bit at p or above exactly when it is below 2 ^ p
 pub mod Good
-pub mod Faults
 pub mod Answered
 pub mod Dead
 pub mod Exact

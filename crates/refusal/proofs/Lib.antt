@@ -1,3 +1,3 @@
 -- Laws of the numbers given back.
---     Numbers    they tell the refusals apart, and from OK
+--     Numbers    they tell the refusals apart, and from OK and BUDGET
 pub mod Numbers

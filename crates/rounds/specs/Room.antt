@@ -3,15 +3,12 @@ use Prim.Native.Nat.{ℕ, _+_, _<_, _≤_, min}
 use mathlib.Core.List.{List}
 use mathlib.Core.Path.{_≡_}
 use lib.ListN.{length, getD, set, take, drop}
-use Rattle.value.specs.Stored.{meaning, stored, infinite}
+use Rattle.value.specs.Stored.{stored, infinite}
 use Rattle.wire.specs.Bytes.{number}
 use Rattle.wire.specs.Layout.{items}
-use Rattle.rules.specs.Rounds.{Assignment, worst}
+use Rattle.rules.specs.Rounds.{worst}
 use Rattle.graph.specs.Layouts.{targetLayout}
-
--- the assignment that stored numbers mean
-abbrev pub held : List ℕ → Assignment
-held b v = meaning (getD b v 0)
+pub use Rattle.rounds.specs.Outcome.{held}
 
 -- this round stands in the one half of the room, the next in the other
 pub data Sides (n from to : ℕ) : Type 0 where

@@ -9,13 +9,12 @@ ghost use Rattle.wire.specs.Layout.{items, end, Sound};
 ghost use Rattle.value.specs.Value.{plus};
 ghost use Rattle.value.specs.Stored.{stored, infinite};
 ghost use Rattle.rules.specs.Rounds as rules;
-ghost use Rattle.graph.specs.Message.{readGraph};
 ghost use Rattle.graph.specs.Layouts.{targetLayout, hyperLayout, coverLayout, decoded, TargetOk, HyperOk};
 ghost use Rattle.rounds.specs.Room.{held, Sides, half, hyperIn, Done, Cleared, Alike, Same, Beside};
 ghost use Rattle.rounds.specs.Index.{slotOf, unnoted, partOf, Noted, NotedCovers, Raised, noMarks, moreMarks, Published};
 ghost use Rattle.rounds.specs.Ready.{Climbs, Ready};
 ghost use Rattle.rounds.specs.Turns.{AtRound};
-ghost use Rattle.rounds.specs.Outcome.{outcomeNumber, outcomeCount, ended, filled, outcomeOf, roomOf};
+ghost use Rattle.rounds.specs.Outcome.{outcomeNumber, outcomeCount, ended, filled, readRounds, outcomeOf, roundsRoom};
 ghost use Rattle.rounds.specs.Promise.{Promise};
 use graph::Checked;
 use refusal::Refusal;
@@ -728,8 +727,8 @@ pub fn run(s: &[u8], n: usize, h: u32, c: u32, budget: u32, room: &mut [u64]) ->
 
 // The rounds on a message: first the graph, then the room, then the budget.
 pub fn solve(message: &[u8], budget: u32, room: &mut [u64]) -> Outcome
-    ensures answer { λ r. ⌜ r ≡ outcomeOf (readGraph (now (message .entry))) budget (now (room .entry)) ⌝ }
-    ensures room { λ _. ⌜ now (room .exit) ≡ roomOf (readGraph (now (message .entry))) budget (now (room .entry)) ⌝ }
+    ensures answer { λ r. ⌜ r ≡ outcomeOf (readRounds (now (message .entry)) (now (room .entry))) budget ⌝ }
+    ensures room { λ _. ⌜ now (room .exit) ≡ roundsRoom (readRounds (now (message .entry)) (now (room .entry))) budget (now (room .entry)) ⌝ }
     ensures promise { λ r. ⌜ Promise (now (message .entry)) budget (now (room .entry)) (now (room .exit)) r ⌝ }
 {
     match graph::check(message) {

@@ -2,7 +2,6 @@
 --     Bytes      big-endian numbers, over the width
 --     Fields     what a field that is there, or too short, says of the bytes
 --     Reading    how a reading goes on, and what a good one says
---     Spares     no reading of a message gives BUDGET
 --     Readers    the turns of a loop over records, and what a good reading of them says
 --     Layouts    records by position
 --     Stride     records of one width by position
@@ -18,7 +17,6 @@
 pub mod Bytes
 pub mod Fields
 pub mod Reading
-pub mod Spares
 pub mod Readers
 pub mod Layouts
 pub mod Stride

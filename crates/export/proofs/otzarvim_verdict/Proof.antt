@@ -3,7 +3,7 @@ use mathlib.Core.Path.{ap, subst, _∙_}
 use borrow.Author.Needs.{needs}
 use Rattle.verdict.specs.Answer.{answerNumber, answerVerdict, answerCount, answerLength}
 use Rattle.verdict.specs.Promise.{Promise}
-use Rattle.export.specs.Verdicts.{verdictNumber}
+use Rattle.export.specs.Results.{verdictNumber}
 use Rattle.export.proofs.otzarvim_verdict.Statement.{statement}
 use Rattle.export.proofs.otzarvim_verdict.Tie as tie
 

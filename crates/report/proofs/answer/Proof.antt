@@ -54,8 +54,11 @@ put-refused-requires c κs = refused-fits _ (start (c .before .before .before .b
 enum-known-e : tie.Need-enum-known-e
 enum-known-e c = search needs
 
+number-requires : tie.Need-number-requires
+number-requires c κs = search needs
+
 put-refused-requires-2 : tie.Need-put-refused-requires-2
-put-refused-requires-2 c κs = refused-fits _ (start (c .before .before .before .before .before .before .before .before) .pre)
+put-refused-requires-2 c κs = refused-fits _ (start (c .before .before .before .before .before .before .before .before .before) .pre)
 
 same-length : tie.Need-same-length
 same-length c = search needs
@@ -102,10 +105,11 @@ same-length-9 c = search needs
 returns-3 : tie.Need-returns-3
 returns-3 c =
     let put = c .before .before in
-    let known = put .before .before in
+    let number = put .before in
+    let known = number .before .before in
     let q = known .before .before .before .before .before .before .before in
     let is = output-refused _ _ _ _ (by (known .before .e .given .1) (q .settle .ensures .0)) in
-    (said (put .put-refused2 .ensures) is refl refl, (q .settle .ensures .1 .0, q .settle .ensures .1 .1 .0 ∙ left-is _ _ _ _))
+    (said (rw (number .number .ensures) at (put .put-refused2 .ensures)) is refl refl, (q .settle .ensures .1 .0, q .settle .ensures .1 .1 .0 ∙ left-is _ _ _ _))
 
 pub answer-spec : {M : Type 1} → statement M
 answer-spec =
@@ -118,6 +122,7 @@ answer-spec =
     enum-told
     put-refused-requires
     enum-known-e
+    number-requires
     put-refused-requires-2
     same-length
     same-length-2

@@ -10,7 +10,8 @@ use Rattle.lists.proofs.Tests.{by}
 use Rattle.wire.specs.Field.{fieldAt}
 use Rattle.wire.specs.declared.Field.the-variants.{Number}
 use Rattle.wire.proofs.Reading.{reading}
-use Rattle.report.specs.Output.{readCut, cutOf}
+use Rattle.report.specs.Pieces.{cutOf}
+use Rattle.report.specs.Output.{readCut}
 use Rattle.report.proofs.model_end.Statement.{statement}
 use Rattle.report.proofs.model_end.Tie as tie
 

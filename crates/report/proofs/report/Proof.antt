@@ -20,8 +20,11 @@ model-end-requires c κs = search needs
 enum-known-e : tie.Need-enum-known-e
 enum-known-e c = search needs
 
+number-requires : tie.Need-number-requires
+number-requires c κs = search needs
+
 put-refused-requires : tie.Need-put-refused-requires
-put-refused-requires c κs = refused-fits _ (c .before .before .before .before .before .if1 .left)
+put-refused-requires c κs = refused-fits _ (c .before .before .before .before .before .before .if1 .left)
 
 enum-known-k : tie.Need-enum-known-k
 enum-known-k c = search needs
@@ -51,9 +54,11 @@ same-length c = search needs
 returns-2 : tie.Need-returns-2
 returns-2 c =
     let put = c .before .before in
-    let known = put .before .before in
+    let number = put .before in
+    let known = number .before .before in
     let end = known .before .before .before in
-    refusal-reported _ _ _ _ (end-refused _ (by (known .before .e .given .1) (end .model-end .ensures))) (end .before .if1 .left) (put .put-refused .ensures)
+    refusal-reported _ _ _ _ (end-refused _ _ _ (by (known .before .e .given .1) (end .model-end .ensures))) (end .before .if1 .left)
+    (rw (number .number .ensures) at (put .put-refused .ensures))
 
 same-length-2 : tie.Need-same-length-2
 same-length-2 c = search needs
@@ -70,7 +75,7 @@ returns-3 c =
     let known = put .before .before .before .before .before .before in
     let end = known .before .before .before in
     let s = end .before .before .before .before .before .before in
-    let is = end-reads (now (s .args .input)) (by (known .before .k .given .1) (end .model-end .ensures)) in
+    let is = end-reads (now (s .args .input)) _ _ (by (known .before .k .given .1) (end .model-end .ensures)) in
     as-reported _ _ _ _ _ is (end .before .if1 .left) (put .answer .ensures .0) (put .answer .ensures .1 .0) (put .answer .ensures .1 .1)
 
 pub report-spec : {M : Type 1} → statement M
@@ -80,6 +85,7 @@ report-spec =
     returns
     model-end-requires
     enum-known-e
+    number-requires
     put-refused-requires
     enum-known-k
     slice-aggregate-answer

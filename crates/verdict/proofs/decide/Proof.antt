@@ -9,13 +9,12 @@ use borrow.Author.Needs.{needs}
 use Rattle.lists.proofs.Tests.{by}
 use Rattle.wire.specs.Bytes.{Bytes}
 use Rattle.build.specs.Held.{heldModel}
-use Rattle.verdict.specs.declared.Settled.{Settled}
+use Rattle.verdict.specs.declared.AllStates.{AllStates}
 use Rattle.verdict.specs.declared.Answer.{Answer}
 use Rattle.verdict.specs.Question.{Question}
-use Rattle.verdict.specs.Answer.{decided}
 use Rattle.verdict.specs.Asking.{heldQuestion, Asking, Held}
 use Rattle.verdict.proofs.Settling.{shows-as}
-use Rattle.verdict.proofs.Finished.{Finished, ended-as, node-inside, node-small, read-yes, read-no}
+use Rattle.verdict.proofs.Finished.{Finished, ended-as, decided, node-inside, node-small, read-yes, read-no}
 use Rattle.verdict.proofs.Answering.{Shown, one-refused, one-unnamed, one-decided}
 use Rattle.verdict.proofs.decide.Statement.{statement}
 use Rattle.verdict.proofs.decide.Tie as tie
@@ -59,7 +58,7 @@ done : (c : tie.After-known-told3) → let k = c .before .count .given .0 in let
 done c = ended-as _ _ _ _ (by (c .before .count .given .1) (c .before .before .before .before .before .before .before .settle-question .ensures .0))
 
 -- what the settling answered decides
-decides : (c : tie.After-settle-question) (s : Settled) {r : Answer} → let a = c .before .before .before .before .before .before .before .before .before .before .before .before .args in
+decides : (c : tie.After-settle-question) (s : AllStates) {r : Answer} → let a = c .before .before .before .before .before .before .before .before .before .before .before .before .args in
     c .settle-question .result ≡ s → r ≡ decided (question (read c)) (a .state) s
     → Shown (now (a .m)) (now (a .f)) (a .state) (a .budget) (now (a .bytes)) (now (a .values)) r
     (c .settle-question .last .1 .1 .1 .1 .1 .1 .1 .0) (c .settle-question .last .1 .1 .1 .1 .1 .1 .1 .1 .0)
@@ -143,7 +142,6 @@ same-length-6 : tie.Need-same-length-6
 same-length-6 c = search needs
 
 returns-5 : tie.Need-returns-5
-unfolding decided
 returns-5 c = decides (c .before .before .before .before .before .before .before) _ (c .before .count2 .given .1) refl
 
 same-length-7 : tie.Need-same-length-7
@@ -153,7 +151,6 @@ same-length-8 : tie.Need-same-length-8
 same-length-8 c = search needs
 
 returns-6 : tie.Need-returns-6
-unfolding decided
 returns-6 c = decides (c .before .before .before .before .before .before .before) _ (c .before .e2 .given .1) refl
 
 pub decide-spec : {M : Type 1} → statement M
