@@ -22,6 +22,10 @@ use Rattle.build.proofs.Helpers.{right-fits, every-parts, steps-count, 
 use Rattle.build.proofs.message.put_helper.Statement.{statement}
 use Rattle.build.proofs.message.put_helper.Tie as tie
 
+-- the places that the facts below look back to
+abbrev after-put-single : tie.After-slice-known2 → tie.After-put-single
+after-put-single c = c .before .before
+
 mul-v : tie.Need-mul-v
 mul-v c = search needs
 
@@ -76,7 +80,7 @@ enum-told : tie.Need-enum-told
 enum-told c = search needs
 
 -- what is written for the transitions: the steps of an E until
-some-bytes : (c : tie.After-enum-told) → let s = c .before .before .before .before .before .before .before .before in let a = s .args in
+some-bytes : (c : tie.After-enum-told) → let s = after-put-single (c .before .before) .before .before .before .before in let a = s .args in
     hypersBytes (node s) (jumps s) ≡ stepsBytes (a .q) (node s) (a .a + a .n * a .l) (a .n * a .h) (own s)
 some-bytes c = some-stepped _ _ _ _ (c .enum-told .given .1)
 
@@ -95,7 +99,7 @@ add-put-head : tie.Need-add-put-head
 add-put-head c = search needs
 
 -- or those of an A until
-every-bytes : (c : tie.After-enum-told2) → let s = c .before .before .before .before .before .before .before .before in let a = s .args in
+every-bytes : (c : tie.After-enum-told2) → let s = after-put-single (c .before .before) .before .before .before .before in let a = s .args in
     writeAll writeTarget (steps s) ≡ stepsBytes (a .q) (node s) (a .a + a .n * a .l) (a .n * a .h) (own s)
 every-bytes c = every-stepped _ _ _ _ (c .enum-told2 .given .1)
 
@@ -111,27 +115,27 @@ second-fits c =
 
 put-head-requires : tie.Need-put-head-requires
 put-head-requires c κs =
-    let s = c .before .before .before .before .before .before .before .before .before in
+    let s = after-put-single (c .before .before .before) .before .before .before .before in
     omega (arith, second-fits (c .before), head-length (node s) (length (left s ∷ steps s)), length-append (head s) (writeTarget (left s) ++ writeAll writeTarget (steps s)))
 
 head-laid : (c : tie.After-put-head) →
-    let put = c .before .before .before .before .before .before in
+    let put = after-put-single (c .before .before .before .before) in
     let s = put .before .before .before .before in
     Laid (put .put-single .last .0) (put .put-single .result) (head s) (c .put-head .last .0) (c .put-head .result)
 head-laid c =
-    let s = c .before .before .before .before .before .before .before .before .before .before in
+    let s = after-put-single (c .before .before .before .before) .before .before .before .before in
     let a = s .args in
     said (c .put-head .ensures) (ap (λ (k : ℕ). bytes 2 (node s) ++ bytes 2 k) (steps-count (now (a .m)) (a .n) (a .first) (a .many) (a .n * a .h) (left s))) refl refl
 
 targets-fit : (c : tie.After-put-head) →
-    let s = c .before .before .before .before .before .before .before .before .before .before in
+    let s = after-put-single (c .before .before .before .before) .before .before .before .before in
     c .put-head .result + length (writeTarget (left s) ++ writeAll writeTarget (steps s)) ≤ length (c .put-head .last .0)
 targets-fit c = fits (head-laid c) _ (second-fits (c .before .before))
 
 put-target-requires : tie.Need-put-target-requires
 put-target-requires c κs =
     let put = c .before .before .before in
-    let s = put .before .before .before .before .before .before .before .before .before .before in
+    let s = after-put-single (put .before .before .before .before) .before .before .before .before in
     omega (arith, targets-fit put, target-length (left s), length-append (writeTarget (left s)) (writeAll writeTarget (steps s)))
 
 put-steps-requires-2 : tie.Need-put-steps-requires-2
@@ -140,7 +144,7 @@ put-steps-requires-2 c κs =
     let head = put .before .before .before .before in
     let told = head .before .before in
     let steps-fit = fits (put .put-target .ensures) _ (targets-fit head) in
-    (told .before .before .before .before .before .before .before .before .pre .0, subst (λ (w : List ℕ). put .put-target .result + length w ≤ length (put .put-target .last .0)) (every-bytes told) steps-fit)
+    (after-put-single (told .before .before) .before .before .before .before .pre .0, subst (λ (w : List ℕ). put .put-target .result + length w ≤ length (put .put-target .last .0)) (every-bytes told) steps-fit)
 
 same-length : tie.Need-same-length
 same-length c = search needs

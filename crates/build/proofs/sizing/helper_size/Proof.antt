@@ -8,6 +8,10 @@ use Rattle.build.proofs.Untils.{other-row, other-tag}
 use Rattle.build.proofs.sizing.helper_size.Statement.{statement}
 use Rattle.build.proofs.sizing.helper_size.Tie as tie
 
+-- the places that the facts below look back to
+abbrev start : tie.After-enum-told → tie.Start
+start c = c .before .before .before .before .before
+
 enum-known-row : tie.Need-enum-known-row
 enum-known-row c = search needs
 
@@ -39,12 +43,12 @@ add-t17 c = search needs
 
 returns-2 : tie.Need-returns-2
 returns-2 c =
-    let m = c .before .before .before .before .before .before .args .many in
+    let m = start (c .before) .args .many in
     rw (c .before .before .before .before .row .given .1, c .before .enum-told .given .1, lt-ltb m 1 (omega arith))
 
 returns-3 : tie.Need-returns-3
 returns-3 c =
-    let m = c .before .before .before .before .before .before .args .many in
+    let m = start (c .before) .args .many in
     rw (c .before .before .before .before .row .given .1, c .before .enum-told .given .1, le-ltb m 1 (omega arith))
 
 returns-4 : tie.Need-returns-4
