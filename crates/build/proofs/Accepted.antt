@@ -7,8 +7,10 @@ use Rattle.lists.specs.Making.{keep}
 use Rattle.value.specs.declared.Bound.{Bound}
 use Rattle.value.specs.Value.{inside}
 use Rattle.wire.specs.Bytes.{number}
+use Rattle.formula.specs.Format.{formulaHeader}
 use Rattle.formula.specs.Layouts.{rowLayout}
 use Rattle.reduction.specs.Built.{out, near}
+use Rattle.model.specs.Format.{modelHeader, labelWidth, labelAt, transitionAt}
 use Rattle.build.specs.Held.{labelLayout, transitionLayout, transitionsFrom, heldModel, heldRows, HoldsModel, Own, RiseFrom}
 use Rattle.wire.proofs.Layouts.{items-length}
 use Rattle.wire.proofs.Stride.{items-at}
@@ -23,15 +25,15 @@ module _ {m : List ℕ} {n p t : ℕ} (h : HoldsModel m n p t) where
   unfolding heldModel
   rising = h .well-formed .ordered
 
-  pub label-at : (a : ℕ) → a < n → getD (heldModel m n p t .labels) a 0 ≡ number 4 m (13 + a * 4)
+  pub label-at : (a : ℕ) → a < n → getD (heldModel m n p t .labels) a 0 ≡ number 4 m (labelAt a)
   unfolding heldModel
-  label-at a below = items-at (labelLayout m) 4 (λ at. refl) 0 n 13 a below
+  label-at a below = items-at (labelLayout m) labelWidth (λ at. refl) 0 n modelHeader a below
 
   -- the transitions of a state, and those within a bound
   module _ {a first many : ℕ} (o : Own m n t a first many) where
     pub out-own : length (out (heldModel m n p t) a) ≡ many
     unfolding heldModel
-    out-own = out-length (heldModel m n p t) a ∙ ap length (o .are) ∙ items-length (transitionLayout m) many (13 + n * 4 + first * 8)
+    out-own = out-length (heldModel m n p t) a ∙ ap length (o .are) ∙ items-length (transitionLayout m) many (transitionAt n first)
 
     pub near-own : (b : Bound) → length (near (heldModel m n p t) b a) ≡ length (keep (λ u. inside b (u .weight)) (transitionsFrom m n first many))
     unfolding heldModel
@@ -42,4 +44,4 @@ module _ {m : List ℕ} {n p t : ℕ} (h : HoldsModel m n p t) where
 
 pub rows-length : (f : List ℕ) (k : ℕ) → length (heldRows f k) ≡ k
 unfolding heldRows
-rows-length f k = items-length (rowLayout f) k 7
+rows-length f k = items-length (rowLayout f) k formulaHeader

@@ -17,6 +17,7 @@ use Rattle.wire.specs.Bytes.{number, Bytes}
 use Rattle.wire.specs.Layout.{Layout, items}
 use Rattle.wire.proofs.Bytes.{number-below}
 use Rattle.wire.proofs.Layouts.{items-more, items-length}
+use Rattle.model.specs.Format.{weightAt, transitionWidth}
 use Rattle.build.specs.Held.{transitionLayout}
 
 module _ {A : Type 0} (L : Layout A) (p : A → Bool) where
@@ -46,8 +47,8 @@ unfolding items keep
 coded-keep m bytes (Within most) k at = refl
 coded-keep m bytes Unbounded zero at = refl
 coded-keep m bytes Unbounded (suc k) at =
-    let small : number 4 m (at + 2) ≤ noBound = omega (arith, number-below 4 m (at + 2) bytes) in
-    rw (le-leb (number 4 m (at + 2)) noBound small) (ap (λ l. transitionLayout m .item at ∷ l) (coded-keep m bytes Unbounded k (at + 8)))
+    let small : number 4 m (at + weightAt) ≤ noBound = omega (arith, number-below 4 m (at + weightAt) bytes) in
+    rw (le-leb (number 4 m (at + weightAt)) noBound small) (ap (λ l. transitionLayout m .item at ∷ l) (coded-keep m bytes Unbounded k (at + transitionWidth)))
 
 -- all are within no bound
 pub unbounded-all : {A : Type 0} (l : List A) → length (keep (λ a. true) l) ≡ length l

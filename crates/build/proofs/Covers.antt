@@ -17,7 +17,9 @@ use Rattle.wire.specs.Write.{writeAll}
 use Rattle.wire.proofs.Bytes.{length-bytes}
 use Rattle.wire.proofs.Laid.{Left, all-left, none-left, left-fits, left-then}
 use Rattle.wire.proofs.Layouts.{items-more}
+use Rattle.graph.specs.Format.{coverWidth}
 use Rattle.graph.specs.Write.{writeCover}
+use Rattle.formula.specs.Format.{formulaHeader, rowWidth}
 use Rattle.formula.specs.declared.Quantifier.{Quantifier}
 use Rattle.formula.specs.declared.Row.{Row}
 use Rattle.formula.specs.declared.Row.the-variants.{Until}
@@ -38,7 +40,7 @@ module _ (n r h code : ℕ) where
   abbrev pub coverOf : ℕ → List ℕ
   coverOf a = bytes 2 (a + n * r) ++ bytes 4 code ++ bytes 2 (a + n * h)
 
-  pub cover-length : (a : ℕ) → length (coverOf a) ≡ 8
+  pub cover-length : (a : ℕ) → length (coverOf a) ≡ coverWidth
   cover-length a = simp (length-append, length-bytes)
 
 pub covers-coded : (n r h : ℕ) (b : Bound) → coverBytes n r h b ≡ span (coverOf n r h (codeOf b)) 0 n
@@ -66,14 +68,14 @@ module _ (n : ℕ) (f : List ℕ) (k : ℕ) where
   rowsLeft row-at r = items (rowLayout f) (k - r) row-at
 
   pub record Covering (b : List ℕ) (at : ℕ) (whole b′ : List ℕ) (next row-at h r : ℕ) : Type 0 where
-    pub readable : row-at + (k - r) * 8 ≤ length f
+    pub readable : row-at + (k - r) * rowWidth ≤ length f
     pub behind : k ≤ h
     pub near : h ≤ k + r
     pub nodes-fit : n * (h + length (untils (rowsLeft row-at r))) ≤ 4096
     pub left : Left b at whole b′ next (coversFrom n r h (rowsLeft row-at r))
 
   pub covering-all : {p : ℕ} → HoldsRows f k p → (b : List ℕ) (at : ℕ) → n * (k + length (untils (heldRows f k))) ≤ 4096
-      → at + length (coversOf n (heldRows f k)) ≤ length b → Covering b at (coversOf n (heldRows f k)) b at 7 k 0
+      → at + length (coversOf n (heldRows f k)) ≤ length b → Covering b at (coversOf n (heldRows f k)) b at formulaHeader k 0
   unfolding heldRows
   covering-all held b at nodes fits =
       let all : k - 0 ≡ k = omega arith in
@@ -93,7 +95,7 @@ module _ (n : ℕ) (f : List ℕ) (k : ℕ) where
 
     module _ (below : r < k) where
       abbrev rest : List Row
-      rest = rowsLeft (row-at + 8) (r + 1)
+      rest = rowsLeft (row-at + rowWidth) (r + 1)
 
       less : k - r - 1 ≡ k - (r + 1)
       less = omega arith
@@ -102,7 +104,7 @@ module _ (n : ℕ) (f : List ℕ) (k : ℕ) where
       here = rw less at (items-more (rowLayout f) (k - r) row-at (omega arith))
 
       -- the next row can be read
-      pub row-readable : row-at + 8 ≤ length f
+      pub row-readable : row-at + rowWidth ≤ length f
       row-readable = omega (arith, c .readable)
 
       -- an until: its helper's nodes are below the limit
@@ -122,7 +124,7 @@ module _ (n : ℕ) (f : List ℕ) (k : ℕ) where
         pub until-fits : next + length (coverBytes n r h limit) ≤ length b′
         until-fits = left-fits (c .left) (coverBytes n r h limit) (coversFrom n (r + 1) (h + 1) rest) bytes-are
 
-        pub until-covered : {b″ : List ℕ} {end : ℕ} → Laid b′ next (coverBytes n r h limit) b″ end → Covering b at whole b″ end (row-at + 8) (h + 1) (r + 1)
+        pub until-covered : {b″ : List ℕ} {end : ℕ} → Laid b′ next (coverBytes n r h limit) b″ end → Covering b at whole b″ end (row-at + rowWidth) (h + 1) (r + 1)
         until-covered laid = record {
           readable = omega (arith, c .readable);
           behind = omega (arith, c .behind);
@@ -134,7 +136,7 @@ module _ (n : ℕ) (f : List ℕ) (k : ℕ) where
         }
 
       -- any other row has none
-      pub other-covered : isUntil (rowAt f row-at) ≡ false → Covering b at whole b′ next (row-at + 8) h (r + 1)
+      pub other-covered : isUntil (rowAt f row-at) ≡ false → Covering b at whole b′ next (row-at + rowWidth) h (r + 1)
       other-covered e = record {
         readable = omega (arith, c .readable);
         behind = omega (arith, c .behind);

@@ -17,11 +17,13 @@ use Rattle.wire.proofs.Laid.{Left, all-left, none-left, left-fits, left-then, n
 use Rattle.wire.proofs.Layouts.{items-more}
 use Rattle.rules.specs.Graph.{Target}
 use Rattle.graph.proofs.Exact.{hyper-length}
+use Rattle.graph.specs.Format.{hyperWidth}
 use Rattle.graph.specs.Write.{writeTarget, writeHyper}
+use Rattle.model.specs.Format.{weightAt, toAt, transitionWidth, transitionAt}
 use Rattle.model.specs.Model.{Transition}
 use Rattle.reduction.specs.Built.{to, hyper}
 use Rattle.build.specs.Held.{transitionLayout, transitionsFrom, Reads}
-use Rattle.build.specs.Bytes.{hypersBytes, everyNext}
+use Rattle.build.specs.Bytes.{singleWidth, pairWidth, hypersBytes, everyNext}
 
 -- ---- lists of records
 
@@ -36,13 +38,13 @@ module _ {A : Type 0} (w : A → List ℕ) {b : List ℕ} {at : ℕ} {b′ : Lis
 
 -- ---- the parts of a hyperedge
 
-pub head-length : (v k : ℕ) → length (bytes 2 v ++ bytes 2 k) ≡ 4
+pub head-length : (v k : ℕ) → length (bytes 2 v ++ bytes 2 k) ≡ hyperWidth
 head-length v k = simp (length-append, length-bytes)
 
-pub single-length : (v : ℕ) (t : Target) → length (writeHyper (hyper v (t ∷ []))) ≡ 10
+pub single-length : (v : ℕ) (t : Target) → length (writeHyper (hyper v (t ∷ []))) ≡ singleWidth
 single-length v t = hyper-length (hyper v (t ∷ []))
 
-pub pair-length : (v : ℕ) (t t′ : Target) → length (writeHyper (hyper v (t ∷ t′ ∷ []))) ≡ 16
+pub pair-length : (v : ℕ) (t t′ : Target) → length (writeHyper (hyper v (t ∷ t′ ∷ []))) ≡ pairWidth
 pair-length v t t′ = hyper-length (hyper v (t ∷ t′ ∷ []))
 
 -- a hyperedge is its head, and behind it its targets
@@ -57,12 +59,12 @@ hyper-laid v ts h m = h then m
 module _ (m : List ℕ) (n : ℕ) (one : Transition → List ℕ) where
   -- the i transitions from p on can be read, they lead to states, and their bytes are left
   pub record Filling (b : List ℕ) (at : ℕ) (whole b′ : List ℕ) (next p i : ℕ) : Type 0 where
-    pub readable : p + i * 8 ≤ length m
+    pub readable : p + i * transitionWidth ≤ length m
     pub named : {u : Transition} → u ∈ items (transitionLayout m) i p → u .to < n
     pub left : Left b at whole b′ next (writeAll one (items (transitionLayout m) i p))
 
   pub filling-all : {first many shift : ℕ} → Reads m n first many shift → (b : List ℕ) (at p : ℕ) {whole : List ℕ} → whole ≡ writeAll one (transitionsFrom m n first many)
-      → at + length whole ≤ length b → p ≡ 13 + n * 4 + first * 8 → Filling b at whole b at p many
+      → at + length whole ≤ length b → p ≡ transitionAt n first → Filling b at whole b at p many
   filling-all {first} {many} r b at p {whole} e fits is = rw is record {
     readable = omega (arith, r .long);
     named = r .named;
@@ -75,23 +77,23 @@ module _ (m : List ℕ) (n : ℕ) (one : Transition → List ℕ) where
     filling-none e = none-left (rw e at (f .left))
 
     module _ (h : 0 < i) where
-      here : items (transitionLayout m) i p ≡ transitionLayout m .item p ∷ items (transitionLayout m) (i - 1) (p + 8)
+      here : items (transitionLayout m) i p ≡ transitionLayout m .item p ∷ items (transitionLayout m) (i - 1) (p + transitionWidth)
       here = items-more (transitionLayout m) i p h
 
       -- the next one can be read
-      pub next-readable : p + 8 ≤ length m
+      pub next-readable : p + transitionWidth ≤ length m
       next-readable = omega (arith, f .readable)
 
       -- and leads to a state
-      pub next-named : {v : ℕ} → v ≡ number 2 m (p + 6) → v < n
+      pub next-named : {v : ℕ} → v ≡ number 2 m (p + toAt) → v < n
       next-named e = rw e (f .named {u = transitionLayout m .item p} (rw here (List·Memᴰ·head refl)))
 
       -- with its weight and the state that it leads to as they were read
-      module _ {w v : ℕ} (weight-is : w ≡ number 4 m (p + 2)) (to-is : v ≡ number 2 m (p + 6)) where
+      module _ {w v : ℕ} (weight-is : w ≡ number 4 m (p + weightAt)) (to-is : v ≡ number 2 m (p + toAt)) where
         abbrev made : List ℕ
         made = one (record { from = number 2 m p; weight = w; to = v })
 
-        parts : writeAll one (items (transitionLayout m) i p) ≡ made ++ writeAll one (items (transitionLayout m) (i - 1) (p + 8))
+        parts : writeAll one (items (transitionLayout m) i p) ≡ made ++ writeAll one (items (transitionLayout m) (i - 1) (p + transitionWidth))
         unfolding writeAll
         parts = rw (weight-is, to-is) (ap (writeAll one) here)
 
@@ -100,7 +102,7 @@ module _ (m : List ℕ) (n : ℕ) (one : Transition → List ℕ) where
         next-fits = left-fits (f .left) made _ parts
 
         -- and once that is laid in, the others are left
-        pub next-filled : {b″ : List ℕ} {end : ℕ} → Laid b′ next made b″ end → Filling b at whole b″ end (p + 8) (i - 1)
+        pub next-filled : {b″ : List ℕ} {end : ℕ} → Laid b′ next made b″ end → Filling b at whole b″ end (p + transitionWidth) (i - 1)
         next-filled l = record {
           readable = omega (arith, f .readable);
           named = λ {u} e. f .named {u = u} (rw here (List·Memᴰ·tail e));
@@ -127,7 +129,7 @@ bare-is : (v : ℕ) → hypersBytes v ([] ∷ []) ≡ bytes 2 v ++ bytes 2 0
 unfolding writeAll
 bare-is v = hypers-one v [] ∙ append-nil _
 
-pub bare-fits : (v at : ℕ) {size : ℕ} → at + length (hypersBytes v ([] ∷ [])) ≤ size → at + 4 ≤ size
+pub bare-fits : (v at : ℕ) {size : ℕ} → at + length (hypersBytes v ([] ∷ [])) ≤ size → at + hyperWidth ≤ size
 bare-fits v at h = omega (arith, ap length (bare-is v), head-length v 0)
 
 pub bare-laid : (v : ℕ) {b : List ℕ} {at : ℕ} {b′ : List ℕ} {next : ℕ} → Laid b at (bytes 2 v ++ bytes 2 0) b′ next → Laid b at (hypersBytes v ([] ∷ [])) b′ next

@@ -18,7 +18,9 @@ use Rattle.wire.proofs.Laid.{Left, all-left, none-left, left-fits, left-then}
 use Rattle.wire.proofs.Layouts.{items-more, items-length}
 use Rattle.rules.specs.Graph.{Target}
 use Rattle.graph.specs.Write.{writeTarget, writeHyper}
+use Rattle.model.specs.Format.{transitionAt}
 use Rattle.model.specs.Model.{Model, Transition}
+use Rattle.formula.specs.Format.{formulaHeader, rowWidth}
 use Rattle.formula.specs.declared.Quantifier.{Quantifier}
 use Rattle.formula.specs.declared.Quantifier.the-variants.{Some, Every}
 use Rattle.formula.specs.declared.Row.{Row}
@@ -26,7 +28,7 @@ use Rattle.formula.specs.declared.Row.the-variants.{Until}
 use Rattle.formula.specs.Layouts.{rowAt, rowLayout}
 use Rattle.reduction.specs.Built.{to, hyper, stepEdges, helperEdges, isUntil, untils, layout}
 use Rattle.build.specs.Held.{transitionLayout, transitionsFrom, heldModel, heldRows, HoldsModel, HoldsRows, Own}
-use Rattle.build.specs.Bytes.{hypersBytes, someSteps, everySteps, helperList, stepBytes, stepsBytes, helperBytes, helpersBytes, Narrow, HelpersFit}
+use Rattle.build.specs.Bytes.{singleWidth, hypersBytes, someSteps, everySteps, helperList, stepBytes, stepsBytes, helperBytes, helpersBytes, Narrow, HelpersFit}
 use Rattle.build.proofs.Accepted.{out-own}
 use Rattle.build.proofs.Edges.{single-length, hypers-more, hypers-one, first-fits}
 use Rattle.build.proofs.Nodes.{helper-are}
@@ -36,9 +38,9 @@ use Rattle.wire.proofs.Written.{writeAll-append, writeAll-map, span-written}
 
 -- where it fits, its first hyperedge does
 pub right-fits : (v n a : ℕ) (q : Quantifier) (l r h : ℕ) (us : List Transition) (at : ℕ) {size : ℕ}
-    → at + length (hypersBytes v (helperList n a q l r h us)) ≤ size → at + 10 ≤ size
-right-fits v n a Some l r h us at f = first-fits v _ (someSteps us (a + n * l) (n * h)) at 10 (single-length v (to 0 (a + n * r))) f
-right-fits v n a Every l r h us at f = first-fits v _ ((to 0 (a + n * l) ∷ everySteps us (n * h)) ∷ []) at 10 (single-length v (to 0 (a + n * r))) f
+    → at + length (hypersBytes v (helperList n a q l r h us)) ≤ size → at + singleWidth ≤ size
+right-fits v n a Some l r h us at f = first-fits v _ (someSteps us (a + n * l) (n * h)) at singleWidth (single-length v (to 0 (a + n * r))) f
+right-fits v n a Every l r h us at f = first-fits v _ ((to 0 (a + n * l) ∷ everySteps us (n * h)) ∷ []) at singleWidth (single-length v (to 0 (a + n * r))) f
 
 -- the second of an A until: a head, the target of left, and one for each transition
 pub every-parts : (v : ℕ) (ts : List Target) (left : Target) (steps : List Target)
@@ -50,7 +52,7 @@ every-parts v ts left steps = hypers-more v ts ((left ∷ steps) ∷ []) ∙ ap 
 pub steps-count : (m : List ℕ) (n first many shift : ℕ) (left : Target) → length (left ∷ everySteps (transitionsFrom m n first many) shift) ≡ many + 1
 steps-count m n first many shift left =
     let us = transitionsFrom m n first many in
-    omega (arith, length-map us (λ u. to (u .weight) (u .to + shift)), items-length (transitionLayout m) many (13 + n * 4 + first * 8))
+    omega (arith, length-map us (λ u. to (u .weight) (u .to + shift)), items-length (transitionLayout m) many (transitionAt n first))
 
 -- what is written for transitions is the hyperedges of an E until, or the targets of that of an A until
 module _ {q : Quantifier} (v left shift : ℕ) (us : List Transition) where
@@ -107,13 +109,13 @@ module _ {M : Model} {h : ℕ} {row : Row} {us : List Row} (f : HelpersFit M h (
 
 -- i rows from p on can be read, and the helpers of the untils among them are left, from place h on
 pub record RowsLeft (M : Model) (f b : List ℕ) (at : ℕ) (whole b′ : List ℕ) (next p h i : ℕ) : Type 0 where
-  pub readable : p + i * 8 ≤ length f
+  pub readable : p + i * rowWidth ≤ length f
   pub few : h + i ≤ 128
   pub fit : HelpersFit M h (untils (items (rowLayout f) i p))
   pub left : Left b at whole b′ next (helpersBytes M h (untils (items (rowLayout f) i p)))
 
 pub rows-all : {M : Model} {f : List ℕ} {k p : ℕ} → HoldsRows f k p → HelpersFit M k (untils (heldRows f k)) → (b : List ℕ) (at : ℕ)
-    → at + length (helpersBytes M k (untils (heldRows f k))) ≤ length b → RowsLeft M f b at (helpersBytes M k (untils (heldRows f k))) b at 7 k k
+    → at + length (helpersBytes M k (untils (heldRows f k))) ≤ length b → RowsLeft M f b at (helpersBytes M k (untils (heldRows f k))) b at formulaHeader k k
 unfolding heldRows
 rows-all r fit b at fits = record { readable = omega (arith, r .long); few = omega (arith, r .rows-fit); fit = fit; left = all-left b at _ fits }
 
@@ -124,14 +126,14 @@ module _ {M : Model} {f b : List ℕ} {at : ℕ} {whole b′ : List ℕ} {next p
 
   module _ (some : 0 < i) where
     abbrev rest : List Row
-    rest = untils (items (rowLayout f) (i - 1) (p + 8))
+    rest = untils (items (rowLayout f) (i - 1) (p + rowWidth))
 
     -- the next row is an until
     module _ {q : Quantifier} {l r : ℕ} {limit : Bound} (row-is : rowAt f p ≡ Until q l r limit) where
       these : untils (items (rowLayout f) i p) ≡ Until q l r limit ∷ rest
       these =
-          ap untils (items-more (rowLayout f) i p some ∙ ap (λ (row : Row). row ∷ items (rowLayout f) (i - 1) (p + 8)) row-is)
-          ∙ keep-pass isUntil (Until q l r limit) (items (rowLayout f) (i - 1) (p + 8)) refl
+          ap untils (items-more (rowLayout f) i p some ∙ ap (λ (row : Row). row ∷ items (rowLayout f) (i - 1) (p + rowWidth)) row-is)
+          ∙ keep-pass isUntil (Until q l r limit) (items (rowLayout f) (i - 1) (p + rowWidth)) refl
 
       fit : HelpersFit M h (Until q l r limit ∷ rest)
       fit = subst (HelpersFit M h) these (s .fit)
@@ -152,7 +154,7 @@ module _ {M : Model} {f b : List ℕ} {at : ℕ} {whole b′ : List ℕ} {next p
       until-fits = left-fits (s .left) (helperBytes M h q l r) _ until-parts
 
       -- once they are laid in, the others are left
-      pub until-then : {b″ : List ℕ} {end : ℕ} → Laid b′ next (helperBytes M h q l r) b″ end → RowsLeft M f b at whole b″ end (p + 8) (h + 1) (i - 1)
+      pub until-then : {b″ : List ℕ} {end : ℕ} → Laid b′ next (helperBytes M h q l r) b″ end → RowsLeft M f b at whole b″ end (p + rowWidth) (h + 1) (i - 1)
       until-then laid = record {
         readable = omega (arith, s .readable);
         few = omega (arith, s .few);
@@ -161,9 +163,9 @@ module _ {M : Model} {f b : List ℕ} {at : ℕ} {whole b′ : List ℕ} {next p
       }
 
     -- it is none
-    pub other-then : isUntil (rowAt f p) ≡ false → RowsLeft M f b at whole b′ next (p + 8) h (i - 1)
+    pub other-then : isUntil (rowAt f p) ≡ false → RowsLeft M f b at whole b′ next (p + rowWidth) h (i - 1)
     other-then e =
-        let same = ap untils (items-more (rowLayout f) i p some) ∙ keep-fail isUntil (rowAt f p) (items (rowLayout f) (i - 1) (p + 8)) e in
+        let same = ap untils (items-more (rowLayout f) i p some) ∙ keep-fail isUntil (rowAt f p) (items (rowLayout f) (i - 1) (p + rowWidth)) e in
         record {
           readable = omega (arith, s .readable);
           few = omega (arith, s .few);

@@ -10,6 +10,7 @@ use Rattle.wire.specs.Layout.{items}
 use Rattle.wire.specs.declared.State.{State}
 use Rattle.wire.proofs.Fields.{value-inside, value-is}
 use Rattle.wire.proofs.Layouts.{Reads, reads-all}
+use Rattle.model.specs.Format.{modelHeader, weightAt, toAt, labelAt, transitionAt}
 use Rattle.model.specs.Model.{Model, Transition}
 use Rattle.wire.specs.Step.{start}
 use Rattle.model.specs.Message.{readLabel, readTransition, readModel, labels, transitions}
@@ -34,12 +35,12 @@ module _ (m : List ℕ) where
   transitions-read n st u e =
       let g = transition-good m n st u e in
       let from : number 2 m (st .at) ≡ u .from = value-is 2 m _ (g .from-there) in
-      let weight : number 4 m (st .at + 2) ≡ u .weight = value-is 4 m _ (g .weight-there) in
-      let to : number 2 m (st .at + 6) ≡ u .to = value-is 2 m _ (g .to-there) in
+      let weight : number 4 m (st .at + weightAt) ≡ u .weight = value-is 4 m _ (g .weight-there) in
+      let to : number 2 m (st .at + toAt) ≡ u .to = value-is 2 m _ (g .to-there) in
       record {
         item-is = λ i. record { from = sym from i; weight = sym weight i; to = sym to i };
         next-is = refl;
-        ok = omega (arith, value-inside 2 m (st .at + 6) (g .to-there));
+        ok = omega (arith, value-inside 2 m (st .at + toAt) (g .to-there));
       }
 
 -- the model is the one at the positions, and a builder may rely on it
@@ -53,9 +54,9 @@ model-held m M bytes e =
     let p = model-good {s = m} {M = M} e in
     let n = M .states in
     let head = header-good m _ (p .header) in
-    let labels-hold = reads-all (labelLayout m) (labels m (M .propositions)) (labels-read m (M .propositions)) _ (start 13) _ (p .labels-there) in
-    let transitions-hold = reads-all (transitionLayout m) (transitions m n) (transitions-read m n) _ (start (13 + n * 4)) _ (p .transitions-there) in
-    let there : 13 + n * 4 + 0 * 8 ≡ 13 + n * 4 = omega arith in
+    let labels-hold = reads-all (labelLayout m) (labels m (M .propositions)) (labels-read m (M .propositions)) _ (start modelHeader) _ (p .labels-there) in
+    let transitions-hold = reads-all (transitionLayout m) (transitions m n) (transitions-read m n) _ (start (labelAt n)) _ (p .transitions-there) in
+    let there : transitionAt n 0 ≡ labelAt n = omega arith in
     let at : M ≡ heldModel m n (M .propositions) (length (M .transitions)) =
     λ i. record {
       states = n;

@@ -22,6 +22,7 @@ use Rattle.wire.proofs.Laid.{Left, none-left, same-length, nothing, said}
 use Rattle.wire.proofs.Written.{writeAll-map, writeAll-keep}
 use Rattle.graph.specs.Write.{writeTarget}
 use Rattle.graph.proofs.Exact.{target-length}
+use Rattle.model.specs.Format.{weightAt, toAt, transitionWidth}
 use Rattle.model.specs.Model.{Transition}
 use Rattle.formula.specs.declared.Quantifier.{Quantifier}
 use Rattle.formula.specs.declared.Quantifier.the-variants.{Some, Every}
@@ -117,7 +118,7 @@ module _ (m : List ℕ) (n : ℕ) (one : Transition → List ℕ) (most k : ℕ)
       near-fits = omega (arith, some left ends .1, ends, f .left .length-is, f .left .whole-fits)
 
       -- with its weight and the state that it leads to as they were read
-      module _ {w v : ℕ} (weight-is : w ≡ number 4 m (p + 2)) (to-is : v ≡ number 2 m (p + 6)) {b″ : List ℕ} {end : ℕ}
+      module _ {w v : ℕ} (weight-is : w ≡ number 4 m (p + weightAt)) (to-is : v ≡ number 2 m (p + toAt)) {b″ : List ℕ} {end : ℕ}
           (put : Laid b′ next (one (record { from = number 2 m p; weight = w; to = v })) b″ end) where
         abbrev it : List ℕ
         it = one (record { from = number 2 m p; weight = w; to = v })
@@ -126,12 +127,12 @@ module _ (m : List ℕ) (n : ℕ) (one : Transition → List ℕ) (most k : ℕ)
         bytes-are e = ap (λ (t : Bool). cond t it []) e
 
         -- within the bound, what was made of it stays
-        pub near-stays : w ≤ most → Filling m n (near most one) b at whole b″ end (p + 8) (i - 1)
+        pub near-stays : w ≤ most → Filling m n (near most one) b at whole b″ end (p + transitionWidth) (i - 1)
         unfolding near
         near-stays e = next-filled m n (near most one) f near-some weight-is to-is (said put (bytes-are (le-leb w most e)) refl refl)
 
         -- beyond, it will be laid over
-        pub near-goes : most < w → Filling m n (near most one) b at whole b″ next (p + 8) (i - 1)
+        pub near-goes : most < w → Filling m n (near most one) b at whole b″ next (p + transitionWidth) (i - 1)
         unfolding near
         near-goes e =
             let none = nothing b′ next (omega (arith, f .left .next-is, f .left .length-is, f .left .whole-fits)) in

@@ -19,6 +19,7 @@ use Rattle.wire.proofs.Laid.{nothing, said}
 use Rattle.rules.specs.Graph.{Target}
 use Rattle.graph.specs.Write.{writeHyper}
 use Rattle.model.specs.Model.{Model, Transition}
+use Rattle.formula.specs.Format.{formulaHeader, rowWidth, placeOf}
 use Rattle.formula.specs.declared.Quantifier.{Quantifier}
 use Rattle.formula.specs.declared.Quantifier.the-variants.{Some, Every}
 use Rattle.formula.specs.declared.Row.{Row}
@@ -110,11 +111,11 @@ module _ (M : Model) where
 
 module _ {f : List ℕ} {k p : ℕ} (h : HoldsRows f k p) where
   -- the row at a place, and that its operands stand before it
-  pub row-placed : (r : ℕ) → r < k → RowAt (heldRows f k) r (rowAt f (7 + r * 8))
+  pub row-placed : (r : ℕ) → r < k → RowAt (heldRows f k) r (rowAt f (placeOf r))
   unfolding heldRows
-  row-placed r l = items-get (rowLayout f) 8 (λ at. refl) k 7 r l
+  row-placed r l = items-get (rowLayout f) rowWidth (λ at. refl) k formulaHeader r l
 
-  pub row-fits : (n r : ℕ) → n * k ≤ 4096 → r < k → RowFits n r (rowAt f (7 + r * 8))
+  pub row-fits : (n r : ℕ) → n * k ≤ 4096 → r < k → RowFits n r (rowAt f (placeOf r))
   row-fits n r fits l =
       let below : n * suc r ≤ n * k = mul-le-mul-left n l in
       record { node = omega (arith, rw mul-suc at below); operands = h .well-formed .earlier r (row-placed r l) }

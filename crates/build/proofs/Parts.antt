@@ -14,22 +14,24 @@ use Rattle.lists.proofs.Kept.{keep-fail}
 use Rattle.lists.proofs.Tests.{by-test, and-left, and-right}
 use Rattle.refusal.specs.declared.Refusal.the-variants.{Size, Room}
 use Rattle.value.specs.declared.Bound.{Bound}
+use Rattle.wire.specs.Start.{startWidth}
 use Rattle.wire.specs.Bytes.{bytes}
 use Rattle.wire.specs.Laid.{laid}
 use Rattle.wire.specs.Write.{writeAll, message}
 use Rattle.wire.proofs.Bytes.{length-bytes}
 use Rattle.rules.specs.Graph.{Graph}
+use Rattle.graph.specs.Format.{graphLength}
 use Rattle.graph.specs.WellFormed.{targetsOf}
-use Rattle.graph.specs.Write.{writeHyper, writeCover, writeBody, writeGraph}
+use Rattle.graph.specs.Write.{writeHeader, writeHyper, writeCover, writeBody, writeGraph}
 use Rattle.model.specs.Model.{Model}
 use Rattle.formula.specs.declared.Quantifier.{Quantifier}
 use Rattle.formula.specs.declared.Row.{Row}
 use Rattle.formula.specs.declared.Row.the-variants.{Until}
-use Rattle.reduction.specs.Built.{ifUntil, isUntil, untils, helperAt, layout, cover, Limit, graphOf}
+use Rattle.reduction.specs.Built.{ifUntil, isUntil, untils, helperAt, layout, cover, CoverEnd, graphOf}
 use Rattle.build.specs.declared.Built.the-variants as Built
-use Rattle.build.specs.declared.Size as size
+use Rattle.build.specs.declared.sizing.Size as size
 use Rattle.build.specs.Size.{sizeOf, rowsEdges, inLimits}
-use Rattle.build.specs.Bytes.{rowsBytes, helpersBytes, coverBytes, coversFrom, coversOf, headerBytes}
+use Rattle.build.specs.Bytes.{rowsBytes, helpersBytes, coverBytes, coversFrom, coversOf}
 use Rattle.build.specs.Built.{fits, roomy, builtOf, roomOf, Writable}
 use Rattle.build.proofs.Untils.{other-row, by-row}
 use Rattle.wire.proofs.Written.{writeAll-append}
@@ -40,7 +42,7 @@ use Rattle.build.proofs.Whole.{size-of-graph, covers-of-graph, writing-
 
 -- with s states, and the helper of the row at each place at the place that is given
 module _ (s : ℕ) (place : ℕ → ℕ) where
-  abbrev limits : Row → ℕ → ℕ → List Limit
+  abbrev limits : Row → ℕ → ℕ → List CoverEnd
   limits row r a = ifUntil row (λ q l k b. record { bound = b; target = a + s * place r } ∷ []) []
 
   abbrev here : ℕ → Row → List ℕ
@@ -87,19 +89,15 @@ graph-covers M rows = covers-written (M .states) (helperAt rows) 0 (length rows)
 
 -- ---- the message
 
-one-byte : bytes 1 1 ≡ 1 ∷ []
-unfolding bytes
-one-byte = refl
-
 message-parts : (g : Graph) (long : ℕ) → long ≡ length (writeGraph g)
-    → writeGraph g ≡ headerBytes long (g .nodes) (length (g .hypers)) (length (g .covers)) ++ writeAll writeHyper (g .hypers) ++ writeAll writeCover (g .covers)
+    → writeGraph g ≡ writeHeader long (g .nodes) (length (g .hypers)) (length (g .covers)) ++ writeAll writeHyper (g .hypers) ++ writeAll writeCover (g .covers)
 unfolding writeGraph message writeBody
 message-parts g long e =
-    let is : long ≡ 6 + length (writeBody g) = e ∙ simp (length-append, length-bytes) (omega arith) in
-    rw (is, one-byte) (simp append-assoc)
+    let is : long ≡ startWidth + length (writeBody g) = e ∙ simp (length-append, length-bytes) (omega arith) in
+    rw is (simp append-assoc)
 
 pub graph-parts : (M : Model) (rows : List Row) (long hypers : ℕ) → long ≡ length (writeGraph (graphOf M rows)) → hypers ≡ length (graphOf M rows .hypers)
-    → writeGraph (graphOf M rows) ≡ headerBytes long (M .states * (length rows + length (untils rows))) hypers (M .states * length (untils rows))
+    → writeGraph (graphOf M rows) ≡ writeHeader long (M .states * (length rows + length (untils rows))) hypers (M .states * length (untils rows))
     ++ rowsBytes M 0 rows ++ helpersBytes M (length rows) (untils rows) ++ coversOf (M .states) rows
 unfolding graphOf rowsBytes helpersBytes
 graph-parts M rows long hypers long-is hypers-are =
@@ -145,7 +143,7 @@ module _ {M : Model} {rows : List Row} {n k u : ℕ} {z : size.Size} (c : Counte
 
   -- the length of the message, as it is computed
   abbrev long : ℕ
-  long = 14 + z .hypers * 4 + z .targets * 6 + n * u * 8
+  long = graphLength (z .hypers) (z .targets) (n * u)
 
   pub long-is : long ≡ length (writeGraph g)
   long-is = rw (hypers-are, targets-are, ← covers-are) (sym (writing-length g))

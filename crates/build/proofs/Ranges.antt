@@ -15,6 +15,7 @@ use Rattle.lists.proofs.Tests.{by-test}
 use Rattle.wire.specs.Bytes.{number}
 use Rattle.wire.specs.Layout.{items}
 use Rattle.wire.proofs.Layouts.{items-length}
+use Rattle.model.specs.Format.{transitionWidth, labelAt, transitionAt}
 use Rattle.model.specs.Model.{Transition}
 use Rattle.build.specs.Held.{transitionLayout, transitionsFrom, RiseFrom, leading, Starts, Own}
 use Rattle.wire.proofs.Stride.{items-take, items-drop, items-left}
@@ -75,17 +76,17 @@ leading-other a c (u ∷ us) h =
 -- ---- a loop over the transitions from one on
 
 module _ (m : List ℕ) (n t a i : ℕ) (h : i < t) where
-  here : transitionsFrom m n i (t - i) ≡ transitionLayout m .item (13 + n * 4 + i * 8) ∷ transitionsFrom m n (i + 1) (t - (i + 1))
-  here = items-left (transitionLayout m) 8 (λ at. refl) (13 + n * 4) t i h
+  here : transitionsFrom m n i (t - i) ≡ transitionLayout m .item (transitionAt n i) ∷ transitionsFrom m n (i + 1) (t - (i + 1))
+  here = items-left (transitionLayout m) transitionWidth (λ at. refl) (labelAt n) t i h
 
   -- one more that leaves state a, and one that doesn't
-  pub leading-more : number 2 m (13 + n * 4 + i * 8) ≡ a → leading a (transitionsFrom m n i (t - i)) ≡ 1 + leading a (transitionsFrom m n (i + 1) (t - (i + 1)))
+  pub leading-more : number 2 m (transitionAt n i) ≡ a → leading a (transitionsFrom m n i (t - i)) ≡ 1 + leading a (transitionsFrom m n (i + 1) (t - (i + 1)))
   unfolding leading
-  leading-more e = ap (leading a) here ∙ rw (eq-eqb (number 2 m (13 + n * 4 + i * 8)) a e)
+  leading-more e = ap (leading a) here ∙ rw (eq-eqb (number 2 m (transitionAt n i)) a e)
 
-  pub leading-stop : ¬ (number 2 m (13 + n * 4 + i * 8) ≡ a) → leading a (transitionsFrom m n i (t - i)) ≡ 0
+  pub leading-stop : ¬ (number 2 m (transitionAt n i) ≡ a) → leading a (transitionsFrom m n i (t - i)) ≡ 0
   unfolding leading
-  leading-stop e = ap (leading a) here ∙ rw (ne-eqb (number 2 m (13 + n * 4 + i * 8)) a e)
+  leading-stop e = ap (leading a) here ∙ rw (ne-eqb (number 2 m (transitionAt n i)) a e)
 
 pub leading-none : (m : List ℕ) (n t a i : ℕ) → t ≤ i → leading a (transitionsFrom m n i (t - i)) ≡ 0
 unfolding leading items
@@ -98,46 +99,46 @@ module _ (m : List ℕ) where
   from at = number 2 m at
 
   -- no `from` of so many is below a
-  low-at : (a k c at : ℕ) → k < c → RiseFrom a (items (transitionLayout m) c at) → a ≤ from (at + k * 8)
+  low-at : (a k c at : ℕ) → k < c → RiseFrom a (items (transitionLayout m) c at) → a ≤ from (at + k * transitionWidth)
   unfolding items RisingFrom
   low-at a k zero at h r = absurd (omega arith)
-  low-at a zero (suc c) at h r = let here : at + 0 * 8 ≡ at = omega arith in rw here (r .0)
+  low-at a zero (suc c) at h r = let here : at + 0 * transitionWidth ≡ at = omega arith in rw here (r .0)
   low-at a (suc k) (suc c) at h r =
-      let there : at + 8 + k * 8 ≡ at + suc k * 8 = omega arith in
-      let later : from at ≤ from (at + 8 + k * 8) = low-at (from at) k c (at + 8) (omega arith) (r .1) in
-      let low : a ≤ from (at + 8 + k * 8) = omega (arith, r .0, later) in
+      let there : at + transitionWidth + k * transitionWidth ≡ at + suc k * transitionWidth = omega arith in
+      let later : from at ≤ from (at + transitionWidth + k * transitionWidth) = low-at (from at) k c (at + transitionWidth) (omega arith) (r .1) in
+      let low : a ≤ from (at + transitionWidth + k * transitionWidth) = omega (arith, r .0, later) in
       rw there at low
 
   -- where the last of so many leaves a, all do, and the others still rise
-  many-lead : (a k c at : ℕ) → k < c → RiseFrom a (items (transitionLayout m) c at) → from (at + k * 8) ≡ a
-      → (leading a (items (transitionLayout m) c at) ≡ k + 1 + leading a (items (transitionLayout m) (c - (k + 1)) (at + (k + 1) * 8)))
-      × RiseFrom a (items (transitionLayout m) (c - (k + 1)) (at + (k + 1) * 8))
+  many-lead : (a k c at : ℕ) → k < c → RiseFrom a (items (transitionLayout m) c at) → from (at + k * transitionWidth) ≡ a
+      → (leading a (items (transitionLayout m) c at) ≡ k + 1 + leading a (items (transitionLayout m) (c - (k + 1)) (at + (k + 1) * transitionWidth)))
+      × RiseFrom a (items (transitionLayout m) (c - (k + 1)) (at + (k + 1) * transitionWidth))
   unfolding items RisingFrom leading
   many-lead a k zero at h r e = absurd (omega arith)
   many-lead a zero (suc c) at h r e =
-      let here : at + 0 * 8 ≡ at = omega arith in
+      let here : at + 0 * transitionWidth ≡ at = omega arith in
       let same : from at ≡ a = rw here at e in
       let left : suc c - (0 + 1) ≡ c = omega arith in
-      let next : at + (0 + 1) * 8 ≡ at + 8 = omega arith in
-      rw (left, next) (rw (eq-eqb (from at) a same) (omega arith), rise-from {a = from at} {b = a} (items (transitionLayout m) c (at + 8)) (omega arith) (r .1))
+      let next : at + (0 + 1) * transitionWidth ≡ at + transitionWidth = omega arith in
+      rw (left, next) (rw (eq-eqb (from at) a same) (omega arith), rise-from {a = from at} {b = a} (items (transitionLayout m) c (at + transitionWidth)) (omega arith) (r .1))
   many-lead a (suc k) (suc c) at h r e =
-      let there : at + suc k * 8 ≡ at + 8 + k * 8 = omega arith in
-      let last : from (at + 8 + k * 8) ≡ a = rw there at e in
-      let same : from at ≡ a = omega (arith, r .0, last, low-at (from at) k c (at + 8) (omega arith) (r .1)) in
-      let more = many-lead a k c (at + 8) (omega arith) (rise-from {a = from at} {b = a} (items (transitionLayout m) c (at + 8)) (omega arith) (r .1)) last in
+      let there : at + suc k * transitionWidth ≡ at + transitionWidth + k * transitionWidth = omega arith in
+      let last : from (at + transitionWidth + k * transitionWidth) ≡ a = rw there at e in
+      let same : from at ≡ a = omega (arith, r .0, last, low-at (from at) k c (at + transitionWidth) (omega arith) (r .1)) in
+      let more = many-lead a k c (at + transitionWidth) (omega arith) (rise-from {a = from at} {b = a} (items (transitionLayout m) c (at + transitionWidth)) (omega arith) (r .1)) last in
       let left : suc c - (suc k + 1) ≡ c - (k + 1) = omega arith in
-      let next : at + (suc k + 1) * 8 ≡ at + 8 + (k + 1) * 8 = omega arith in
+      let next : at + (suc k + 1) * transitionWidth ≡ at + transitionWidth + (k + 1) * transitionWidth = omega arith in
       rw (left, next) (rw (eq-eqb (from at) a same) (omega (arith, more .0)), more .1)
 
 -- the same of the transitions from one on
-pub leading-many : (m : List ℕ) (n t a i k : ℕ) → k < t - i → RiseFrom a (transitionsFrom m n i (t - i)) → number 2 m (13 + n * 4 + (i + k) * 8) ≡ a
+pub leading-many : (m : List ℕ) (n t a i k : ℕ) → k < t - i → RiseFrom a (transitionsFrom m n i (t - i)) → number 2 m (transitionAt n (i + k)) ≡ a
     → (leading a (transitionsFrom m n i (t - i)) ≡ k + 1 + leading a (transitionsFrom m n (i + (k + 1)) (t - (i + (k + 1)))))
     × RiseFrom a (transitionsFrom m n (i + (k + 1)) (t - (i + (k + 1))))
 leading-many m n t a i k h r e =
-    let there : 13 + n * 4 + (i + k) * 8 ≡ 13 + n * 4 + i * 8 + k * 8 = omega arith in
+    let there : transitionAt n (i + k) ≡ transitionAt n i + k * transitionWidth = omega arith in
     let left : t - (i + (k + 1)) ≡ t - i - (k + 1) = omega arith in
-    let next : 13 + n * 4 + (i + (k + 1)) * 8 ≡ 13 + n * 4 + i * 8 + (k + 1) * 8 = omega arith in
-    rw (left, next) (many-lead m a k (t - i) (13 + n * 4 + i * 8) h r (rw there at e))
+    let next : transitionAt n (i + (k + 1)) ≡ transitionAt n i + (k + 1) * transitionWidth = omega arith in
+    rw (left, next) (many-lead m a k (t - i) (transitionAt n i) h r (rw there at e))
 
 -- ---- a table of where each state's transitions start
 
@@ -172,7 +173,7 @@ module _ {m : List ℕ} {n t a first : ℕ} {table : List ℕ} (f : Found m n t 
   many = leading a (transitionsFrom m n first (t - first))
 
   few : many ≤ t - first
-  few = omega (arith, leading-le a (transitionsFrom m n first (t - first)), items-length (transitionLayout m) (t - first) (13 + n * 4 + first * 8))
+  few = omega (arith, leading-le a (transitionsFrom m n first (t - first)), items-length (transitionLayout m) (t - first) (transitionAt n first))
 
   -- the entries of the table
   newest : getD (set table (a + 1) next) (a + 1) 0 ≡ next
@@ -183,13 +184,13 @@ module _ {m : List ℕ} {n t a first : ℕ} {table : List ℕ} (f : Found m n t 
 
   -- the transitions at the front, and those behind
   front : take many (transitionsFrom m n first (t - first)) ≡ transitionsFrom m n first many
-  front = items-take (transitionLayout m) 8 (λ at. refl) many (t - first) (13 + n * 4 + first * 8) few
+  front = items-take (transitionLayout m) transitionWidth (λ at. refl) many (t - first) (transitionAt n first) few
 
   behind : drop many (transitionsFrom m n first (t - first)) ≡ transitionsFrom m n next (t - next)
   behind =
       let left : t - first - many ≡ t - next = omega arith in
-      let place : 13 + n * 4 + first * 8 + many * 8 ≡ 13 + n * 4 + next * 8 = omega arith in
-      items-drop (transitionLayout m) 8 (λ at. refl) many (t - first) (13 + n * 4 + first * 8) few ∙ rw (left, place)
+      let place : transitionAt n first + many * transitionWidth ≡ transitionAt n next = omega arith in
+      items-drop (transitionLayout m) transitionWidth (λ at. refl) many (t - first) (transitionAt n first) few ∙ rw (left, place)
 
   pub found-next : Found m n t (a + 1) next (set table (a + 1) next)
   found-next = record {

@@ -22,7 +22,7 @@ use Rattle.formula.specs.declared.Quantifier.the-variants.{Some, Every}
 use Rattle.formula.specs.declared.Row.{Row}
 use Rattle.formula.specs.declared.Row.the-variants.{True, False, Proposition, Negation, And, Or, Next, Until}
 use Rattle.reduction.specs.Built.{to, out, near, rowEdges, helperEdges, isUntil, untils}
-use Rattle.build.specs.declared.Size.{Size}
+use Rattle.build.specs.declared.sizing.Size.{Size}
 use Rattle.build.specs.Size.{noSize, addSize, sizeOf, stateEdges, rowsEdges, leafEdges, nextSize, stepSize, helperSize}
 use Rattle.build.specs.Bytes.{Narrow}
 use Rattle.lists.proofs.Making.{span-more}

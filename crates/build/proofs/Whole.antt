@@ -15,12 +15,13 @@ use Rattle.wire.specs.Write.{message}
 use Rattle.wire.proofs.Bytes.{length-bytes}
 use Rattle.wire.proofs.Exact.{length-writeAll}
 use Rattle.rules.specs.Graph.{Graph, Hyper, Target}
+use Rattle.graph.specs.Format.{coverWidth, graphLength}
 use Rattle.graph.specs.WellFormed.{targetsOf}
 use Rattle.graph.specs.Write.{writeCover, writeBody, writeGraph}
 use Rattle.model.specs.Model.{Model}
 use Rattle.formula.specs.declared.Row.{Row}
-use Rattle.reduction.specs.Built.{rowEdges, helperEdges, isUntil, untils, rowCovers, layout, hyper, cover, Limit, graphOf}
-use Rattle.build.specs.declared.Size.{Size}
+use Rattle.reduction.specs.Built.{rowEdges, helperEdges, isUntil, untils, rowCovers, layout, hyper, cover, CoverEnd, graphOf}
+use Rattle.build.specs.declared.sizing.Size.{Size}
 use Rattle.build.specs.Size.{noSize, addSize, sizeOf, stateEdges, rowsEdges}
 use Rattle.build.proofs.Untils.{other-row, by-row}
 use Rattle.build.proofs.Sizes.{none-add, add-swap, size-append, size-span, size-spans, helper-size}
@@ -122,7 +123,7 @@ size-of-graph M rows =
     rw total at (hypers-size (first ++ second))
 
 -- a cover edge for each state and until row
-covers-length : (s : ℕ) (f : Row → ℕ → ℕ → List Limit) → ((row : Row) (r a : ℕ) → length (f row r a) ≡ cond (isUntil row) 1 0)
+covers-length : (s : ℕ) (f : Row → ℕ → ℕ → List CoverEnd) → ((row : Row) (r a : ℕ) → length (f row r a) ≡ cond (isUntil row) 1 0)
     → (r : ℕ) (rows : List Row) → length (layout cover s f r rows) ≡ s * length (untils rows)
 unfolding layout keep
 covers-length s f each r [] = omega arith
@@ -143,7 +144,7 @@ covers-of-graph M rows = covers-length (M .states) (rowCovers M rows) (row-cover
 
 -- ---- the message
 
-pub writing-length : (g : Graph) → length (writeGraph g) ≡ 14 + length (g .hypers) * 4 + targetsOf (g .hypers) * 6 + length (g .covers) * 8
+pub writing-length : (g : Graph) → length (writeGraph g) ≡ graphLength (length (g .hypers)) (targetsOf (g .hypers)) (length (g .covers))
 unfolding writeGraph message writeBody
 writing-length g =
-    simp (length-append, length-bytes) (omega (arith, hypers-length (g .hypers), length-writeAll writeCover 8 cover-length (g .covers)))
+    simp (length-append, length-bytes) (omega (arith, hypers-length (g .hypers), length-writeAll writeCover coverWidth cover-length (g .covers)))

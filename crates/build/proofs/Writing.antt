@@ -17,11 +17,12 @@ use Rattle.lists.proofs.Places.{place-lt, ∈-place}
 use Rattle.lists.proofs.Tests.{and-left, and-right}
 use Rattle.wire.proofs.Bytes.{length-bytes}
 use Rattle.rules.specs.Graph.{Graph, Hyper}
+use Rattle.graph.specs.Format.{graphHeader}
 use Rattle.graph.specs.WellFormed.{targetsOf}
-use Rattle.graph.specs.Write.{writeGraph}
+use Rattle.graph.specs.Write.{writeHeader, writeGraph}
 use Rattle.reduction.specs.Built.{isUntil, untils, graphOf, Fits}
 use Rattle.build.specs.Built.{fits, Writable}
-use Rattle.build.specs.Bytes.{rowsBytes, helpersBytes, coversOf, headerBytes, HelpersFit}
+use Rattle.build.specs.Bytes.{rowsBytes, helpersBytes, coversOf, HelpersFit}
 use Rattle.build.specs.Held.{heldModel, heldRows, HoldsModel, HoldsRows}
 use Rattle.build.proofs.Accepted.{rows-length}
 use Rattle.build.proofs.Parts.{graph-parts}
@@ -98,7 +99,7 @@ module _ {m : List ℕ} {n p t : ℕ} {f : List ℕ} {k u hypers long : ℕ} {b 
 
   -- the four parts of the message
   pub written-parts : writeGraph (graphOf (heldModel m n p t) (heldRows f k))
-      ≡ headerBytes long (n * (k + u)) hypers (n * u) ++ rowsBytes (heldModel m n p t) 0 (heldRows f k)
+      ≡ writeHeader long (n * (k + u)) hypers (n * u) ++ rowsBytes (heldModel m n p t) 0 (heldRows f k)
       ++ helpersBytes (heldModel m n p t) k (untils (heldRows f k)) ++ coversOf n (heldRows f k)
   unfolding heldModel
   written-parts =
@@ -110,5 +111,5 @@ pub parts-fit : (h r e c : List ℕ) {size : ℕ} → length (h ++ r ++ e ++ c) 
     → (0 + length h ≤ size) × (0 + length (h ++ r) ≤ size) × (0 + length (h ++ r ++ e) ≤ size) × (0 + length (h ++ r ++ e ++ c) ≤ size)
 parts-fit h r e c fits = omega (arith, length-append h r, length-append (h ++ r) e, length-append (h ++ r ++ e) c)
 
-pub header-length : (long n h c : ℕ) → length (headerBytes long n h c) ≡ 14
+pub header-length : (long n h c : ℕ) → length (writeHeader long n h c) ≡ graphHeader
 header-length long n h c = simp (length-append, length-bytes)

@@ -9,6 +9,7 @@ use Rattle.value.specs.declared.Bound.{Bound}
 use Rattle.value.specs.Value.{inside}
 use Rattle.wire.specs.Bytes.{bytes}
 use Rattle.wire.specs.Write.{writeAll}
+use Rattle.graph.specs.Format.{hyperWidth, targetWidth}
 use Rattle.graph.specs.Write.{writeTarget, writeHyper, writeCover}
 use Rattle.rules.specs.Graph.{Target}
 use Rattle.model.specs.Model.{Model, Transition}
@@ -17,6 +18,13 @@ use Rattle.formula.specs.declared.Quantifier.the-variants.{Some, Every}
 use Rattle.formula.specs.declared.Row.{Row}
 use Rattle.formula.specs.Rows.{operands}
 use Rattle.reduction.specs.Built.{to, hyper, out, rowEdges, stepEdges, helperEdges, ifUntil, layout}
+
+-- how wide a hyperedge with one target and one with two are
+abbrev pub singleWidth : ℕ
+singleWidth = hyperWidth + targetWidth
+
+abbrev pub pairWidth : ℕ
+pairWidth = hyperWidth + 2 * targetWidth
 
 -- the hyperedges of node v with these target lists
 abbrev pub hypersBytes : ℕ → List (List Target) → List ℕ
@@ -46,8 +54,8 @@ nearBytes Some v node = writeHyper (hyper v (to 0 node ∷ []))
 nearBytes Every v node = writeTarget (to 0 node)
 
 unfoldable pub nearWidth : Quantifier → ℕ
-nearWidth Some = 10
-nearWidth Every = 6
+nearWidth Some = singleWidth
+nearWidth Every = targetWidth
 
 abbrev pub nearbyBytes : Quantifier → (v most shift : ℕ) → List Transition → List ℕ
 nearbyBytes q v most shift us = writeAll (λ u. nearBytes q v (u .to + shift)) (keep (λ u. leb (u .weight) most) us)
@@ -89,10 +97,6 @@ coversFrom n r h (row ∷ rows) = ifUntil row (λ q l k b. coverBytes n r h b ++
 
 abbrev pub coversOf : ℕ → List Row → List ℕ
 coversOf n rows = coversFrom n 0 (length rows) rows
-
--- the header of a graph message
-abbrev pub headerBytes : (long n h c : ℕ) → List ℕ
-headerBytes long n h c = bytes 4 long ++ bytes 1 1 ++ bytes 1 1 ++ bytes 2 n ++ bytes 4 h ++ bytes 2 c
 
 -- the node numbers of a row at place r and of its operands fit 2 bytes
 pub record RowFits (n r : ℕ) (row : Row) : Type 0 where

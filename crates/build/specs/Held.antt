@@ -10,8 +10,10 @@ use Rattle.lists.specs.Making.{keep}
 use Rattle.lists.specs.Order.{RisingFrom}
 use Rattle.wire.specs.Bytes.{number}
 use Rattle.wire.specs.Layout.{Layout, items}
+use Rattle.model.specs.Format.{modelHeader, labelWidth, weightAt, toAt, transitionWidth, transitionAt, modelLength}
 use Rattle.model.specs.Model.{Model, Transition}
 use Rattle.model.specs.WellFormed as model
+use Rattle.formula.specs.Format.{formulaHeader, formulaLength}
 use Rattle.formula.specs.declared.Row.{Row}
 use Rattle.formula.specs.Layouts.{rowLayout}
 use Rattle.formula.specs.WellFormed as formula
@@ -19,39 +21,39 @@ use Rattle.formula.specs.WellFormed as formula
 -- a transition and a label at a position
 abbrev pub transitionLayout : List ℕ → Layout Transition
 transitionLayout m = record {
-  item = λ at. record { from = number 2 m at; weight = number 4 m (at + 2); to = number 2 m (at + 6) };
-  next = λ at. at + 8;
-  Ok = λ at. at + 8 ≤ length m;
+  item = λ at. record { from = number 2 m at; weight = number 4 m (at + weightAt); to = number 2 m (at + toAt) };
+  next = λ at. at + transitionWidth;
+  Ok = λ at. at + transitionWidth ≤ length m;
 }
 
 abbrev pub labelLayout : List ℕ → Layout ℕ
-labelLayout m = record { item = λ at. number 4 m at; next = λ at. at + 4; Ok = λ at. at + 4 ≤ length m }
+labelLayout m = record { item = λ at. number 4 m at; next = λ at. at + labelWidth; Ok = λ at. at + labelWidth ≤ length m }
 
 -- so many transitions of a model with n states, from one on
 abbrev pub transitionsFrom : List ℕ → (n first many : ℕ) → List Transition
-transitionsFrom m n first many = items (transitionLayout m) many (13 + n * 4 + first * 8)
+transitionsFrom m n first many = items (transitionLayout m) many (transitionAt n first)
 
 -- the model that the bytes hold, with n states, p propositions and t transitions
 unfoldable pub heldModel : List ℕ → (n p t : ℕ) → Model
 heldModel m n p t = record {
   states = n;
   propositions = p;
-  labels = items (labelLayout m) n 13;
+  labels = items (labelLayout m) n modelHeader;
   transitions = transitionsFrom m n 0 t;
 }
 
 -- the k rows that the bytes hold
 unfoldable pub heldRows : List ℕ → ℕ → List Row
-heldRows f k = items (rowLayout f) k 7
+heldRows f k = items (rowLayout f) k formulaHeader
 
 -- the messages are accepted
 pub record HoldsModel (m : List ℕ) (n p t : ℕ) : Type 0 where
-  pub long : length m ≡ 13 + n * 4 + t * 8
+  pub long : length m ≡ modelLength n t
   pub well-formed : model.WellFormed (heldModel m n p t)
   pub transitions-fit : t ≤ 65535
 
 pub record HoldsRows (f : List ℕ) (k p : ℕ) : Type 0 where
-  pub long : length f ≡ 7 + k * 8
+  pub long : length f ≡ formulaLength k
   pub well-formed : formula.WellFormed p (heldRows f k)
   pub rows-fit : k ≤ 64
 
@@ -70,7 +72,7 @@ pub record Own (m : List ℕ) (n t a first many : ℕ) : Type 0 where
 
 -- these transitions can be read, and lead to states; a node that far behind a state is below 4,096
 pub record Reads (m : List ℕ) (n first many shift : ℕ) : Type 0 where
-  pub long : 13 + n * 4 + (first + many) * 8 ≤ length m
+  pub long : transitionAt n (first + many) ≤ length m
   pub named : {u : Transition} → u ∈ transitionsFrom m n first many → u .to < n
   pub shift-fits : shift + n ≤ 4096
 

@@ -11,7 +11,7 @@ use Rattle.formula.specs.declared.Row.{Row}
 use Rattle.formula.specs.declared.Quantifier.{Quantifier}
 use Rattle.formula.specs.declared.Quantifier.the-variants.{Some, Every}
 use Rattle.reduction.specs.Built.{rowEdges, helperEdges, ifUntil}
-use Rattle.build.specs.declared.Size.{Size}
+use Rattle.build.specs.declared.sizing.Size.{Size}
 
 -- the size of no hyperedge
 abbrev pub noSize : Size

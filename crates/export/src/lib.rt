@@ -1,5 +1,6 @@
-// The library for programs in C and Rust (include/otzarvim.h): numbers and slices in, the paper's number out, further results
-// in numbers that the caller lends. No function has a `requires`: any bytes and any lengths will do.
+// The library for programs in C and Rust (include/otzarvim.h): numbers and slices in, the paper's number out. No function has a
+// `requires`: any bytes and any lengths will do. The number, the verdict, the count and the length are the answer, and are always
+// written; rooms, counts, rows and states are lent memory, which a refusal leaves as it came.
 ghost use mathlib.Core.Path.{_≡_};
 ghost use Rattle.graph.specs.Message.{readGraph};
 ghost use Rattle.graph.specs.Answers as g;
@@ -11,22 +12,20 @@ ghost use Rattle.rounds.specs.Outcome as rounds;
 ghost use Rattle.rounds.specs.Promise as promise;
 ghost use Rattle.text.specs.Written as text;
 ghost use Rattle.build.specs.Built as b;
-ghost use Rattle.verdict.specs.Question.{readQuestion, readAsked};
 ghost use Rattle.verdict.specs.Answer as v;
 ghost use Rattle.verdict.specs.Promise.{Promise, PromiseAll, PromiseGraph};
-ghost use Rattle.export.specs.Counts.{graphCounts, modelCounts, formulaCount};
-ghost use Rattle.export.specs.Verdicts.{verdictNumber, asked, settled, settledStates};
-use verdict::Settled;
+ghost use Rattle.export.specs.Results.{graphCounts, modelCounts, formulaCount, verdictNumber, askedOne, askedAll, statesLent};
+use verdict::AllStates;
 use verdict::Verdict;
 
-// Checks a graph message; lends back its nodes, hyperedges and cover edges.
+// Checks a graph message; gives its nodes, hyperedges and cover edges.
 #[no_mangle]
 pub extern "C" fn otzarvim_graph_check(message: &[u8], counts: &mut [u32; 3]) -> u8
     ensures { λ r. ⌜ r ≡ g.checkedNumber (g.checked (readGraph (now (message .entry)))) ⌝ }
     ensures { λ _. ⌜ now (counts .exit) ≡ graphCounts (g.checked (readGraph (now (message .entry)))) (now (counts .entry)) ⌝ }
 {
     match graph::check(message) {
-        graph::Checked::Graph(n, h, c) => {
+        graph::Checked::Graph(n, h, c, _) => {
             *counts = [n, h, c];
             0
         }
@@ -34,7 +33,7 @@ pub extern "C" fn otzarvim_graph_check(message: &[u8], counts: &mut [u32; 3]) ->
     }
 }
 
-// Checks a model message; lends back its states, propositions and transitions.
+// Checks a model message; gives its states, propositions and transitions.
 #[no_mangle]
 pub extern "C" fn otzarvim_model_check(message: &[u8], counts: &mut [u32; 3]) -> u8
     ensures { λ r. ⌜ r ≡ m.checkedNumber (m.checked (readModel (now (message .entry)))) ⌝ }
@@ -49,7 +48,7 @@ pub extern "C" fn otzarvim_model_check(message: &[u8], counts: &mut [u32; 3]) ->
     }
 }
 
-// Checks a formula message whose propositions are below p; lends back its rows.
+// Checks a formula message whose propositions are below p; gives its rows.
 #[no_mangle]
 pub extern "C" fn otzarvim_formula_check(message: &[u8], p: u32, rows: &mut u32) -> u8
     ensures { λ r. ⌜ r ≡ f.checkedNumber (f.checked (readFormula p (now (message .entry)))) ⌝ }
@@ -64,7 +63,7 @@ pub extern "C" fn otzarvim_formula_check(message: &[u8], p: u32, rows: &mut u32)
     }
 }
 
-// Runs the rounds on a graph message; lends back the count of rounds.
+// Runs the rounds on a graph message; gives the count of rounds.
 #[no_mangle]
 pub extern "C" fn otzarvim_rounds_solve(
     message: &[u8],
@@ -72,18 +71,18 @@ pub extern "C" fn otzarvim_rounds_solve(
     room: &mut [u64],
     count: &mut u32,
 ) -> u8
-    ensures { λ r. ⌜ r ≡ rounds.outcomeNumber (rounds.outcomeOf (readGraph (now (message .entry))) budget (now (room .entry))) ⌝ }
-    ensures { λ _. ⌜ now (room .exit) ≡ rounds.roomOf (readGraph (now (message .entry))) budget (now (room .entry)) ⌝ }
-    ensures { λ _. ⌜ now (count .exit) ≡ rounds.outcomeCount (rounds.outcomeOf (readGraph (now (message .entry))) budget (now (room .entry))) ⌝ }
+    ensures { λ r. ⌜ r ≡ rounds.outcomeNumber (rounds.outcomeOf (rounds.readRounds (now (message .entry)) (now (room .entry))) budget) ⌝ }
+    ensures { λ _. ⌜ now (room .exit) ≡ rounds.roundsRoom (rounds.readRounds (now (message .entry)) (now (room .entry))) budget (now (room .entry)) ⌝ }
+    ensures { λ _. ⌜ now (count .exit) ≡ rounds.outcomeCount (rounds.outcomeOf (rounds.readRounds (now (message .entry)) (now (room .entry))) budget) ⌝ }
     ensures { λ _. ⌜ promise.Promise (now (message .entry)) budget (now (room .entry)) (now (room .exit))
-        (rounds.outcomeOf (readGraph (now (message .entry))) budget (now (room .entry))) ⌝ }
+        (rounds.outcomeOf (rounds.readRounds (now (message .entry)) (now (room .entry))) budget) ⌝ }
 {
     let outcome = rounds::solve(message, budget, room);
     *count = outcome.count();
     outcome.number()
 }
 
-// Writes the text of a formula message whose propositions are below p; lends back its length.
+// Writes the text of a formula message whose propositions are below p; gives its length.
 #[no_mangle]
 pub extern "C" fn otzarvim_formula_text(
     message: &[u8],
@@ -92,7 +91,7 @@ pub extern "C" fn otzarvim_formula_text(
     length: &mut usize,
 ) -> u8
     ensures { λ r. ⌜ r ≡ text.writtenNumber (text.writtenOf (readFormula p (now (message .entry))) (now (room .entry))) ⌝ }
-    ensures { λ _. ⌜ now (room .exit) ≡ text.roomOf (readFormula p (now (message .entry))) (now (room .entry)) ⌝ }
+    ensures { λ _. ⌜ now (room .exit) ≡ text.textRoom (readFormula p (now (message .entry))) (now (room .entry)) ⌝ }
     ensures { λ _. ⌜ now (length .exit) ≡ text.writtenLength (text.writtenOf (readFormula p (now (message .entry))) (now (room .entry))) ⌝ }
 {
     let written = text::text(message, p, room);
@@ -111,7 +110,7 @@ fn verdict_number(verdict: Verdict) -> u8
     }
 }
 
-// The verdict on a state; lends back the verdict's number, the count of rounds and the length of the graph.
+// The verdict on a state; gives the verdict's number, the count of rounds and the length of the graph.
 #[no_mangle]
 pub extern "C" fn otzarvim_verdict(
     model: &[u8],
@@ -124,18 +123,18 @@ pub extern "C" fn otzarvim_verdict(
     count: &mut u32,
     length: &mut usize,
 ) -> u8
-    ensures { λ r. ⌜ r ≡ v.answerNumber (asked (now (model .entry)) (now (formula .entry)) state budget (now (bytes .entry)) (now (values .entry))) ⌝ }
-    ensures { λ _. ⌜ now (bytes .exit) ≡ v.bytesOf (readAsked (now (model .entry)) (now (formula .entry)) state) (now (bytes .entry)) (now (values .entry)) ⌝ }
-    ensures { λ _. ⌜ now (values .exit) ≡ v.valuesOf (readAsked (now (model .entry)) (now (formula .entry)) state) budget (now (bytes .entry))
+    ensures { λ r. ⌜ r ≡ v.answerNumber (askedOne (now (model .entry)) (now (formula .entry)) state budget (now (bytes .entry)) (now (values .entry))) ⌝ }
+    ensures { λ _. ⌜ now (bytes .exit) ≡ v.bytesOf (v.readAsked (now (model .entry)) (now (formula .entry)) state (now (bytes .entry)) (now (values .entry))) (now (bytes .entry)) ⌝ }
+    ensures { λ _. ⌜ now (values .exit) ≡ v.valuesOf (v.readAsked (now (model .entry)) (now (formula .entry)) state (now (bytes .entry)) (now (values .entry))) budget
         (now (values .entry)) ⌝ }
-    ensures { λ _. ⌜ now (verdict .exit) ≡ verdictNumber (v.answerVerdict (asked (now (model .entry)) (now (formula .entry)) state budget
+    ensures { λ _. ⌜ now (verdict .exit) ≡ verdictNumber (v.answerVerdict (askedOne (now (model .entry)) (now (formula .entry)) state budget
         (now (bytes .entry)) (now (values .entry)))) ⌝ }
-    ensures { λ _. ⌜ now (count .exit) ≡ v.answerCount (asked (now (model .entry)) (now (formula .entry)) state budget (now (bytes .entry))
+    ensures { λ _. ⌜ now (count .exit) ≡ v.answerCount (askedOne (now (model .entry)) (now (formula .entry)) state budget (now (bytes .entry))
         (now (values .entry))) ⌝ }
-    ensures { λ _. ⌜ now (length .exit) ≡ v.answerLength (asked (now (model .entry)) (now (formula .entry)) state budget (now (bytes .entry))
+    ensures { λ _. ⌜ now (length .exit) ≡ v.answerLength (askedOne (now (model .entry)) (now (formula .entry)) state budget (now (bytes .entry))
         (now (values .entry))) ⌝ }
     ensures { λ _. ⌜ Promise (now (model .entry)) (now (formula .entry)) state budget (now (bytes .entry)) (now (values .entry)) (now (bytes .exit))
-        (now (values .exit)) (asked (now (model .entry)) (now (formula .entry)) state budget (now (bytes .entry)) (now (values .entry))) ⌝ }
+        (now (values .exit)) (askedOne (now (model .entry)) (now (formula .entry)) state budget (now (bytes .entry)) (now (values .entry))) ⌝ }
 {
     let answer = verdict::decide(model, formula, state, budget, bytes, values);
     *verdict = verdict_number(answer.verdict());
@@ -144,7 +143,7 @@ pub extern "C" fn otzarvim_verdict(
     answer.number()
 }
 
-// The graph of a model and a formula alone; lends back its length.
+// The graph of a model and a formula alone; gives its length.
 #[no_mangle]
 pub extern "C" fn otzarvim_graph(
     model: &[u8],
@@ -152,18 +151,18 @@ pub extern "C" fn otzarvim_graph(
     bytes: &mut [u8],
     length: &mut usize,
 ) -> u8
-    ensures { λ r. ⌜ r ≡ b.builtNumber (v.graphBuilt (readQuestion (now (model .entry)) (now (formula .entry))) (now (bytes .entry))) ⌝ }
-    ensures { λ _. ⌜ now (bytes .exit) ≡ v.graphRoom (readQuestion (now (model .entry)) (now (formula .entry))) (now (bytes .entry)) ⌝ }
-    ensures { λ _. ⌜ now (length .exit) ≡ b.builtLength (v.graphBuilt (readQuestion (now (model .entry)) (now (formula .entry))) (now (bytes .entry))) ⌝ }
+    ensures { λ r. ⌜ r ≡ b.builtNumber (v.builtAlone (v.readBuilt (now (model .entry)) (now (formula .entry)) (now (bytes .entry)))) ⌝ }
+    ensures { λ _. ⌜ now (bytes .exit) ≡ v.bytesOf (v.readBuilt (now (model .entry)) (now (formula .entry)) (now (bytes .entry))) (now (bytes .entry)) ⌝ }
+    ensures { λ _. ⌜ now (length .exit) ≡ b.builtLength (v.builtAlone (v.readBuilt (now (model .entry)) (now (formula .entry)) (now (bytes .entry)))) ⌝ }
     ensures { λ _. ⌜ PromiseGraph (now (model .entry)) (now (formula .entry)) (now (bytes .entry)) (now (bytes .exit))
-        (v.graphBuilt (readQuestion (now (model .entry)) (now (formula .entry))) (now (bytes .entry))) ⌝ }
+        (v.builtAlone (v.readBuilt (now (model .entry)) (now (formula .entry)) (now (bytes .entry)))) ⌝ }
 {
     let built = verdict::graph(model, formula, bytes);
     *length = built.length();
     built.number()
 }
 
-// All states at once; lends back the count of rounds, the length of the graph, the place of state 0's number and how many states there are, where it settled.
+// All states at once; gives the count of rounds, the length of the graph, the place of state 0's number and how many states there are, where it settled.
 #[no_mangle]
 pub extern "C" fn otzarvim_settle(
     model: &[u8],
@@ -175,29 +174,29 @@ pub extern "C" fn otzarvim_settle(
     length: &mut usize,
     states: &mut [u32; 2],
 ) -> u8
-    ensures { λ r. ⌜ r ≡ v.settledNumber (settled (now (model .entry)) (now (formula .entry)) budget (now (bytes .entry)) (now (values .entry))) ⌝ }
-    ensures { λ _. ⌜ now (bytes .exit) ≡ v.bytesOf (readQuestion (now (model .entry)) (now (formula .entry))) (now (bytes .entry)) (now (values .entry)) ⌝ }
-    ensures { λ _. ⌜ now (values .exit) ≡ v.valuesOf (readQuestion (now (model .entry)) (now (formula .entry))) budget (now (bytes .entry))
+    ensures { λ r. ⌜ r ≡ v.allNumber (askedAll (now (model .entry)) (now (formula .entry)) budget (now (bytes .entry)) (now (values .entry))) ⌝ }
+    ensures { λ _. ⌜ now (bytes .exit) ≡ v.bytesOf (v.readSettled (now (model .entry)) (now (formula .entry)) (now (bytes .entry)) (now (values .entry))) (now (bytes .entry)) ⌝ }
+    ensures { λ _. ⌜ now (values .exit) ≡ v.valuesOf (v.readSettled (now (model .entry)) (now (formula .entry)) (now (bytes .entry)) (now (values .entry))) budget
         (now (values .entry)) ⌝ }
-    ensures { λ _. ⌜ now (count .exit) ≡ v.settledCount (settled (now (model .entry)) (now (formula .entry)) budget (now (bytes .entry))
+    ensures { λ _. ⌜ now (count .exit) ≡ v.allCount (askedAll (now (model .entry)) (now (formula .entry)) budget (now (bytes .entry))
         (now (values .entry))) ⌝ }
-    ensures { λ _. ⌜ now (length .exit) ≡ v.settledLength (settled (now (model .entry)) (now (formula .entry)) budget (now (bytes .entry))
+    ensures { λ _. ⌜ now (length .exit) ≡ v.allLength (askedAll (now (model .entry)) (now (formula .entry)) budget (now (bytes .entry))
         (now (values .entry))) ⌝ }
-    ensures { λ _. ⌜ now (states .exit) ≡ settledStates (settled (now (model .entry)) (now (formula .entry)) budget (now (bytes .entry))
+    ensures { λ _. ⌜ now (states .exit) ≡ statesLent (askedAll (now (model .entry)) (now (formula .entry)) budget (now (bytes .entry))
         (now (values .entry))) (now (states .entry)) ⌝ }
     ensures { λ _. ⌜ PromiseAll (now (model .entry)) (now (formula .entry)) budget (now (bytes .entry)) (now (values .entry)) (now (bytes .exit))
-        (now (values .exit)) (settled (now (model .entry)) (now (formula .entry)) budget (now (bytes .entry)) (now (values .entry))) ⌝ }
+        (now (values .exit)) (askedAll (now (model .entry)) (now (formula .entry)) budget (now (bytes .entry)) (now (values .entry))) ⌝ }
 {
     let settled = verdict::settle(model, formula, budget, bytes, values);
     *count = settled.count();
     *length = settled.length();
     let number = settled.number();
     match settled {
-        Settled::Done(_, _, first, many) => {
+        AllStates::Settled(_, _, first, many) => {
             *states = [first, many];
             number
         }
-        Settled::Spent(_, _) => number,
-        Settled::Refused(_) => number,
+        AllStates::Spent(_, _) => number,
+        AllStates::Refused(_) => number,
     }
 }

@@ -11,6 +11,7 @@ use Rattle.wire.specs.Layout.{items, Sound}
 use Rattle.wire.proofs.Fields.{value-inside, value-is}
 use Rattle.wire.proofs.Layouts.{Reads, ReadsAll, reads-while}
 use Rattle.wire.specs.Step.{start}
+use Rattle.formula.specs.Format.{formulaHeader, boundAt}
 use Rattle.formula.specs.declared.Row.{Row}
 use Rattle.formula.specs.Message.{readRow, rows, readFormula}
 use Rattle.formula.specs.Layouts.{rowAt, rowLayout}
@@ -32,7 +33,7 @@ row-reads s p k st row few e =
         item-is = there;
         next-is = refl;
         ok = record {
-          inside = omega (arith, value-inside 4 s (st .at + 4) (g .bound-there));
+          inside = omega (arith, value-inside 4 s (st .at + boundAt) (g .bound-there));
           small = λ m. omega (arith, g .fine .names .earlier (rw (← there) at m));
         };
       },
@@ -44,12 +45,12 @@ rows-hold s p = reads-while (rowLayout s) (rows s p) (λ k st. st .tally + k ≤
 
 -- an accepted message holds its rows one after another, and they can be scanned
 pub record Holds (s : List ℕ) (rs : List Row) (f : ℕ) : Type 0 where
-  pub are : rs ≡ items (rowLayout s) f 7
-  pub sound : Sound (rowLayout s) f 7
+  pub are : rs ≡ items (rowLayout s) f formulaHeader
+  pub sound : Sound (rowLayout s) f formulaHeader
 
 pub holds : (p : ℕ) (s : List ℕ) (rs : List Row) → readFormula p s ≡ good rs → Holds s rs (length rs)
 holds p s rs e =
     let g = formula-good p s rs e in
     let header = header-good s (length rs) (g .header) in
-    let there = rows-hold s p (length rs) (start 7) rs (omega arith) (g .rows-there) in
+    let there = rows-hold s p (length rs) (start formulaHeader) rs (omega arith) (g .rows-there) in
     record { are = there .items-are; sound = there .sound }

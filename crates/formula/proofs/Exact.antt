@@ -12,6 +12,7 @@ use borrow.Author.Tests.{le-leb, eq-eqb, eqb-true}
 use Rattle.lists.specs.Lists.{_∈_, all, upTo}
 use Rattle.lists.proofs.Places.{place-lt, place-∈, ∈-place}
 use Rattle.lists.proofs.Lists.{all-true, true-all, ∈-upTo, upTo-∈}
+use Rattle.wire.specs.Start.{startWidth}
 use Rattle.wire.specs.declared.State.{State}
 use Rattle.wire.specs.Bytes.{bytes, Bytes}
 use Rattle.wire.specs.Read.{good, field}
@@ -22,12 +23,14 @@ use Rattle.wire.specs.Step.{start}
 use Rattle.wire.proofs.Stands.{Stands, stands-first, stands-second, stands-both, stands-last, value-stands, stands-field}
 use Rattle.wire.proofs.Counts.{good-count}
 use Rattle.wire.proofs.Exact.{good-bind, good-after, good-demand, length-writeAll, Exact, FitsAll, none, more, all-reads, all-written, message-length, message-rest, start-reads, start-written}
+use Rattle.formula.specs.Format.{formulaHeader, formulaHead, rowsCount, leftAt, rightAt, zeroAt, boundAt, rowWidth, formulaLength}
 use Rattle.formula.specs.declared.Row.{Row}
 use Rattle.formula.specs.Rows.{rowOf, operands, propositions, uses, usedOnce}
 use Rattle.formula.specs.Message.{judgeRow, readRow, rows, readHeader, readFormula}
 use Rattle.formula.specs.Write.{fields, writeRow, writeFormula}
 use Rattle.formula.specs.WellFormed.{SayableRow, RowAt, WellFormed}
-use Rattle.formula.proofs.Good.{Named, names-named, row-good, header-good, formula-good, good-formula}
+use Rattle.formula.proofs.Good.{row-good, header-good, formula-good, good-formula}
+use Rattle.formula.proofs.Judging.{Named, spare-fields, named-fields}
 use Rattle.formula.proofs.Spelt.{left, right, spelt, row-length, said}
 
 -- ---- rows
@@ -42,10 +45,10 @@ pub record RowFits (p place : ℕ) (row : Row) : Type 0 where
 -- the bytes of a row, field by field
 record Laid (s : List ℕ) (at o l r z b : ℕ) : Type 0 where
   operator-there : Stands s at (bytes 1 o)
-  left-there : Stands s (at + 1) (bytes 1 l)
-  right-there : Stands s (at + 2) (bytes 1 r)
-  zero-there : Stands s (at + 3) (bytes 1 z)
-  bound-there : Stands s (at + 4) (bytes 4 b)
+  left-there : Stands s (at + leftAt) (bytes 1 l)
+  right-there : Stands s (at + rightAt) (bytes 1 r)
+  zero-there : Stands s (at + zeroAt) (bytes 1 z)
+  bound-there : Stands s (at + boundAt) (bytes 4 b)
 
 laid-fields : {s : List ℕ} {at : ℕ} (o l r z b : ℕ) → Laid s at o l r z b → Stands s at (fields o l r z b)
 laid-fields {s} {at} o l r z b h =
@@ -98,20 +101,26 @@ module _ (s : List ℕ) (p : ℕ) where
         let w = spelt row in
         let there = fields-laid (w .operator) (left row) (right row) 0 (w .code) (rw (w .written) at stands) in
         let operator-there : field 1 s (st .at) ≡ good (w .operator) = stands-field 1 (omega arith) (there .operator-there) (omega (arith, w .known)) in
-        let left-there : field 1 s (st .at + 1) ≡ good (left row) = stands-field 1 (omega arith) (there .left-there) (f .left-byte) in
-        let right-there : field 1 s (st .at + 2) ≡ good (right row) = stands-field 1 (omega arith) (there .right-there) (f .right-byte) in
-        let zero-there : field 1 s (st .at + 3) ≡ good 0 = stands-field 1 (omega arith) (there .zero-there) (omega arith) in
-        let bound-there : field 4 s (st .at + 4) ≡ good (w .code) = stands-field 4 (omega arith) (there .bound-there) (w .fits (f .sayable)) in
+        let left-there : field 1 s (st .at + leftAt) ≡ good (left row) = stands-field 1 (omega arith) (there .left-there) (f .left-byte) in
+        let right-there : field 1 s (st .at + rightAt) ≡ good (right row) = stands-field 1 (omega arith) (there .right-there) (f .right-byte) in
+        let zero-there : field 1 s (st .at + zeroAt) ≡ good 0 = stands-field 1 (omega arith) (there .zero-there) (omega arith) in
+        let bound-there : field 4 s (st .at + boundAt) ≡ good (w .code) = stands-field 4 (omega arith) (there .bound-there) (w .fits (f .sayable)) in
         let is : rowOf (w .operator) (left row) (right row) (w .code) ≡ row = w .is (f .sayable) in
+        let idle = spare-fields (w .operator) (left row) (right row) 0 (w .code) (w .known) (rw is (w .spare)) in
+        let names = named-fields p (st .tally) (w .operator) (left row) (right row) (w .code) (w .known) (rw is (f .names)) in
         good-bind _ operator-there
         (good-bind _ left-there
         (good-bind _ right-there
         (good-bind _ zero-there
         (good-bind _ bound-there
         (good-demand _ (le-leb _ _ (w .known))
-        (good-demand _ (rw is (w .spare))
-        (good-demand _ (rw is (names-named p (st .tally) row (f .names)))
-        (rw is))))))));
+        (good-demand _ (idle .left)
+        (good-demand _ (idle .right)
+        (good-demand _ (idle .zero)
+        (good-demand _ (idle .bound)
+        (good-demand _ (names .0)
+        (good-demand _ (names .1)
+        (rw is))))))))))));
     moves = λ st row. rw row-length;
   }
 
@@ -142,8 +151,8 @@ each-used rs f = true-all (λ j. eqb (uses j rs) 1) (upTo (length rs - 1)) (λ i
 abbrev writeBody : List Row → List ℕ
 writeBody rs = bytes 1 (length rs) ++ writeAll writeRow rs
 
-body-length : (rs : List Row) → length (writeBody rs) ≡ 1 + length rs * 8
-body-length rs = simp (length-append, length-bytes, length-writeAll writeRow 8 row-length)
+body-length : (rs : List Row) → startWidth + length (writeBody rs) ≡ formulaLength (length rs)
+body-length rs = simp (length-append, length-bytes, length-writeAll writeRow rowWidth row-length) (omega arith)
 
 -- names below k make fields below k
 name-below : (k : ℕ) (ls : List ℕ) (i : ℕ) → 0 < k → ((l : ℕ) → l ∈ ls → l < k) → getD ls i 0 < k
@@ -168,12 +177,12 @@ unfolding writeFormula
 accepted-written p s rs b e =
     let g = formula-good p s rs e in
     let header = header-good s _ (g .header) in
-    let started = start-reads 7 1 3 b (header .opened) in
-    let all = all-reads (rows-exact s p) b _ (start 7) _ (g .rows-there) in
-    let body : Stands s 6 (writeBody rs) = stands-both (simp length-bytes) (value-stands 1 b (header .f-counted .there) .0) (all .0) in
-    let rest : drop 6 s ≡ writeBody rs = stands-last body (omega (arith, body-length rs, header .long)) in
+    let started = start-reads formulaHead b (header .opened) in
+    let all = all-reads (rows-exact s p) b _ (start formulaHeader) _ (g .rows-there) in
+    let body : Stands s startWidth (writeBody rs) = stands-both (simp length-bytes) (value-stands 1 b (header .f-counted .there) .0) (all .0) in
+    let rest : drop startWidth s ≡ writeBody rs = stands-last body (omega (arith, body-length rs, header .long)) in
     let at : (i : ℕ) (row : Row) → RowAt rs i row → RowFits p i row = λ i row e. rw zero-add at (fits-at s p (all .1) i e) in (
-      started .whole ∙ ap (message 1 3) rest,
+      started .whole ∙ ap (message formulaHead) rest,
       record {
         propositions-fit = g .p-most;
         some-row = header .f-counted .no-less;
@@ -188,18 +197,18 @@ accepted-written p s rs b e =
 pub written-accepted : (p : ℕ) (rs : List Row) → WellFormed p rs → readFormula p (writeFormula rs) ≡ good rs
 unfolding readHeader writeFormula
 written-accepted p rs w =
-    let s : List ℕ = message 1 3 (writeBody rs) in
+    let s : List ℕ = message formulaHead (writeBody rs) in
     let long = body-length rs in
-    let whole : length s ≡ 7 + length rs * 8 = message-length 1 3 (writeBody rs) ∙ (omega arith) in
-    let body : Stands s 6 (writeBody rs) = message-rest 1 3 (writeBody rs) in
-    let opened = start-written (writeBody rs) 7 1 3 (omega arith) (omega arith) (omega arith) (omega arith) in
-    let count-there : field 1 s 6 ≡ good (length rs) = stands-field 1 (omega arith) (stands-first _ _ body) (omega (arith, w .rows-fit)) in
+    let whole : length s ≡ formulaLength (length rs) = message-length formulaHead (writeBody rs) ∙ (omega arith) in
+    let body : Stands s startWidth (writeBody rs) = message-rest formulaHead (writeBody rs) in
+    let opened = start-written (writeBody rs) formulaHead (omega arith) (omega arith) (omega arith) (omega arith) in
+    let count-there : field 1 s (rowsCount .at) ≡ good (length rs) = stands-field 1 (omega arith) (stands-first _ _ body) (omega (arith, w .rows-fit)) in
     good-formula p s rs (record {
       p-most = w .propositions-fit;
       header =
           good-after opened
-          (good-bind _ (good-count 1 s 6 1 64 count-there (w .some-row) (w .rows-fit)) (good-demand _ (eq-eqb _ _ whole) refl));
-      rows-there = all-written (rows-exact s p) (start 7) rs (stands-second (bytes 1 (length rs)) _ (simp length-bytes) body) (at-fits s p (start 7) rs (λ i row e. rw zero-add (well-fits p rs w i row e)));
+          (good-bind _ (good-count s rowsCount count-there (w .some-row) (w .rows-fit)) (good-demand _ (eq-eqb _ _ whole) refl));
+      rows-there = all-written (rows-exact s p) (start formulaHeader) rs (stands-second (bytes 1 (length rs)) _ (simp length-bytes) body) (at-fits s p (start formulaHeader) rs (λ i row e. rw zero-add (well-fits p rs w i row e)));
       used = each-used rs (w .used-once);
     })
 

@@ -23,28 +23,12 @@ use Rattle.wire.proofs.Fields.{field-value, value-inside}
 use Rattle.wire.proofs.Reading.{reading, bind-good, and-good, demand-good, field-good, good-same}
 use Rattle.wire.proofs.Readers.{all-length}
 use Rattle.wire.proofs.Exact.{good-bind, good-demand, all-there}
+use Rattle.formula.specs.Format.{formulaHeader, formulaHead, rowsCount, leftAt, rightAt, zeroAt, boundAt, rowWidth, formulaLength}
 use Rattle.formula.specs.declared.Row.{Row}
-use Rattle.formula.specs.Rows.{rowOf, spareZero, operands, propositions, named, usedOnce}
+use Rattle.formula.specs.Rows.{rowOf, usedOnce}
 use Rattle.formula.specs.Message.{judgeRow, readRow, rows, readHeader, readFormula}
-
--- the names of a row exist: its propositions are below p, and its operands are earlier rows
-pub record Named (p place : ℕ) (row : Row) : Type 0 where
-  pub existing : {q : ℕ} → q ∈ propositions row → q < p
-  pub earlier : {l : ℕ} → l ∈ operands row → l < place
-
-pub named-names : (p place : ℕ) (row : Row) → named p place row ≡ true → Named p place row
-named-names p place row e =
-    let qs = all (λ q. ltb q p) (propositions row) in
-    let ls = all (λ l. ltb l place) (operands row) in
-    record {
-      existing = λ {q} m. ltb-true q p (all-true _ _ (and-left qs ls e) q m);
-      earlier = λ {l} m. ltb-true l place (all-true _ _ (and-right qs ls e) l m);
-    }
-
-pub names-named : (p place : ℕ) (row : Row) → Named p place row → named p place row ≡ true
-names-named p place row n =
-    rw (true-all (λ q. ltb q p) (propositions row) (λ q m. lt-ltb q p (n .existing m)))
-    (true-all (λ l. ltb l place) (operands row) (λ l m. lt-ltb l place (n .earlier m)))
+use Rattle.formula.proofs.Spelt.{spareZero}
+use Rattle.formula.proofs.Judging.{Named, fields-spare, fields-named}
 
 -- what a good judgement says of the fields
 pub record Fine (p place operator left right zero bound : ℕ) (row : Row) : Type 0 where
@@ -57,18 +41,28 @@ pub judge-good : (p place o l r z b : ℕ) (row : Row) → judgeRow p place o l 
 unfolding judgeRow
 judge-good p place o l r z b row e =
     let known = demand-good _ _ _ e in
-    let spare = demand-good _ _ _ (known .1) in
-    let named = demand-good _ _ _ (spare .1) in
-    let same : rowOf o l r b ≡ row = good-same (named .1) in
-    record { known = leb-true _ _ (known .0); is = same; spare = rw (← same) (spare .0); names = named-names p place row (rw (← same) (named .0)) }
+    let left-idle = demand-good _ _ _ (known .1) in
+    let right-idle = demand-good _ _ _ (left-idle .1) in
+    let zero-idle = demand-good _ _ _ (right-idle .1) in
+    let bound-idle = demand-good _ _ _ (zero-idle .1) in
+    let left-named = demand-good _ _ _ (bound-idle .1) in
+    let right-named = demand-good _ _ _ (left-named .1) in
+    let same : rowOf o l r b ≡ row = good-same (right-named .1) in
+    let few : o ≤ 9 = leb-true _ _ (known .0) in
+    record {
+      known = few;
+      is = same;
+      spare = rw (← same) (fields-spare o l r z b few (record { left = left-idle .0; right = right-idle .0; zero = zero-idle .0; bound = bound-idle .0 }));
+      names = rw (← same) (fields-named p place o l r b few (left-named .0) (right-named .0));
+    }
 
 module _ (s : List ℕ) (p : ℕ) where
   -- the fields of a row that fits are judged
-  pub row-inside : (st : State) → st .at + 8 ≤ length s → readRow s p st ≡ judgeRow p (st .tally) (number 1 s (st .at)) (number 1 s (st .at + 1)) (number 1 s (st .at + 2)) (number 1 s (st .at + 3)) (number 4 s (st .at + 4))
+  pub row-inside : (st : State) → st .at + rowWidth ≤ length s → readRow s p st ≡ judgeRow p (st .tally) (number 1 s (st .at)) (number 1 s (st .at + leftAt)) (number 1 s (st .at + rightAt)) (number 1 s (st .at + zeroAt)) (number 4 s (st .at + boundAt))
   unfolding readRow
   row-inside st h =
       let at = st .at in
-      simp (reading, field-value 1 s at (omega arith), field-value 1 s (at + 1) (omega arith), field-value 1 s (at + 2) (omega arith), field-value 1 s (at + 3) (omega arith), field-value 4 s (at + 4) (omega arith))
+      simp (reading, field-value 1 s at (omega arith), field-value 1 s (at + leftAt) (omega arith), field-value 1 s (at + rightAt) (omega arith), field-value 1 s (at + zeroAt) (omega arith), field-value 4 s (at + boundAt) (omega arith))
 
   -- what a good row says of the bytes
   pub record RowGood (st : State) (row : Row) : Type 0 where
@@ -78,10 +72,10 @@ module _ (s : List ℕ) (p : ℕ) where
     pub zero : ℕ
     pub bound : ℕ
     pub operator-there : fieldAt 1 s (st .at) ≡ Number operator
-    pub left-there : fieldAt 1 s (st .at + 1) ≡ Number left
-    pub right-there : fieldAt 1 s (st .at + 2) ≡ Number right
-    pub zero-there : fieldAt 1 s (st .at + 3) ≡ Number zero
-    pub bound-there : fieldAt 4 s (st .at + 4) ≡ Number bound
+    pub left-there : fieldAt 1 s (st .at + leftAt) ≡ Number left
+    pub right-there : fieldAt 1 s (st .at + rightAt) ≡ Number right
+    pub zero-there : fieldAt 1 s (st .at + zeroAt) ≡ Number zero
+    pub bound-there : fieldAt 4 s (st .at + boundAt) ≡ Number bound
     pub fine : Fine p (st .tally) operator left right zero bound row
 
   pub row-good : (st : State) (row : Row) → readRow s p st ≡ good row → RowGood st row
@@ -107,18 +101,18 @@ module _ (s : List ℕ) (p : ℕ) where
       }
 
   -- the state past a good row is 8 bytes on, inside the message, at the next place
-  pub rows-stay : (st next : State) → one (rows s p) st ≡ good next → (next .at ≡ st .at + 8) × (next .at ≤ length s) × (next .tally ≡ st .tally + 1)
+  pub rows-stay : (st next : State) → one (rows s p) st ≡ good next → (next .at ≡ st .at + rowWidth) × (next .at ≤ length s) × (next .tally ≡ st .tally + 1)
   rows-stay st next e =
       let r = bind-good _ _ e in
       let g = row-good st (r .value) (r .first) in
       let is = good-same (r .rest) in
-      (rw (← is), rw (← is) (omega (arith, value-inside 4 s (st .at + 4) (g .bound-there))), rw (← is))
+      (rw (← is), rw (← is) (omega (arith, value-inside 4 s (st .at + boundAt) (g .bound-there))), rw (← is))
 
 -- what a good header says of the bytes
 pub record HeaderAt (s : List ℕ) (f : ℕ) : Type 0 where
-  pub opened : readStart s 7 1 3 ≡ good tt
-  pub f-counted : CountAt 1 s 6 1 64 f
-  pub long : length s ≡ 7 + f * 8
+  pub opened : readStart s formulaHead ≡ good tt
+  pub f-counted : CountAt s rowsCount f
+  pub long : length s ≡ formulaLength f
 
 pub header-good : (s : List ℕ) (f : ℕ) → readHeader s ≡ good f → HeaderAt s f
 unfolding readHeader
@@ -127,13 +121,13 @@ header-good s f e =
     let there = bind-good _ _ (opened .1) in
     let long = demand-good _ _ _ (there .rest) in
     subst (HeaderAt s) (good-same (long .1))
-    (record { opened = opened .0; f-counted = count-good _ _ _ _ _ (there .first); long = eqb-true _ _ (long .0) })
+    (record { opened = opened .0; f-counted = count-good _ _ (there .first); long = eqb-true _ _ (long .0) })
 
 -- what a good message says of its parts
 pub record FormulaAt (p : ℕ) (s : List ℕ) (rs : List Row) : Type 0 where
   pub p-most : p ≤ 32
   pub header : readHeader s ≡ good (length rs)
-  pub rows-there : readAll (rows s p) (length rs) (start 7) ≡ good rs
+  pub rows-there : readAll (rows s p) (length rs) (start formulaHeader) ≡ good rs
   pub used : usedOnce rs ≡ true
 
 pub formula-good : (p : ℕ) (s : List ℕ) (rs : List Row) → readFormula p s ≡ good rs → FormulaAt p s rs

@@ -1,58 +1,78 @@
--- A row's judgement by its operator: two tests, of the fields that it doesn't use and of its names. Assumes nothing.
-use Prim.Native.Nat.{ℕ, _+_, _<_, _≤_}
+-- The tests of a row's fields, in terms of the row: the fields that it doesn't use are zero, and its names exist. Assumes nothing.
+use Prim.Native.Nat.{ℕ, _≤_, _<_}
 use mathlib.Core.Bool.{Bool, true, _&&_, and-true}
-use mathlib.Core.Logic.{_⊎_, inl, inr, ⊎-elim}
-use mathlib.Core.Path.{_≡_}
+use mathlib.Core.Path.{_≡_, refl, sym, _∙_}
 use lib.Dec.{eqb, ltb}
-use borrow.Author.Tests.{lt-leb, le-leb, eqb-true, eqb-false}
-use native.Mathlib.Omega.{arith}
-use Rattle.refusal.specs.declared.Refusal.the-variants.{Form, Name}
-use Rattle.lists.specs.Lists.{all}
-use Rattle.lists.proofs.Tests.{by-test}
-use Rattle.wire.specs.Read.{Read, good, bad, _>>_, demand}
-use Rattle.wire.proofs.Reading.{reading}
+use borrow.Author.Tests.{ltb-true, lt-ltb}
+use Rattle.lists.specs.Lists.{_∈_, all}
+use Rattle.lists.proofs.Tests.{and-left, and-right}
+use Rattle.lists.proofs.Lists.{all-true, true-all}
 use Rattle.formula.specs.declared.Row.{Row}
-use Rattle.formula.specs.Rows.{rowOf, spareZero, named}
-use Rattle.formula.specs.Message.{judgeRow}
+use Rattle.formula.specs.Rows.{rowOf, usesLeft, usesRight, usesBound, idle, named, leftLimit, operands, propositions}
+use Rattle.formula.proofs.Spelt.{spareZero, by-operator}
 
--- the row, unless one of the two tests fails
-abbrev pub tested : Bool → Bool → Row → Read Row
-tested spare names row = demand spare Form >> (demand names Name >> good row)
+-- all four fields
+abbrev Spare : (o l r z b : ℕ) → Bool
+Spare o l r z b = idle (usesLeft o) l && (idle (usesRight o) r && (eqb z 0 && idle (usesBound o) b))
 
-module _ (p place o l r z b : ℕ) where
-  tests : {spare names : Bool} → o ≤ 9 → spareZero (rowOf o l r b) l r z b ≡ spare → named p place (rowOf o l r b) ≡ names → judgeRow p place o l r z b ≡ tested spare names (rowOf o l r b)
-  unfolding judgeRow
-  tests known s n = rw (← s, ← n) (simp (reading, le-leb o 9 known))
+spare-is : (o l r z b : ℕ) → o ≤ 9 → spareZero (rowOf o l r b) l r z b ≡ Spare o l r z b
+unfolding rowOf
+spare-is o l r z b =
+    by-operator (λ (o : ℕ). spareZero (rowOf o l r b) l r z b ≡ Spare o l r z b) refl refl refl refl refl refl (simp and-true) (simp and-true) (simp and-true) (simp and-true) o
 
-  -- one of two operators
-  either : (k : ℕ) → k ≤ o → o < k + 2 → (o ≡ k) ⊎ (o ≡ k + 1)
-  either k low high = by-test (eqb o k) (λ e. inl (eqb-true o k e)) (λ e. inr (omega (arith, eqb-false o k e)))
+-- what each test says
+pub record Idle (o l r z b : ℕ) : Type 0 where
+  pub left : idle (usesLeft o) l ≡ true
+  pub right : idle (usesRight o) r ≡ true
+  pub zero : eqb z 0 ≡ true
+  pub bound : idle (usesBound o) b ≡ true
 
-  -- true and false, propositions, and and or, next, until
-  pub judge-constant : o < 2 → judgeRow p place o l r z b ≡ tested (eqb l 0 && (eqb r 0 && (eqb z 0 && eqb b 0))) true (rowOf o l r b)
-  unfolding rowOf all
-  judge-constant h = ⊎-elim (λ e. tests (omega arith) (rw e) (rw e)) (λ e. tests (omega arith) (rw e) (rw e)) (either 0 (omega arith) h)
+module _ (o l r z b : ℕ) (known : o ≤ 9) where
+  pub fields-spare : Idle o l r z b → spareZero (rowOf o l r b) l r z b ≡ true
+  fields-spare i = spare-is o l r z b known ∙ rw (i .left, i .right, i .zero) (i .bound)
 
-  pub judge-proposition : 2 ≤ o → o < 4 → judgeRow p place o l r z b ≡ tested (eqb r 0 && (eqb z 0 && eqb b 0)) (ltb l p) (rowOf o l r b)
-  unfolding rowOf all
-  judge-proposition low h =
-      ⊎-elim (λ e. tests (omega arith) (rw e) (rw e (simp and-true))) (λ e. tests (omega arith) (rw e) (rw e (simp and-true))) (either 2 low h)
+  pub spare-fields : spareZero (rowOf o l r b) l r z b ≡ true → Idle o l r z b
+  spare-fields e =
+      let all = sym (spare-is o l r z b known) ∙ e in
+      let rest = and-right (idle (usesLeft o) l) _ all in
+      let last = and-right (idle (usesRight o) r) _ rest in
+      record { left = and-left _ _ all; right = and-left _ _ rest; zero = and-left _ _ last; bound = and-right (eqb z 0) _ last }
 
-  pub judge-both : 4 ≤ o → o < 6 → judgeRow p place o l r z b ≡ tested (eqb z 0 && eqb b 0) (ltb l place && ltb r place) (rowOf o l r b)
-  unfolding rowOf all
-  judge-both low h =
-      ⊎-elim (λ e. tests (omega arith) (rw e) (rw e (simp and-true))) (λ e. tests (omega arith) (rw e) (rw e (simp and-true))) (either 4 low h)
+-- the names of a row exist: its propositions are below p, and its operands are earlier rows
+abbrev NamesExist : (p place : ℕ) → Row → Bool
+NamesExist p place row = all (λ i. ltb i p) (propositions row) && all (λ l. ltb l place) (operands row)
 
-  pub judge-next : 6 ≤ o → o < 8 → judgeRow p place o l r z b ≡ tested (eqb r 0 && (eqb z 0 && true)) (ltb l place) (rowOf o l r b)
-  unfolding rowOf all
-  judge-next low h =
-      ⊎-elim (λ e. tests (omega arith) (rw e (simp and-true)) (rw e (simp and-true))) (λ e. tests (omega arith) (rw e (simp and-true)) (rw e (simp and-true))) (either 6 low h)
+-- both fields
+abbrev Both : (p place o l r : ℕ) → Bool
+Both p place o l r = named (usesLeft o) l (leftLimit p place o) && named (usesRight o) r place
 
-  pub judge-until : 8 ≤ o → o < 10 → judgeRow p place o l r z b ≡ tested (eqb z 0 && true) (ltb l place && ltb r place) (rowOf o l r b)
-  unfolding rowOf all
-  judge-until low h =
-      ⊎-elim (λ e. tests (omega arith) (rw e (simp and-true)) (rw e (simp and-true))) (λ e. tests (omega arith) (rw e (simp and-true)) (rw e (simp and-true))) (either 8 low h)
+name-fields : (p place o l r b : ℕ) → o ≤ 9 → NamesExist p place (rowOf o l r b) ≡ Both p place o l r
+unfolding rowOf all
+name-fields p place o l r b =
+    by-operator (λ (o : ℕ). NamesExist p place (rowOf o l r b) ≡ Both p place o l r)
+    refl refl (simp and-true) (simp and-true) (simp and-true) (simp and-true) (simp and-true) (simp and-true) (simp and-true) (simp and-true) o
 
-  pub judge-unknown : 9 < o → judgeRow p place o l r z b ≡ bad Form
-  unfolding judgeRow
-  judge-unknown h = simp (reading, lt-leb o 9 h)
+pub record Named (p place : ℕ) (row : Row) : Type 0 where
+  pub existing : {q : ℕ} → q ∈ propositions row → q < p
+  pub earlier : {l : ℕ} → l ∈ operands row → l < place
+
+module _ (p place o l r b : ℕ) (known : o ≤ 9) where
+  pub fields-named : named (usesLeft o) l (leftLimit p place o) ≡ true → named (usesRight o) r place ≡ true → Named p place (rowOf o l r b)
+  fields-named left right =
+      let row = rowOf o l r b in
+      let e : NamesExist p place row ≡ true = name-fields p place o l r b known ∙ rw left right in
+      let qs = all (λ q. ltb q p) (propositions row) in
+      let ls = all (λ l. ltb l place) (operands row) in
+      record {
+        existing = λ {q} m. ltb-true q p (all-true _ _ (and-left qs ls e) q m);
+        earlier = λ {l} m. ltb-true l place (all-true _ _ (and-right qs ls e) l m);
+      }
+
+  pub named-fields : Named p place (rowOf o l r b) → (named (usesLeft o) l (leftLimit p place o) ≡ true) × (named (usesRight o) r place ≡ true)
+  named-fields n =
+      let row = rowOf o l r b in
+      let exist : NamesExist p place row ≡ true =
+      rw (true-all (λ q. ltb q p) (propositions row) (λ q m. lt-ltb q p (n .existing m)))
+      (true-all (λ l. ltb l place) (operands row) (λ l m. lt-ltb l place (n .earlier m))) in
+      let both = sym (name-fields p place o l r b known) ∙ exist in
+      (and-left _ _ both, and-right (named (usesLeft o) l (leftLimit p place o)) _ both)

@@ -1,6 +1,6 @@
 -- The fields of a row: those that it is written with, and that fields without a fault are those of their row. Assumes nothing.
 use Prim.Native.Nat.{ℕ, zero, suc, _^_, _≤_, _<_}
-use mathlib.Core.Bool.{true, _&&_}
+use mathlib.Core.Bool.{Bool, true, _&&_}
 use mathlib.Core.List.{_++_}
 use mathlib.Core.Path.{_≡_, refl, ap}
 use native.Mathlib.Omega.{arith}
@@ -11,10 +11,11 @@ use Rattle.lists.proofs.Tests.{and-left, and-right}
 use Rattle.value.specs.Coded.{codeOf}
 use Rattle.value.proofs.Coded.{code-bound, bound-sayable, bound-code, code-fits}
 use Rattle.wire.proofs.Bytes.{length-bytes}
+use Rattle.formula.specs.Format.{rowWidth}
 use Rattle.formula.specs.declared.Quantifier.the-variants.{Some, Every}
 use Rattle.formula.specs.declared.Row.{Row}
 use Rattle.formula.specs.declared.Row.the-variants.{True, False, Proposition, Negation, And, Or, Next, Until}
-use Rattle.formula.specs.Rows.{rowOf, spareZero, operands, propositions}
+use Rattle.formula.specs.Rows.{rowOf, operands, propositions}
 use Rattle.formula.specs.Write.{fields, writeRow}
 use Rattle.formula.specs.WellFormed.{SayableRow}
 
@@ -24,6 +25,17 @@ left row = getD (propositions row ++ operands row) 0 0
 
 abbrev pub right : Row → ℕ
 right row = getD (propositions row ++ operands row) 1 0
+
+-- the fields that the row doesn't use, of left, right, zero and bound, are zero; zero is never used
+abbrev pub spareZero : Row → (left right zero bound : ℕ) → Bool
+spareZero True l r z b = eqb l 0 && (eqb r 0 && (eqb z 0 && eqb b 0))
+spareZero False l r z b = eqb l 0 && (eqb r 0 && (eqb z 0 && eqb b 0))
+spareZero (Proposition i) l r z b = eqb r 0 && (eqb z 0 && eqb b 0)
+spareZero (Negation i) l r z b = eqb r 0 && (eqb z 0 && eqb b 0)
+spareZero (And x y) l r z b = eqb z 0 && eqb b 0
+spareZero (Or x y) l r z b = eqb z 0 && eqb b 0
+spareZero (Next q x k) l r z b = eqb r 0 && eqb z 0
+spareZero (Until q x y k) l r z b = eqb z 0
 
 -- the fields that a row is written with give the row back, and those that it doesn't use are zero
 pub record Spelt (row : Row) : Type 0 where
@@ -52,7 +64,7 @@ spelt (Until Some l r b) =
 spelt (Until Every l r b) =
     record { operator = 9; code = codeOf b; written = refl; known = omega arith; spare = refl; is = λ s. ap (Until Every l r) (bound-code b s); fits = code-fits b }
 
-pub row-length : (row : Row) → length (writeRow row) ≡ 8
+pub row-length : (row : Row) → length (writeRow row) ≡ rowWidth
 row-length row = rw (spelt row .written) (simp (length-append, length-bytes))
 
 -- a row without fault is written with the fields that it was read from, whose names and bound it has
@@ -63,7 +75,7 @@ pub record Said (o l r z b : ℕ) (row : Row) : Type 0 where
   pub right-below : (k : ℕ) → 0 < k → r < k → right row < k
 
 -- by which operator it is
-by-operator : (P : ℕ → Type 0) → P 0 → P 1 → P 2 → P 3 → P 4 → P 5 → P 6 → P 7 → P 8 → P 9 → (o : ℕ) → o ≤ 9 → P o
+pub by-operator : (P : ℕ → Type 0) → P 0 → P 1 → P 2 → P 3 → P 4 → P 5 → P 6 → P 7 → P 8 → P 9 → (o : ℕ) → o ≤ 9 → P o
 by-operator P p0 p1 p2 p3 p4 p5 p6 p7 p8 p9 zero h = p0
 by-operator P p0 p1 p2 p3 p4 p5 p6 p7 p8 p9 (suc zero) h = p1
 by-operator P p0 p1 p2 p3 p4 p5 p6 p7 p8 p9 (suc (suc zero)) h = p2

@@ -13,6 +13,7 @@ use borrow.Author.Tests.{eqb-true, eqb-false}
 use Rattle.lists.specs.Lists.{all, upTo}
 use Rattle.wire.specs.Layout.{items}
 use Rattle.wire.proofs.Layouts.{items-more}
+use Rattle.formula.specs.Format.{rowWidth}
 use Rattle.formula.specs.declared.Row.{Row}
 use Rattle.formula.specs.declared.Row.the-variants.{True, False, Proposition, Negation, And, Or, Next, Until}
 use Rattle.formula.specs.Rows.{operands, times, uses}
@@ -62,7 +63,7 @@ pub row-few : (i : ℕ) (row : Row) → times i (operands row) ≤ 2
 row-few i row = omega (arith, times-few i (operands row), operands-few row)
 
 -- a loop's turn over rows by position
-pub uses-more : (s : List ℕ) (i k at : ℕ) → 0 < k → uses i (items (rowLayout s) k at) ≡ times i (operands (rowAt s at)) + uses i (items (rowLayout s) (k - 1) (at + 8))
+pub uses-more : (s : List ℕ) (i k at : ℕ) → 0 < k → uses i (items (rowLayout s) k at) ≡ times i (operands (rowAt s at)) + uses i (items (rowLayout s) (k - 1) (at + rowWidth))
 unfolding uses
 uses-more s i k at h = rw (items-more (rowLayout s) k at h)
 

@@ -6,17 +6,18 @@ use Rattle.lists.specs.Lists.{_∈_}
 use Rattle.wire.specs.Bytes.{number}
 use Rattle.wire.specs.Layout.{Layout}
 use Rattle.formula.specs.declared.Row.{Row}
+use Rattle.formula.specs.Format.{leftAt, rightAt, boundAt, rowWidth}
 use Rattle.formula.specs.Rows.{rowOf, operands}
 
 -- the row of the fields at a position
 abbrev pub rowAt : List ℕ → ℕ → Row
-rowAt s at = rowOf (number 1 s at) (number 1 s (at + 1)) (number 1 s (at + 2)) (number 4 s (at + 4))
+rowAt s at = rowOf (number 1 s at) (number 1 s (at + leftAt)) (number 1 s (at + rightAt)) (number 4 s (at + boundAt))
 
--- a row: its 8 bytes fit, and its operands are among 64 rows
+-- a row: its bytes fit, and its operands are among 64 rows
 pub record RowOk (s : List ℕ) (at : ℕ) : Type 0 where
-  pub inside : at + 8 ≤ length s
+  pub inside : at + rowWidth ≤ length s
   pub small : {l : ℕ} → l ∈ operands (rowAt s at) → l < 64
 
--- rows, 8 bytes each
+-- rows, one behind another
 abbrev pub rowLayout : List ℕ → Layout Row
-rowLayout s = record { item = rowAt s; next = λ at. at + 8; Ok = RowOk s }
+rowLayout s = record { item = rowAt s; next = λ at. at + rowWidth; Ok = RowOk s }

@@ -8,45 +8,49 @@ use Rattle.refusal.specs.declared.Refusal.the-variants.{Length, Limit, Name, Fo
 use Rattle.wire.specs.Read.{Read, good, _>>=_, _>>_, demand, field}
 use Rattle.wire.specs.Reader.{Reader, readAll}
 use Rattle.wire.specs.Start.{readStart}
-use Rattle.wire.specs.Counts.{countAt}
+use Rattle.wire.specs.Counts.{readCount}
 use Rattle.wire.specs.Step.{start}
 use Rattle.wire.specs.declared.State.{State}
 use Rattle.formula.specs.declared.Row.{Row}
-use Rattle.formula.specs.Rows.{rowOf, spareZero, named, usedOnce}
+use Rattle.formula.specs.Format.{formulaHeader, formulaHead, rowsCount, leftAt, rightAt, zeroAt, boundAt, rowWidth, formulaLength}
+use Rattle.formula.specs.Rows.{rowOf, usesLeft, usesRight, usesBound, idle, named, leftLimit, usedOnce}
 
--- unknown operator FORM; an unused field not zero FORM; then left and right NAME
+-- field by field: unknown operator FORM; the first unused field not zero FORM; then left and right NAME
 unfoldable pub judgeRow : (p place operator left right spare bound : ℕ) → Read Row
 judgeRow p place operator left right spare bound = do
   demand (leb operator 9) Form
-  let row = rowOf operator left right bound
-  demand (spareZero row left right spare bound) Form
-  demand (named p place row) Name
-  good row
+  demand (idle (usesLeft operator) left) Form
+  demand (idle (usesRight operator) right) Form
+  demand (eqb spare 0) Form
+  demand (idle (usesBound operator) bound) Form
+  demand (named (usesLeft operator) left (leftLimit p place operator)) Name
+  demand (named (usesRight operator) right place) Name
+  good (rowOf operator left right bound)
 
 -- a row: operator (1), left (1), right (1), zero (1), bound (4)
 unfoldable pub readRow : List ℕ → ℕ → State → Read Row
 readRow s p st = do
   operator ← field 1 s (st .at)
-  left ← field 1 s (st .at + 1)
-  right ← field 1 s (st .at + 2)
-  spare ← field 1 s (st .at + 3)
-  bound ← field 4 s (st .at + 4)
+  left ← field 1 s (st .at + leftAt)
+  right ← field 1 s (st .at + rightAt)
+  spare ← field 1 s (st .at + zeroAt)
+  bound ← field 4 s (st .at + boundAt)
   judgeRow p (st .tally) operator left right spare bound
 
--- the rows, 8 bytes each; the place rises by one
+-- the rows, one behind another; the place rises by one
 abbrev pub rows : List ℕ → ℕ → Reader State Row
 rows s p = record {
   position = λ st. st .at;
   read = readRow s p;
-  next = λ st row. record { at = st .at + 8; prev = st .prev; tally = st .tally + 1 };
+  next = λ st row. record { at = st .at + rowWidth; prev = st .prev; tally = st .tally + 1 };
 }
 
--- the header, 7 bytes, version 1, kind 3: then the row count (1); then the message is exactly as long as that says
+-- the header: its start, then the row count; then the message is exactly as long as that says
 unfoldable pub readHeader : List ℕ → Read ℕ
 readHeader s = do
-  readStart s 7 1 3
-  f ← countAt 1 s 6 1 64
-  demand (eqb (length s) (7 + f * 8)) Length
+  readStart s formulaHead
+  f ← readCount s rowsCount
+  demand (eqb (length s) (formulaLength f)) Length
   good f
 
 -- a whole message: the p handed in comes before any byte; the header, the rows, and after all of them the rule of use
@@ -54,6 +58,6 @@ unfoldable pub readFormula : ℕ → List ℕ → Read (List Row)
 readFormula p s = do
   demand (leb p 32) Limit
   f ← readHeader s
-  rs ← readAll (rows s p) f (start 7)
+  rs ← readAll (rows s p) f (start formulaHeader)
   demand (usedOnce rs) Form
   good rs

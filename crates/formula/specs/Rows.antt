@@ -1,9 +1,9 @@
 -- The rows of a formula message.
 use Prim.Native.Nat.{ℕ, _+_, _-_}
 use mathlib.Core.List.{List, [], _∷_}
-use mathlib.Core.Bool.{Bool, cond, _&&_}
+use mathlib.Core.Bool.{Bool, true, cond, _||_}
 use lib.ListN.{length}
-use lib.Dec.{eqb, ltb}
+use lib.Dec.{eqb, ltb, leb}
 use Rattle.lists.specs.Lists.{all, upTo}
 use Rattle.value.specs.Coded.{boundOf}
 use Rattle.formula.specs.declared.Quantifier.the-variants.{Some, Every}
@@ -24,16 +24,29 @@ rowOf o l r b =
     (cond (eqb o 8) (Until Some l r (boundOf b))
     (Until Every l r (boundOf b))))))))))
 
--- the fields that the row doesn't use, of left, right, zero and bound, are zero; zero is never used
-abbrev pub spareZero : Row → (left right zero bound : ℕ) → Bool
-spareZero True l r z b = eqb l 0 && (eqb r 0 && (eqb z 0 && eqb b 0))
-spareZero False l r z b = eqb l 0 && (eqb r 0 && (eqb z 0 && eqb b 0))
-spareZero (Proposition i) l r z b = eqb r 0 && (eqb z 0 && eqb b 0)
-spareZero (Negation i) l r z b = eqb r 0 && (eqb z 0 && eqb b 0)
-spareZero (And x y) l r z b = eqb z 0 && eqb b 0
-spareZero (Or x y) l r z b = eqb z 0 && eqb b 0
-spareZero (Next q x k) l r z b = eqb r 0 && eqb z 0
-spareZero (Until q x y k) l r z b = eqb z 0
+-- of the fields of a row: left is used by all operators but true and false
+abbrev pub usesLeft : (operator : ℕ) → Bool
+usesLeft o = leb 2 o
+
+-- right by and, or and the untils
+abbrev pub usesRight : (operator : ℕ) → Bool
+usesRight o = cond (ltb o 6) (leb 4 o) (leb 8 o)
+
+-- the bound by EX, AX and the untils
+abbrev pub usesBound : (operator : ℕ) → Bool
+usesBound o = leb 6 o
+
+-- a field that is not used is zero
+abbrev pub idle : (used : Bool) → (field : ℕ) → Bool
+idle used field = used || eqb field 0
+
+-- a field that is used names one of so many
+abbrev pub named : (used : Bool) → (field limit : ℕ) → Bool
+named used field limit = cond used (ltb field limit) true
+
+-- left names a proposition below p, or an operand, which must be an earlier row
+abbrev pub leftLimit : (p place operator : ℕ) → ℕ
+leftLimit p place o = cond (ltb o 4) p place
 
 -- the rows that a row has for operands
 abbrev pub operands : Row → List ℕ
@@ -56,10 +69,6 @@ propositions (And l r) = []
 propositions (Or l r) = []
 propositions (Next q l b) = []
 propositions (Until q l r b) = []
-
--- a proposition exists below p, and an operand must be an earlier row
-abbrev pub named : (p place : ℕ) → Row → Bool
-named p place row = all (λ i. ltb i p) (propositions row) && all (λ l. ltb l place) (operands row)
 
 -- how often a number stands in a list
 unfoldable pub times : ℕ → List ℕ → ℕ

@@ -5,6 +5,7 @@ use lib.ListN.{length}
 use Rattle.value.specs.Coded.{codeOf}
 use Rattle.wire.specs.Bytes.{bytes}
 use Rattle.wire.specs.Write.{writeAll, message}
+use Rattle.formula.specs.Format.{formulaHead}
 use Rattle.formula.specs.declared.Quantifier.the-variants.{Some, Every}
 use Rattle.formula.specs.declared.Row.{Row}
 use Rattle.formula.specs.declared.Row.the-variants.{True, False, Proposition, Negation, And, Or, Next, Until}
@@ -28,4 +29,4 @@ writeRow (Until Every l r b) = fields 9 l r 0 (codeOf b)
 
 -- the row count (1), and the rows
 unfoldable pub writeFormula : List Row → List ℕ
-writeFormula rows = message 1 3 (bytes 1 (length rows) ++ writeAll writeRow rows)
+writeFormula rows = message formulaHead (bytes 1 (length rows) ++ writeAll writeRow rows)

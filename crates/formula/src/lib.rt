@@ -1,18 +1,14 @@
 // The check of a formula message against a number of propositions: the first fault in the paper's order, or how many rows it has.
 ghost use mathlib.Core.Path.{_≡_};
 ghost use Prim.Native.Nat.{ℕ, _+_, _*_, _≤_, _<_};
-ghost use mathlib.Core.Bool.{_&&_};
 ghost use mathlib.Core.List.{List, [], _∷_};
-ghost use lib.Dec.{eqb, ltb};
 ghost use lib.ListN.{length, getD};
 ghost use Rattle.lists.specs.Lists.{_∈_};
-ghost use Rattle.refusal.specs.declared.Refusal.the-variants as fault;
 ghost use Rattle.wire.specs.declared.State.{State};
 ghost use Rattle.wire.specs.declared.Step.the-variants.{Next};
 ghost use Rattle.wire.specs.declared.Field.the-variants.{Number};
 ghost use Rattle.wire.specs.Field.{fieldAt};
 ghost use Rattle.wire.specs.Layout.{items};
-ghost use Rattle.wire.specs.Read as read;
 ghost use Rattle.wire.specs.Reader.{one, run};
 ghost use Rattle.wire.specs.Step.{step};
 ghost use Rattle.formula.specs.declared.Row.{Row};
@@ -20,14 +16,44 @@ ghost use Rattle.formula.specs.Rows as rows;
 ghost use Rattle.formula.specs.Message as m;
 ghost use Rattle.formula.specs.Layouts.{rowAt, rowLayout};
 ghost use Rattle.formula.specs.Answers as answers;
+ghost use Rattle.formula.specs.Format.{boundAt, rowWidth};
 use refusal::Refusal;
 use value::Bound;
+use wire::Count;
 use wire::Counted;
 use wire::Field;
+use wire::Head;
 use wire::Opened;
 use wire::State;
 use wire::Step;
 use wire::Width;
+
+// The header of a formula message, and its count.
+pub const HEADER: usize = 7;
+
+const HEAD: Head = Head {
+    length: HEADER,
+    version: 1,
+    kind: 3,
+};
+
+const ROWS: Count = Count {
+    at: 6,
+    width: Width::One,
+    least: 1,
+    most: 64,
+};
+
+// Where the fields of a row stand behind its operator, and how wide it is.
+pub const LEFT_AT: usize = 1;
+
+pub const RIGHT_AT: usize = LEFT_AT + 1;
+
+pub const ZERO_AT: usize = RIGHT_AT + 1;
+
+pub const BOUND_AT: usize = ZERO_AT + 1;
+
+pub const ROW: usize = BOUND_AT + 4;
 
 // On some run, or on every run; some transition, or every transition.
 pub enum Quantifier {
@@ -89,73 +115,116 @@ fn row_of(operator: u32, left: u32, right: u32, bound: u32) -> Row
     }
 }
 
-// Whether four numbers are all zero.
-fn all_zero(a: u32, b: u32, c: u32, d: u32) -> bool
-    ensures { λ r. ⌜ r ≡ (eqb a 0 && (eqb b 0 && (eqb c 0 && eqb d 0))) ⌝ }
+// Whether an operator uses the field right: and, or, and the untils do.
+fn uses_right(operator: u32) -> bool
+    ensures { λ r. ⌜ r ≡ rows.usesRight operator ⌝ }
 {
-    if a != 0 {
-        return false;
+    if operator < 6 {
+        return 4 <= operator;
     }
-    if b != 0 {
-        return false;
-    }
-    if c != 0 {
-        return false;
-    }
-    d == 0
+    8 <= operator
 }
 
-// Whether both operands are below the row's own place.
-fn both_below(left: u32, right: u32, place: u32) -> bool
-    ensures { λ r. ⌜ r ≡ (ltb left place && ltb right place) ⌝ }
+// Whether a field that an operator doesn't use is zero; one that it uses may be any number.
+fn idle(used: bool, field: u32) -> bool
+    ensures { λ r. ⌜ r ≡ rows.idle used field ⌝ }
 {
-    left < place && right < place
+    if used {
+        return true;
+    }
+    field == 0
 }
 
-// The row, or its first fault: whether the fields that it doesn't use are zero comes before whether its names exist.
-fn first_fault(spare: bool, named: bool, row: Row) -> Judged
-    ensures { λ r. ⌜ r ≡ answers.judged (read._>>_ (read.demand spare fault.Form) (read._>>_ (read.demand named fault.Name) (read.good row))) ⌝ }
+// The names that left may have: the propositions, or the earlier rows.
+fn left_limit(p: u32, place: u32, operator: u32) -> u32
+    ensures { λ r. ⌜ r ≡ rows.leftLimit p place operator ⌝ }
 {
-    if !spare {
-        return Judged::Refused(Refusal::Form);
-    }
-    if !named {
-        return Judged::Refused(Refusal::Name);
-    }
-    Judged::Fine(row)
+    if operator < 4 { p } else { place }
 }
 
-// The row of these fields at a place, or its first fault; of the fields that should be zero, one that the row uses counts as zero.
+// Whether a field that names something names one of so many.
+fn named(used: bool, field: u32, limit: u32) -> bool
+    ensures { λ r. ⌜ r ≡ rows.named used field limit ⌝ }
+{
+    if used {
+        return field < limit;
+    }
+    true
+}
+
+// The row of these fields at a place, or its first fault, field by field.
 fn judge(p: u32, place: u32, operator: u32, left: u32, right: u32, zero: u32, bound: u32) -> Judged
     ensures { λ r. ⌜ r ≡ answers.judged (m.judgeRow p place operator left right zero bound) ⌝ }
 {
-    let row = row_of(operator, left, right, bound);
-    match operator {
-        0 | 1 => first_fault(all_zero(left, right, zero, bound), true, row),
-        2 | 3 => first_fault(all_zero(0, right, zero, bound), left < p, row),
-        4 | 5 => first_fault(
-            all_zero(0, 0, zero, bound),
-            both_below(left, right, place),
-            row,
-        ),
-        6 | 7 => first_fault(all_zero(0, right, zero, 0), left < place, row),
-        8 | 9 => first_fault(all_zero(0, 0, zero, 0), both_below(left, right, place), row),
-        _ => Judged::Refused(Refusal::Form),
+    if 9 < operator {
+        return Judged::Refused(Refusal::Form);
     }
+    let with_left = 2 <= operator;
+    let with_right = uses_right(operator);
+    let with_bound = 6 <= operator;
+    if !idle(with_left, left) {
+        return Judged::Refused(Refusal::Form);
+    }
+    if !idle(with_right, right) {
+        return Judged::Refused(Refusal::Form);
+    }
+    if zero != 0 {
+        return Judged::Refused(Refusal::Form);
+    }
+    if !idle(with_bound, bound) {
+        return Judged::Refused(Refusal::Form);
+    }
+    if !named(with_left, left, left_limit(p, place, operator)) {
+        return Judged::Refused(Refusal::Name);
+    }
+    if !named(with_right, right, place) {
+        return Judged::Refused(Refusal::Name);
+    }
+    Judged::Fine(row_of(operator, left, right, bound))
+}
+
+// The same, with a branch for each kind of operator: so the compiler knows in each which fields are used.
+fn judge_kind(
+    p: u32,
+    place: u32,
+    operator: u32,
+    left: u32,
+    right: u32,
+    zero: u32,
+    bound: u32,
+) -> Judged
+    ensures { λ r. ⌜ r ≡ answers.judged (m.judgeRow p place operator left right zero bound) ⌝ }
+{
+    if operator <= 1 {
+        return judge(p, place, operator, left, right, zero, bound);
+    }
+    if operator <= 3 {
+        return judge(p, place, operator, left, right, zero, bound);
+    }
+    if operator <= 5 {
+        return judge(p, place, operator, left, right, zero, bound);
+    }
+    if operator <= 7 {
+        return judge(p, place, operator, left, right, zero, bound);
+    }
+    if operator <= 9 {
+        return judge(p, place, operator, left, right, zero, bound);
+    }
+    Judged::Refused(Refusal::Form)
 }
 
 // The header, and that the message is as long as its count says.
 fn header(s: &[u8]) -> Checked
     ensures { λ r. ⌜ r ≡ answers.counted (m.readHeader (now (s .entry))) ⌝ }
 {
-    if let Opened::Refused(e) = wire::open(s, 7, 1, 3) {
+    if let Opened::Refused(e) = wire::open(s, HEAD) {
         return Checked::Refused(e);
     }
-    let f = match wire::count_at(s, 6, Width::One, 1, 64) {
+    let f = match wire::read_count(s, ROWS) {
         Counted::Count(f) => f,
         Counted::Refused(e) => return Checked::Refused(e),
     };
-    if s.len() != 7 + (f as usize) * 8 {
+    if s.len() != HEADER + (f as usize) * ROW {
         return Checked::Refused(Refusal::Length);
     }
     Checked::Formula(f)
@@ -163,13 +232,13 @@ fn header(s: &[u8]) -> Checked
 
 // The row that stands at a position of an accepted message.
 pub fn row_at(s: &[u8], at: usize) -> Row
-    requires { ⌜ at + 8 ≤ length (now s) ⌝ }
+    requires { ⌜ at + rowWidth ≤ length (now s) ⌝ }
     ensures { λ r. ⌜ r ≡ rowAt (now (s .entry)) at ⌝ }
 {
     let operator = wire::number_at(s, at, Width::One);
-    let left = wire::number_at(s, at + 1, Width::One);
-    let right = wire::number_at(s, at + 2, Width::One);
-    let bound = wire::number_at(s, at + 4, Width::Four);
+    let left = wire::number_at(s, at + LEFT_AT, Width::One);
+    let right = wire::number_at(s, at + RIGHT_AT, Width::One);
+    let bound = wire::number_at(s, at + BOUND_AT, Width::Four);
     row_of(operator, left, right, bound)
 }
 
@@ -199,7 +268,7 @@ fn count_row(counts: &mut [u8], row: Row)
 
 // One row, whose last field is there, and so are those before it; and the uses that it makes of others.
 fn one_row(s: &[u8], p: u32, bound: u32, st: State, counts: &mut [u8]) -> Step
-    requires { ⌜ fieldAt 4 (now s) (st .at + 4) ≡ Number bound ⌝ }
+    requires { ⌜ fieldAt 4 (now s) (st .at + boundAt) ≡ Number bound ⌝ }
     requires { ⌜ (st .tally < 64) × (length (now counts) ≡ 64) × ((i : ℕ) → getD (now counts) i 0 < 254) ⌝ }
     ensures { λ r. ⌜ r ≡ step (one (m.rows (now (s .entry)) p) st) ⌝ }
     ensures { λ r. ⌜ ((next : State) → r ≡ Next next → (i : ℕ)
@@ -207,18 +276,18 @@ fn one_row(s: &[u8], p: u32, bound: u32, st: State, counts: &mut [u8]) -> Step
 {
     let at = st.at;
     let operator = wire::number_at(s, at, Width::One);
-    let left_at = at + 1;
+    let left_at = at + LEFT_AT;
     let left = wire::number_at(s, left_at, Width::One);
-    let right_at = at + 2;
+    let right_at = at + RIGHT_AT;
     let right = wire::number_at(s, right_at, Width::One);
-    let zero_at = at + 3;
+    let zero_at = at + ZERO_AT;
     let zero = wire::number_at(s, zero_at, Width::One);
-    let row = match judge(p, st.tally, operator, left, right, zero, bound) {
+    let row = match judge_kind(p, st.tally, operator, left, right, zero, bound) {
         Judged::Fine(row) => row,
         Judged::Refused(e) => return Step::Refused(e),
     };
     count_row(counts, row);
-    let end = at + 8;
+    let end = at + ROW;
     let place = st.tally + 1;
     Step::Next(State {
         at: end,
@@ -229,15 +298,15 @@ fn one_row(s: &[u8], p: u32, bound: u32, st: State, counts: &mut [u8]) -> Step
 
 // The k rows up to the end of the message, and how often each is an operand: where no last field fits, none is left.
 fn all_rows(s: &[u8], p: u32, first: State, counts: &mut [u8]) -> Step
-    requires { ⌜ (first .at ≤ length (now s)) × (length (now s) + first .tally * 8 ≤ first .at + 512) ⌝ }
+    requires { ⌜ (first .at ≤ length (now s)) × (length (now s) + first .tally * rowWidth ≤ first .at + 64 * rowWidth) ⌝ }
     requires { ⌜ (length (now counts) ≡ 64) × ((i : ℕ) → getD (now counts) i 0 ≡ 0) ⌝ }
-    ensures { λ r. ⌜ ((k : ℕ) → first .at + k * 8 ≡ length (now (s .entry)) → r ≡ step (run (m.rows (now (s .entry)) p) k first)) ⌝ }
-    ensures { λ r. ⌜ ((k : ℕ) → first .at + k * 8 ≡ length (now (s .entry)) → (last : State) → r ≡ Next last → (i : ℕ)
+    ensures { λ r. ⌜ ((k : ℕ) → first .at + k * rowWidth ≡ length (now (s .entry)) → r ≡ step (run (m.rows (now (s .entry)) p) k first)) ⌝ }
+    ensures { λ r. ⌜ ((k : ℕ) → first .at + k * rowWidth ≡ length (now (s .entry)) → (last : State) → r ≡ Next last → (i : ℕ)
         → getD (now (counts .exit)) i 0 ≡ rows.uses i (items (rowLayout (now (s .entry))) k (first .at))) ⌝ }
 {
     let mut st = first;
     loop {
-        let bound_at = st.at + 4;
+        let bound_at = st.at + BOUND_AT;
         let Field::Number(bound) = wire::read(s, bound_at, Width::Four) else {
             return Step::Next(st);
         };
@@ -281,7 +350,7 @@ pub fn check(s: &[u8], p: u32) -> Checked
         s,
         p,
         State {
-            at: 7,
+            at: HEADER,
             prev: 0,
             tally: 0,
         },

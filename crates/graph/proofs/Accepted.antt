@@ -13,6 +13,7 @@ use Rattle.rules.specs.Graph.{Graph, Hyper, Cover, Target}
 use Rattle.wire.specs.declared.State.{State}
 use Rattle.value.specs.Coded.{boundOf}
 use Rattle.wire.specs.Step.{start}
+use Rattle.graph.specs.Format.{graphHeader, targetCountAt, hyperWidth, nodeAt, targetWidth, coverBoundAt, coverTargetAt}
 use Rattle.graph.specs.Message.{readTarget, readHyper, readCover, readGraph, targets, hypers, covers, firstTarget}
 use Rattle.graph.specs.Layouts.{targetLayout, hyperLayout, coverLayout, decoded, Scannable}
 use Rattle.graph.proofs.Good.{target-good, hyper-good, cover-good, graph-good}
@@ -22,22 +23,22 @@ module _ (s : List ℕ) (n : ℕ) where
   targets-read st t e =
       let g = target-good s n st t e in
       let w : number 4 s (st .at) ≡ t .weight = value-is 4 s _ (g .weight-there) in
-      let v : number 2 s (st .at + 4) ≡ t .node = value-is 2 s _ (g .node-there) in
+      let v : number 2 s (st .at + nodeAt) ≡ t .node = value-is 2 s _ (g .node-there) in
       record {
         item-is = λ i. record { weight = sym w i; node = sym v i };
         next-is = refl;
-        ok = record { inside = omega (arith, value-inside 2 s (st .at + 4) (g .node-there)); named = rw v (g .named) };
+        ok = record { inside = omega (arith, value-inside 2 s (st .at + nodeAt) (g .node-there)); named = rw v (g .named) };
       }
 
   hypers-read : (st : State) (h : Hyper) → readHyper s n st ≡ good h → Reads (hyperLayout s n) (hypers s n) st h
   hypers-read st h e =
       let g = hyper-good s n st h e in
       let source : number 2 s (st .at) ≡ h .source = value-is 2 s _ (g .source-there) in
-      let count : number 2 s (st .at + 2) ≡ length (h .targets) = value-is 2 s _ (g .count-there) in
+      let count : number 2 s (st .at + targetCountAt) ≡ length (h .targets) = value-is 2 s _ (g .count-there) in
       let ts = reads-all (targetLayout s n) (targets s n) targets-read _ (firstTarget st) _ (g .targets-there) in
       record {
-        item-is = λ i. record { source = sym source i; targets = (ts .items-are ∙ ap (λ (k : ℕ). items (targetLayout s n) k (st .at + 4)) (sym count)) i };
-        next-is = ap (λ (k : ℕ). st .at + 4 + k * 6) (sym count);
+        item-is = λ i. record { source = sym source i; targets = (ts .items-are ∙ ap (λ (k : ℕ). items (targetLayout s n) k (st .at + hyperWidth)) (sym count)) i };
+        next-is = ap (λ (k : ℕ). st .at + hyperWidth + k * targetWidth) (sym count);
         ok = record {
           inside = omega (arith, g .inside);
           named = rw source (g .named);
@@ -49,13 +50,13 @@ module _ (s : List ℕ) (n : ℕ) where
   covers-read st c e =
       let g = cover-good s n st c e in
       let source : number 2 s (st .at) ≡ c .source = value-is 2 s _ (g .source-there) in
-      let code : number 4 s (st .at + 2) ≡ g .code = value-is 4 s _ (g .bound-there) in
-      let target : number 2 s (st .at + 6) ≡ c .target = value-is 2 s _ (g .target-there) in
+      let code : number 4 s (st .at + coverBoundAt) ≡ g .code = value-is 4 s _ (g .bound-there) in
+      let target : number 2 s (st .at + coverTargetAt) ≡ c .target = value-is 2 s _ (g .target-there) in
       record {
         item-is = λ i. record { source = sym source i; bound = (g .bound-is ∙ ap boundOf (sym code)) i; target = sym target i };
         next-is = refl;
         ok = record {
-          inside = omega (arith, value-inside 2 s (st .at + 6) (g .target-there));
+          inside = omega (arith, value-inside 2 s (st .at + coverTargetAt) (g .target-there));
           named = rw source (g .named);
           target-named = rw target (g .target-named);
         };
@@ -71,7 +72,7 @@ unfolding decoded
 holds s g e =
     let p = graph-good {s = s} {g = g} e in
     let n = g .nodes in
-    let hypers-hold = reads-all (hyperLayout s n) (hypers s n) (hypers-read s n) _ (start 14) _ (p .hypers-there) in
+    let hypers-hold = reads-all (hyperLayout s n) (hypers s n) (hypers-read s n) _ (start graphHeader) _ (p .hypers-there) in
     let covers-hold = reads-all (coverLayout s n) (covers s n) (covers-read s n) _ _ _ (p .covers-there) in
     let middle = hypers-hold .end-is in
     record {

@@ -8,7 +8,7 @@ use Rattle.graph.specs.Message.{Counts}
 use Rattle.graph.specs.Answers.{counted, checked}
 use Rattle.graph.specs.declared.Checked.the-variants as Checked
 
-pub counted-graph : (x : Read Counts) {n h c : ℕ} → counted x ≡ Checked.Graph n h c → x ≡ good (record { n = n; h = h; c = c })
+pub counted-graph : (x : Read Counts) {n h c t : ℕ} → counted x ≡ Checked.Graph n h c t → x ≡ good (record { n = n; h = h; c = c })
 unfolding counted
 counted-graph (good a) {n} {h} {c} e =
     let pn : a .n ≡ n = cc in

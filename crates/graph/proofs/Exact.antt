@@ -7,6 +7,7 @@ use native.Mathlib.Omega.{arith}
 use lib.ListN.{length, drop, length-append}
 use borrow.Author.Tests.{lt-ltb, le-leb, eq-eqb}
 use Rattle.lists.specs.Lists.{_∈_}
+use Rattle.wire.specs.Start.{startWidth}
 use Rattle.wire.specs.Bytes.{bytes, Bytes}
 use Rattle.wire.specs.Read.{good, field}
 use Rattle.wire.specs.Reader.{past}
@@ -20,8 +21,9 @@ use Rattle.rules.specs.Graph.{Graph, Hyper, Cover, Target}
 use Rattle.wire.specs.declared.State.{State}
 use Rattle.value.specs.Coded.{codeOf, Sayable}
 use Rattle.wire.specs.Step.{start}
+use Rattle.graph.specs.Format.{graphHeader, graphHead, nodesCount, hypersCount, coversCount, mostTargets, targetCountAt, hyperWidth, nodeAt, targetWidth, coverBoundAt, coverTargetAt, coverWidth}
 use Rattle.graph.specs.Message.{readTarget, readTargets, readHyper, readCover, readHeader, readGraph, targets, hypers, covers, firstTarget}
-use Rattle.graph.specs.Write.{writeTarget, writeHyper, writeCover, writeBody, writeGraph}
+use Rattle.graph.specs.Write.{writeTarget, writeHyper, writeCover, writeCounts, writeBody, writeGraph}
 use Rattle.graph.specs.WellFormed.{targetsOf, WellFormed}
 use Rattle.value.proofs.Coded.{code-bound, bound-sayable, bound-code, code-fits}
 use Rattle.graph.proofs.Good.{target-good, hyper-good, cover-good, HeaderAt, header-good, counts, GraphAt, graph-good}
@@ -44,25 +46,25 @@ pub record CoverFits (n : ℕ) (c : Cover) : Type 0 where
 
 -- what a state demands of a record
 abbrev pub HyperNext : ℕ → State → Hyper → Type 0
-HyperNext n st h = ((st .prev ≤ h .source) × (st .tally + length (h .targets) ≤ 262144)) × HyperFits n h
+HyperNext n st h = ((st .prev ≤ h .source) × (st .tally + length (h .targets) ≤ mostTargets)) × HyperFits n h
 
 abbrev pub CoverNext : ℕ → State → Cover → Type 0
 CoverNext n st c = (st .prev ≤ c .source) × CoverFits n c
 
 -- how long a record is
-pub target-length : (t : Target) → length (writeTarget t) ≡ 6
+pub target-length : (t : Target) → length (writeTarget t) ≡ targetWidth
 unfolding writeTarget
 target-length t = simp (length-append, length-bytes)
 
-pub hyper-length : (h : Hyper) → length (writeHyper h) ≡ 4 + length (h .targets) * 6
+pub hyper-length : (h : Hyper) → length (writeHyper h) ≡ hyperWidth + length (h .targets) * targetWidth
 unfolding writeHyper
-hyper-length h = simp (length-append, length-bytes, length-writeAll writeTarget 6 target-length)
+hyper-length h = simp (length-append, length-bytes, length-writeAll writeTarget targetWidth target-length)
 
-pub cover-length : (c : Cover) → length (writeCover c) ≡ 8
+pub cover-length : (c : Cover) → length (writeCover c) ≡ coverWidth
 unfolding writeCover
 cover-length c = simp (length-append, length-bytes)
 
-pub hypers-length : (hs : List Hyper) → length (writeAll writeHyper hs) ≡ length hs * 4 + targetsOf hs * 6
+pub hypers-length : (hs : List Hyper) → length (writeAll writeHyper hs) ≡ length hs * hyperWidth + targetsOf hs * targetWidth
 unfolding writeAll targetsOf
 hypers-length [] = refl
 hypers-length (h ∷ hs) = simp length-append (omega (arith, hyper-length h, hypers-length hs))
@@ -78,7 +80,7 @@ module _ (s : List ℕ) (n : ℕ) (small : n ≤ 65536) where
         (stands-both (simp length-bytes) (w .0) (v .0), record { weight-fits = w .1; named = g .named });
     written = λ st t h f.
         let weight-there : field 4 s (st .at) ≡ good (t .weight) = stands-field 4 (omega arith) (stands-first _ _ h) (f .weight-fits) in
-        let node-there : field 2 s (st .at + 4) ≡ good (t .node) =
+        let node-there : field 2 s (st .at + nodeAt) ≡ good (t .node) =
         stands-field 2 (omega arith) (stands-second (bytes 4 (t .weight)) _ (simp length-bytes) h) (omega arith) in
         good-bind _ weight-there (good-bind _ node-there (good-demand _ (lt-ltb _ _ (f .named)) refl));
     moves = λ st t. rw target-length;
@@ -103,9 +105,9 @@ module _ (s : List ℕ) (n : ℕ) (small : n ≤ 65536) where
         let fixed : Stands s (st .at) (bytes 2 (h .source) ++ bytes 2 count) = stands-first _ _ stands in
         let inside = rw hyper-length at (stands-inside stands (rw hyper-length (omega arith))) in
         let source-there : field 2 s (st .at) ≡ good (h .source) = stands-field 2 (omega arith) (stands-first _ _ fixed) (omega arith) in
-        let count-there : field 2 s (st .at + 2) ≡ good count =
+        let count-there : field 2 s (st .at + targetCountAt) ≡ good count =
         stands-field 2 (omega arith) (stands-second (bytes 2 (h .source)) _ (simp length-bytes) fixed) (omega arith) in
-        let targets-stand : Stands s (st .at + 4) (writeAll writeTarget (h .targets)) =
+        let targets-stand : Stands s (st .at + hyperWidth) (writeAll writeTarget (h .targets)) =
         stands-second (bytes 2 (h .source) ++ bytes 2 count) _ (simp (length-append, length-bytes) (omega arith)) stands in
         let targets-there = all-written targets-exact (firstTarget st) (h .targets) targets-stand (each-fits (targets s n) _ _ (λ t m. f .1 .targets m)) in
         good-bind _ source-there
@@ -113,7 +115,7 @@ module _ (s : List ℕ) (n : ℕ) (small : n ≤ 65536) where
         (good-demand _ (lt-ltb _ _ (f .1 .named))
         (good-demand _ (le-leb _ _ (f .0 .0))
         (good-demand _ (le-leb _ _ (f .0 .1))
-        (good-demand _ (le-leb (st .at + 4 + count * 6) (length s) (omega arith))
+        (good-demand _ (le-leb (st .at + hyperWidth + count * targetWidth) (length s) (omega arith))
         (good-bind _ targets-there refl))))));
     moves = λ st h. rw hyper-length (omega arith);
   }
@@ -136,9 +138,9 @@ module _ (s : List ℕ) (n : ℕ) (small : n ≤ 65536) where
     written = λ st c stands f.
         let front : Stands s (st .at) (bytes 2 (c .source) ++ bytes 4 (codeOf (c .bound))) = stands-first _ _ stands in
         let source-there : field 2 s (st .at) ≡ good (c .source) = stands-field 2 (omega arith) (stands-first _ _ front) (omega arith) in
-        let bound-there : field 4 s (st .at + 2) ≡ good (codeOf (c .bound)) =
+        let bound-there : field 4 s (st .at + coverBoundAt) ≡ good (codeOf (c .bound)) =
         stands-field 4 (omega arith) (stands-second (bytes 2 (c .source)) _ (simp length-bytes) front) (code-fits (c .bound) (f .1 .sayable)) in
-        let target-there : field 2 s (st .at + 6) ≡ good (c .target) =
+        let target-there : field 2 s (st .at + coverTargetAt) ≡ good (c .target) =
         stands-field 2 (omega arith) (stands-second (bytes 2 (c .source) ++ bytes 4 (codeOf (c .bound))) _ (simp (length-append, length-bytes) (omega arith)) stands) (omega arith) in
         good-bind _ source-there
         (good-bind _ bound-there
@@ -152,56 +154,56 @@ module _ (s : List ℕ) (n : ℕ) (small : n ≤ 65536) where
 
 module _ (s : List ℕ) (n : ℕ) where
   -- the running total demands that all targets together are few
-  fits-few : {st : State} {hs : List Hyper} → FitsAll (hypers s n) (λ st h. st .tally + length (h .targets) ≤ 262144) st hs → st .tally ≤ 262144 → st .tally + targetsOf hs ≤ 262144
+  fits-few : {st : State} {hs : List Hyper} → FitsAll (hypers s n) (λ st h. st .tally + length (h .targets) ≤ mostTargets) st hs → st .tally ≤ mostTargets → st .tally + targetsOf hs ≤ mostTargets
   unfolding targetsOf
   fits-few none h = omega arith
   fits-few (more p ps) h = let rest = fits-few ps p in omega arith
 
-  few-fits : (st : State) (hs : List Hyper) → st .tally + targetsOf hs ≤ 262144 → FitsAll (hypers s n) (λ st h. st .tally + length (h .targets) ≤ 262144) st hs
+  few-fits : (st : State) (hs : List Hyper) → st .tally + targetsOf hs ≤ mostTargets → FitsAll (hypers s n) (λ st h. st .tally + length (h .targets) ≤ mostTargets) st hs
   unfolding targetsOf
   few-fits st [] h = none
   few-fits st (a ∷ hs) h =
-      let here : st .tally + length (a .targets) ≤ 262144 = omega arith in
+      let here : st .tally + length (a .targets) ≤ mostTargets = omega arith in
       more here (few-fits (hypers s n .next st a) hs (omega arith))
 
 -- ---- whole messages
 
 -- the bytes of the counts
-abbrev writeCounts : Graph → List ℕ
-writeCounts g = bytes 2 (g .nodes) ++ bytes 4 (length (g .hypers)) ++ bytes 2 (length (g .covers))
+abbrev countsOf : Graph → List ℕ
+countsOf g = writeCounts (g .nodes) (length (g .hypers)) (length (g .covers))
 
-body-length : (g : Graph) → length (writeBody g) ≡ 8 + length (writeAll writeHyper (g .hypers)) + length (writeAll writeCover (g .covers))
+body-length : (g : Graph) → startWidth + length (writeBody g) ≡ graphHeader + length (writeAll writeHyper (g .hypers)) + length (writeAll writeCover (g .covers))
 unfolding writeBody
-body-length g = simp (length-append, length-bytes)
+body-length g = simp (length-append, length-bytes) (omega arith)
 
 -- the body of a message, part by part
 record Laid (s : List ℕ) (g : Graph) : Type 0 where
-  n-there : Stands s 6 (bytes 2 (g .nodes))
-  h-there : Stands s 8 (bytes 4 (length (g .hypers)))
-  c-there : Stands s 12 (bytes 2 (length (g .covers)))
-  hypers-there : Stands s 14 (writeAll writeHyper (g .hypers))
-  covers-there : Stands s (14 + length (writeAll writeHyper (g .hypers))) (writeAll writeCover (g .covers))
+  n-there : Stands s (nodesCount .at) (bytes 2 (g .nodes))
+  h-there : Stands s (hypersCount .at) (bytes 4 (length (g .hypers)))
+  c-there : Stands s (coversCount .at) (bytes 2 (length (g .covers)))
+  hypers-there : Stands s graphHeader (writeAll writeHyper (g .hypers))
+  covers-there : Stands s (graphHeader + length (writeAll writeHyper (g .hypers))) (writeAll writeCover (g .covers))
 
-laid-body : {s : List ℕ} (g : Graph) → Laid s g → Stands s 6 (writeBody g)
+laid-body : {s : List ℕ} (g : Graph) → Laid s g → Stands s startWidth (writeBody g)
 unfolding writeBody
 laid-body {s} g l =
-    let n-and-h : Stands s 6 (bytes 2 (g .nodes) ++ bytes 4 (length (g .hypers))) = stands-both (simp length-bytes) (l .n-there) (l .h-there) in
-    let counts-there : Stands s 6 (writeCounts g) = stands-both (simp (length-append, length-bytes)) n-and-h (l .c-there) in
-    let front : Stands s 6 (writeCounts g ++ writeAll writeHyper (g .hypers)) = stands-both (simp (length-append, length-bytes)) counts-there (l .hypers-there) in
+    let n-and-h : Stands s startWidth (bytes 2 (g .nodes) ++ bytes 4 (length (g .hypers))) = stands-both (simp length-bytes) (l .n-there) (l .h-there) in
+    let counts-there : Stands s startWidth (countsOf g) = stands-both (simp (length-append, length-bytes)) n-and-h (l .c-there) in
+    let front : Stands s startWidth (countsOf g ++ writeAll writeHyper (g .hypers)) = stands-both (simp (length-append, length-bytes)) counts-there (l .hypers-there) in
     stands-both (simp (length-append, length-bytes) (omega arith)) front (l .covers-there)
 
-body-laid : {s : List ℕ} (g : Graph) → Stands s 6 (writeBody g) → Laid s g
+body-laid : {s : List ℕ} (g : Graph) → Stands s startWidth (writeBody g) → Laid s g
 unfolding writeBody
 body-laid {s} g h =
-    let front : Stands s 6 (writeCounts g ++ writeAll writeHyper (g .hypers)) = stands-first _ _ h in
-    let counts-there : Stands s 6 (writeCounts g) = stands-first _ _ front in
-    let n-and-h : Stands s 6 (bytes 2 (g .nodes) ++ bytes 4 (length (g .hypers))) = stands-first _ _ counts-there in
+    let front : Stands s startWidth (countsOf g ++ writeAll writeHyper (g .hypers)) = stands-first _ _ h in
+    let counts-there : Stands s startWidth (countsOf g) = stands-first _ _ front in
+    let n-and-h : Stands s startWidth (bytes 2 (g .nodes) ++ bytes 4 (length (g .hypers))) = stands-first _ _ counts-there in
     record {
       n-there = stands-first _ _ n-and-h;
       h-there = stands-second (bytes 2 (g .nodes)) _ (simp length-bytes) n-and-h;
       c-there = stands-second (bytes 2 (g .nodes) ++ bytes 4 (length (g .hypers))) _ (simp (length-append, length-bytes)) counts-there;
-      hypers-there = stands-second (writeCounts g) _ (simp (length-append, length-bytes)) front;
-      covers-there = stands-second (writeCounts g ++ writeAll writeHyper (g .hypers)) _ (simp (length-append, length-bytes) (omega arith)) h;
+      hypers-there = stands-second (countsOf g) _ (simp (length-append, length-bytes)) front;
+      covers-there = stands-second (countsOf g ++ writeAll writeHyper (g .hypers)) _ (simp (length-append, length-bytes) (omega arith)) h;
     }
 
 -- parts that a good message has make it good
@@ -212,7 +214,7 @@ good-graph g p =
 
 -- a graph is well-formed when its counts are within their limits and its records are those that the states demand
 fits-well : {s : List ℕ} {g : Graph} {middle : ℕ} → HeaderAt s (counts g)
-    → FitsAll (hypers s (g .nodes)) (HyperNext (g .nodes)) (start 14) (g .hypers)
+    → FitsAll (hypers s (g .nodes)) (HyperNext (g .nodes)) (start graphHeader) (g .hypers)
     → FitsAll (covers s (g .nodes)) (CoverNext (g .nodes)) (start middle) (g .covers) → WellFormed g
 fits-well {s} {g} header hs cs =
     let H = hypers s (g .nodes) in
@@ -241,12 +243,12 @@ fits-well {s} {g} header hs cs =
 
 -- and the other way round
 module _ (s : List ℕ) (g : Graph) (w : WellFormed g) where
-  hypers-well : FitsAll (hypers s (g .nodes)) (HyperNext (g .nodes)) (start 14) (g .hypers)
+  hypers-well : FitsAll (hypers s (g .nodes)) (HyperNext (g .nodes)) (start graphHeader) (g .hypers)
   hypers-well =
       let H = hypers s (g .nodes) in
       fits-both H
-      (fits-both H (rising-fits H (λ st. st .prev) (λ h. h .source) (λ st h. refl) (start 14) _ (w .hypers-ordered))
-      (few-fits s (g .nodes) (start 14) _ (omega (arith, w .targets-fit))))
+      (fits-both H (rising-fits H (λ st. st .prev) (λ h. h .source) (λ st h. refl) (start graphHeader) _ (w .hypers-ordered))
+      (few-fits s (g .nodes) (start graphHeader) _ (omega (arith, w .targets-fit))))
       (each-fits H _ _ (λ h m. record {
         named = w .closed .hyper-source m;
         few = w .each-fits m;
@@ -268,13 +270,13 @@ unfolding writeGraph
 accepted-written s g b e =
     let p = graph-good {s = s} {g = g} e in
     let header = header-good s _ (p .header) in
-    let started = start-reads 14 1 1 b (header .opened) in
+    let started = start-reads graphHead b (header .opened) in
     let H = hypers-exact s (g .nodes) (omega arith) in
     let C = covers-exact s (g .nodes) (omega arith) in
     let hs = all-reads H b _ _ _ (p .hypers-there) in
     let cs = all-reads C b _ _ _ (p .covers-there) in
-    let middle = all-moves H (start 14) (g .hypers) in
-    let end = all-moves C (start (past (hypers s (g .nodes)) (start 14) (g .hypers) .at)) (g .covers) in
+    let middle = all-moves H (start graphHeader) (g .hypers) in
+    let end = all-moves C (start (past (hypers s (g .nodes)) (start graphHeader) (g .hypers) .at)) (g .covers) in
     let body = laid-body g (record {
       n-there = value-stands 2 b (header .n-counted .there) .0;
       h-there = value-stands 4 b (header .h-counted .there) .0;
@@ -282,28 +284,28 @@ accepted-written s g b e =
       hypers-there = hs .0;
       covers-there = rw middle at (cs .0);
     }) in
-    let rest : drop 6 s ≡ writeBody g = stands-last body (omega (arith, body-length g, p .ends)) in
-    (started .whole ∙ ap (message 1 1) rest, fits-well header (hs .1) (cs .1))
+    let rest : drop startWidth s ≡ writeBody g = stands-last body (omega (arith, body-length g, p .ends)) in
+    (started .whole ∙ ap (message graphHead) rest, fits-well header (hs .1) (cs .1))
 
 pub written-accepted : (g : Graph) → WellFormed g → readGraph (writeGraph g) ≡ good g
 unfolding readHeader writeGraph
 written-accepted g w =
-    let s : List ℕ = message 1 1 (writeBody g) in
-    let laid = body-laid g (message-rest 1 1 (writeBody g)) in
+    let s : List ℕ = message graphHead (writeBody g) in
+    let laid = body-laid g (message-rest graphHead (writeBody g)) in
     let long = body-length g in
-    let opened = start-written (writeBody g) 14 1 1 (omega arith) (omega arith) (omega arith)
-    (omega (arith, hypers-length (g .hypers), length-writeAll writeCover 8 cover-length (g .covers))) in
+    let opened = start-written (writeBody g) graphHead (omega arith) (omega arith) (omega arith)
+    (omega (arith, hypers-length (g .hypers), length-writeAll writeCover coverWidth cover-length (g .covers))) in
     let H = hypers-exact s (g .nodes) (omega arith) in
     let C = covers-exact s (g .nodes) (omega arith) in
-    let middle = all-moves H (start 14) (g .hypers) in
-    let at = past (hypers s (g .nodes)) (start 14) (g .hypers) .at in
+    let middle = all-moves H (start graphHeader) (g .hypers) in
+    let at = past (hypers s (g .nodes)) (start graphHeader) (g .hypers) .at in
     good-graph g (record {
       header =
           good-after opened
-          (good-bind _ (good-count 2 s 6 1 4096 (stands-field 2 (omega arith) (laid .n-there) (omega arith)) (w .some-node) (w .nodes-fit))
-          (good-bind _ (good-count 4 s 8 0 65535 (stands-field 4 (omega arith) (laid .h-there) (omega arith)) (omega arith) (w .hypers-fit))
-          (good-bind _ (good-count 2 s 12 0 4096 (stands-field 2 (omega arith) (laid .c-there) (omega arith)) (omega arith) (w .covers-fit)) refl)));
-      hypers-there = all-written H (start 14) (g .hypers) (laid .hypers-there) (hypers-well s g w);
+          (good-bind _ (good-count s nodesCount (stands-field 2 (omega arith) (laid .n-there) (omega arith)) (w .some-node) (w .nodes-fit))
+          (good-bind _ (good-count s hypersCount (stands-field 4 (omega arith) (laid .h-there) (omega arith)) (omega arith) (w .hypers-fit))
+          (good-bind _ (good-count s coversCount (stands-field 2 (omega arith) (laid .c-there) (omega arith)) (omega arith) (w .covers-fit)) refl)));
+      hypers-there = all-written H (start graphHeader) (g .hypers) (laid .hypers-there) (hypers-well s g w);
       covers-there = all-written C (start at) (g .covers) (rw middle (laid .covers-there)) (covers-well s g w at);
       ends = rw message-length (omega (arith, all-moves C (start at) (g .covers)));
     })

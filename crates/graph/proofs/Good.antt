@@ -1,9 +1,10 @@
 -- What a good reading says: each field is there, each demand is met. Assumes nothing.
 use Prim.Native.Nat.{ℕ, _+_, _*_, _<_, _≤_}
-use mathlib.Core.List.{List}
+use mathlib.Core.List.{List, [], _∷_}
 use mathlib.Core.Path.{_≡_, sym, ap, subst, _∙_}
 use lib.ListN.{length}
 use borrow.Author.Tests.{ltb-true, leb-true, eqb-true}
+use native.Mathlib.Nat.{add-zero, zero-add}
 use native.Mathlib.Omega.{arith}
 use Rattle.refusal.specs.declared.Refusal.the-variants.{Length}
 use Rattle.wire.specs.declared.Field.the-variants.{Number, Short}
@@ -20,13 +21,15 @@ use Rattle.rules.specs.Graph.{Graph, Hyper, Cover, Target}
 use Rattle.wire.specs.declared.State.{State}
 use Rattle.value.specs.Coded.{boundOf}
 use Rattle.wire.specs.Step.{start}
+use Rattle.graph.specs.Format.{graphHeader, graphHead, nodesCount, hypersCount, coversCount, mostTargets, targetCountAt, hyperWidth, nodeAt, targetWidth, coverBoundAt, coverTargetAt}
 use Rattle.graph.specs.Message.{readTarget, readHyper, readTargets, readCover, targets, hypers, covers, firstTarget, Counts, readHeader, readGraph}
+use Rattle.graph.specs.WellFormed.{targetsOf}
 
 module _ (s : List ℕ) (n : ℕ) where
   -- what a good target says of the bytes
   pub record TargetAt (st : State) (t : Target) : Type 0 where
     pub weight-there : fieldAt 4 s (st .at) ≡ Number (t .weight)
-    pub node-there : fieldAt 2 s (st .at + 4) ≡ Number (t .node)
+    pub node-there : fieldAt 2 s (st .at + nodeAt) ≡ Number (t .node)
     pub named : t .node < n
 
   pub target-good : (st : State) (t : Target) → readTarget s n st ≡ good t → TargetAt st t
@@ -45,11 +48,11 @@ module _ (s : List ℕ) (n : ℕ) where
   -- what a good hyperedge says of the bytes
   pub record HyperAt (st : State) (h : Hyper) : Type 0 where
     pub source-there : fieldAt 2 s (st .at) ≡ Number (h .source)
-    pub count-there : fieldAt 2 s (st .at + 2) ≡ Number (length (h .targets))
+    pub count-there : fieldAt 2 s (st .at + targetCountAt) ≡ Number (length (h .targets))
     pub named : h .source < n
     pub ordered : st .prev ≤ h .source
-    pub few : st .tally + length (h .targets) ≤ 262144
-    pub inside : st .at + 4 + length (h .targets) * 6 ≤ length s
+    pub few : st .tally + length (h .targets) ≤ mostTargets
+    pub inside : st .at + hyperWidth + length (h .targets) * targetWidth ≤ length s
     pub targets-there : readAll (targets s n) (length (h .targets)) (firstTarget st) ≡ good (h .targets)
 
   pub hyper-good : (st : State) (h : Hyper) → readHyper s n st ≡ good h → HyperAt st h
@@ -78,9 +81,9 @@ module _ (s : List ℕ) (n : ℕ) where
   pub record CoverAt (st : State) (c : Cover) : Type 0 where
     pub source-there : fieldAt 2 s (st .at) ≡ Number (c .source)
     pub code : ℕ
-    pub bound-there : fieldAt 4 s (st .at + 2) ≡ Number code
+    pub bound-there : fieldAt 4 s (st .at + coverBoundAt) ≡ Number code
     pub bound-is : c .bound ≡ boundOf code
-    pub target-there : fieldAt 2 s (st .at + 6) ≡ Number (c .target)
+    pub target-there : fieldAt 2 s (st .at + coverTargetAt) ≡ Number (c .target)
     pub named : c .source < n
     pub ordered : st .prev ≤ c .source
     pub target-named : c .target < n
@@ -107,11 +110,11 @@ module _ (s : List ℕ) (n : ℕ) where
       }
 
   -- the state past a good target is 6 bytes on
-  pub targets-move : (st next : State) → one (targets s n) st ≡ good next → next .at ≡ st .at + 6
+  pub targets-move : (st next : State) → one (targets s n) st ≡ good next → next .at ≡ st .at + targetWidth
   targets-move st next e = ap (λ (u : State). u .at) (sym (good-same (bind-good _ _ e .rest)))
 
   -- the state past a good hyperedge or cover edge lies inside the message
-  pub hypers-stay : (st next : State) → one (hypers s n) st ≡ good next → (next .at ≤ length s) × (next .tally ≤ 262144)
+  pub hypers-stay : (st next : State) → one (hypers s n) st ≡ good next → (next .at ≤ length s) × (next .tally ≤ mostTargets)
   hypers-stay st next e =
       let r = bind-good _ _ e in
       let h = hyper-good st (r .value) (r .first) in
@@ -121,23 +124,32 @@ module _ (s : List ℕ) (n : ℕ) where
   covers-stay st next e =
       let r = bind-good _ _ e in
       let c = cover-good st (r .value) (r .first) in
-      omega (arith, value-inside 2 s (st .at + 6) (c .target-there), ap (λ (u : State). u .at) (good-same (r .rest)))
+      omega (arith, value-inside 2 s (st .at + coverTargetAt) (c .target-there), ap (λ (u : State). u .at) (good-same (r .rest)))
 
   -- the last of a record's fixed fields tells whether they all fit
-  pub hyper-short : (st : State) → fieldAt 2 s (st .at + 2) ≡ Short → readHyper s n st ≡ bad Length
+  pub hyper-short : (st : State) → fieldAt 2 s (st .at + targetCountAt) ≡ Short → readHyper s n st ≡ bad Length
   unfolding readHyper
   hyper-short st h = length-after 2 s (st .at) _ (λ source. simp (reading, h))
 
-  pub cover-short : (st : State) → fieldAt 2 s (st .at + 6) ≡ Short → readCover s n st ≡ bad Length
+  pub cover-short : (st : State) → fieldAt 2 s (st .at + coverTargetAt) ≡ Short → readCover s n st ≡ bad Length
   unfolding readCover
-  cover-short st h = length-after 2 s (st .at) _ (λ source. length-after 4 s (st .at + 2) _ (λ bound. simp (reading, h)))
+  cover-short st h = length-after 2 s (st .at) _ (λ source. length-after 4 s (st .at + coverBoundAt) _ (λ bound. simp (reading, h)))
+
+-- the state past hyperedges has counted their targets
+tally-past : (s : List ℕ) (n : ℕ) (st : State) (hs : List Hyper) → past (hypers s n) st hs .tally ≡ st .tally + targetsOf hs
+unfolding past targetsOf
+tally-past s n st [] = sym (add-zero _)
+tally-past s n st (h ∷ hs) = tally-past s n (hypers s n .next st h) hs ∙ omega arith
+
+pub targets-told : (s : List ℕ) (n at : ℕ) {end : State} (hs : List Hyper) → past (hypers s n) (start at) hs ≡ end → targetsOf hs ≡ end .tally
+targets-told s n at hs e = sym (tally-past s n (start at) hs ∙ zero-add _) ∙ ap (λ (st : State). st .tally) e
 
 -- what a good header says of the bytes
 pub record HeaderAt (s : List ℕ) (k : Counts) : Type 0 where
-  pub opened : readStart s 14 1 1 ≡ good tt
-  pub n-counted : CountAt 2 s 6 1 4096 (k .n)
-  pub h-counted : CountAt 4 s 8 0 65535 (k .h)
-  pub c-counted : CountAt 2 s 12 0 4096 (k .c)
+  pub opened : readStart s graphHead ≡ good tt
+  pub n-counted : CountAt s nodesCount (k .n)
+  pub h-counted : CountAt s hypersCount (k .h)
+  pub c-counted : CountAt s coversCount (k .c)
 
 pub header-good : (s : List ℕ) (k : Counts) → readHeader s ≡ good k → HeaderAt s k
 unfolding readHeader
@@ -150,9 +162,9 @@ header-good s k e =
     subst (HeaderAt s) same
     (record {
       opened = opened .0;
-      n-counted = count-good _ _ _ _ _ (n .first);
-      h-counted = count-good _ _ _ _ _ (h .first);
-      c-counted = count-good _ _ _ _ _ (c .first);
+      n-counted = count-good _ _ (n .first);
+      h-counted = count-good _ _ (h .first);
+      c-counted = count-good _ _ (c .first);
     })
 
 -- the counts of a header
@@ -162,9 +174,9 @@ counts g = record { n = g .nodes; h = length (g .hypers); c = length (g .covers)
 -- what a good message says of its parts
 pub record GraphAt (s : List ℕ) (g : Graph) : Type 0 where
   pub header : readHeader s ≡ good (counts g)
-  pub hypers-there : readAll (hypers s (g .nodes)) (length (g .hypers)) (start 14) ≡ good (g .hypers)
-  pub covers-there : readAll (covers s (g .nodes)) (length (g .covers)) (start (past (hypers s (g .nodes)) (start 14) (g .hypers) .at)) ≡ good (g .covers)
-  pub ends : past (covers s (g .nodes)) (start (past (hypers s (g .nodes)) (start 14) (g .hypers) .at)) (g .covers) .at ≡ length s
+  pub hypers-there : readAll (hypers s (g .nodes)) (length (g .hypers)) (start graphHeader) ≡ good (g .hypers)
+  pub covers-there : readAll (covers s (g .nodes)) (length (g .covers)) (start (past (hypers s (g .nodes)) (start graphHeader) (g .hypers) .at)) ≡ good (g .covers)
+  pub ends : past (covers s (g .nodes)) (start (past (hypers s (g .nodes)) (start graphHeader) (g .hypers) .at)) (g .covers) .at ≡ length s
 
 pub graph-good : {s : List ℕ} {g : Graph} → readGraph s ≡ good g → GraphAt s g
 unfolding readGraph

@@ -1,4 +1,6 @@
--- Definitions: the messages of graphs, which graphs are well-formed, and the answer of the check.
+-- Definitions: what a graph message holds, the messages of graphs, which graphs are well-formed, and the answer of the check.
+pub mod Stored
+pub mod Format
 pub mod Message
 pub mod Write
 pub mod WellFormed

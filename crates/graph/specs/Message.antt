@@ -8,42 +8,44 @@ use Rattle.refusal.specs.declared.Refusal.the-variants.{Length, Limit, Order, N
 use Rattle.wire.specs.Read.{Read, good, _>>=_, _>>_, demand, field}
 use Rattle.wire.specs.Reader.{Reader, readAll, past}
 use Rattle.wire.specs.Start.{readStart}
-use Rattle.wire.specs.Counts.{countAt}
+use Rattle.wire.specs.Counts.{readCount}
 use Rattle.wire.specs.Step.{start}
-use Rattle.rules.specs.Graph.{Graph, Hyper, Cover, Target}
+use Rattle.rules.specs.Graph.{Hyper, Cover, Target}
 use Rattle.value.specs.Coded.{boundOf}
 use Rattle.wire.specs.declared.State.{State}
+use Rattle.graph.specs.Format.{graphHeader, graphHead, nodesCount, hypersCount, coversCount, mostTargets, targetCountAt, hyperWidth, nodeAt, targetWidth, coverBoundAt, coverTargetAt, coverWidth}
+use Rattle.graph.specs.Stored.{StoredGraph}
 
 -- where a hyperedge's targets start
 abbrev pub firstTarget : State → State
-firstTarget st = record { at = st .at + 4; prev = st .prev; tally = st .tally }
+firstTarget st = record { at = st .at + hyperWidth; prev = st .prev; tally = st .tally }
 
 -- the state past a hyperedge
 abbrev pub afterHyper : State → ℕ → ℕ → State
-afterHyper st source count = record { at = st .at + 4 + count * 6; prev = source; tally = st .tally + count }
+afterHyper st source count = record { at = st .at + hyperWidth + count * targetWidth; prev = source; tally = st .tally + count }
 
 module _ (s : List ℕ) (n : ℕ) where
   -- a target: weight (4) and node (2)
   unfoldable pub readTarget : State → Read Target
   readTarget st = do
     weight ← field 4 s (st .at)
-    node ← field 2 s (st .at + 4)
+    node ← field 2 s (st .at + nodeAt)
     demand (ltb node n) Name
     good (record { weight = weight; node = node })
 
-  -- the targets of a hyperedge, 6 bytes each
+  -- the targets of a hyperedge, one behind another
   abbrev pub targets : Reader State Target
   targets = record {
     position = λ st. st .at;
     read = readTarget;
-    next = λ st t. record { at = st .at + 6; prev = st .prev; tally = st .tally };
+    next = λ st t. record { at = st .at + targetWidth; prev = st .prev; tally = st .tally };
   }
 
   -- the targets of a hyperedge: the running total's limit, then their bytes fit, then each
   unfoldable pub readTargets : State → ℕ → ℕ → Read Hyper
   readTargets st source count = do
-    demand (leb (st .tally + count) 262144) Limit
-    demand (leb (st .at + 4 + count * 6) (length s)) Length
+    demand (leb (st .tally + count) mostTargets) Limit
+    demand (leb (st .at + hyperWidth + count * targetWidth) (length s)) Length
     ts ← readAll targets count (firstTarget st)
     good (record { source = source; targets = ts })
 
@@ -51,7 +53,7 @@ module _ (s : List ℕ) (n : ℕ) where
   unfoldable pub readHyper : State → Read Hyper
   readHyper st = do
     source ← field 2 s (st .at)
-    count ← field 2 s (st .at + 2)
+    count ← field 2 s (st .at + targetCountAt)
     demand (ltb source n) Name
     demand (leb (st .prev) source) Order
     readTargets st source count
@@ -72,19 +74,19 @@ module _ (s : List ℕ) (n : ℕ) where
   unfoldable pub readCover : State → Read Cover
   readCover st = do
     source ← field 2 s (st .at)
-    bound ← field 4 s (st .at + 2)
-    target ← field 2 s (st .at + 6)
+    bound ← field 4 s (st .at + coverBoundAt)
+    target ← field 2 s (st .at + coverTargetAt)
     demand (ltb source n) Name
     demand (leb (st .prev) source) Order
     demand (ltb target n) Name
     good (record { source = source; bound = boundOf bound; target = target })
 
-  -- the cover edges, 8 bytes each
+  -- the cover edges, one behind another
   abbrev pub covers : Reader State Cover
   covers = record {
     position = λ st. st .at;
     read = readCover;
-    next = λ st c. record { at = st .at + 8; prev = c .source; tally = st .tally };
+    next = λ st c. record { at = st .at + coverWidth; prev = c .source; tally = st .tally };
   }
 
 -- the counts of a header
@@ -93,21 +95,21 @@ pub record Counts : Type 0 where
   pub h : ℕ
   pub c : ℕ
 
--- the header, 14 bytes, version 1, kind 1: then n (2), h (4), c (2)
+-- the header: its start, then n, h, c
 unfoldable pub readHeader : List ℕ → Read Counts
 readHeader s = do
-  readStart s 14 1 1
-  n ← countAt 2 s 6 1 4096
-  h ← countAt 4 s 8 0 65535
-  c ← countAt 2 s 12 0 4096
+  readStart s graphHead
+  n ← readCount s nodesCount
+  h ← readCount s hypersCount
+  c ← readCount s coversCount
   good (record { n = n; h = h; c = c })
 
 -- a whole message: the header, the hyperedges, the cover edges, and nothing left over
-unfoldable pub readGraph : List ℕ → Read Graph
+unfoldable pub readGraph : List ℕ → Read StoredGraph
 readGraph s = do
   counts ← readHeader s
-  hs ← readAll (hypers s (counts .n)) (counts .h) (start 14)
-  let middle = past (hypers s (counts .n)) (start 14) hs .at
+  hs ← readAll (hypers s (counts .n)) (counts .h) (start graphHeader)
+  let middle = past (hypers s (counts .n)) (start graphHeader) hs .at
   cs ← readAll (covers s (counts .n)) (counts .c) (start middle)
   let end = past (covers s (counts .n)) (start middle) cs .at
   demand (eqb end (length s)) Length

@@ -4,15 +4,16 @@ use mathlib.Core.List.{List, [], _∷_, map}
 use lib.ListN.{length}
 use Rattle.lists.specs.Lists.{_∈_}
 use Rattle.lists.specs.Order.{Rising}
-use Rattle.rules.specs.Graph.{Graph, Hyper, Cover, Target, Closed}
+use Rattle.rules.specs.Graph.{Hyper, Cover, Target, Closed}
 use Rattle.value.specs.Coded.{Sayable}
+use Rattle.graph.specs.Stored.{StoredGraph}
 
 -- the targets of all hyperedges together
 unfoldable pub targetsOf : List Hyper → ℕ
 targetsOf [] = 0
 targetsOf (h ∷ hs) = length (h .targets) + targetsOf hs
 
-pub record WellFormed (g : Graph) : Type 0 where
+pub record WellFormed (g : StoredGraph) : Type 0 where
   -- the counts of the table
   pub some-node : 1 ≤ g .nodes
   pub nodes-fit : g .nodes ≤ 4096

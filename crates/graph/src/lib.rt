@@ -6,17 +6,80 @@ ghost use Rattle.wire.specs.Reader.{one, run};
 ghost use Rattle.wire.specs.Step.{step};
 ghost use Rattle.graph.specs.Message as m;
 ghost use Rattle.graph.specs.Answers as answers;
+ghost use Rattle.graph.specs.Format.{mostTargets, hyperWidth, targetWidth};
 use refusal::Refusal;
+use wire::Count;
 use wire::Counted;
 use wire::Field;
+use wire::Head;
 use wire::Opened;
 use wire::State;
 use wire::Step;
 use wire::Width;
 
-// How many nodes, hyperedges and cover edges an accepted message has, or its first fault.
+// The header of a graph message: how long it is, its version and kind, and where its counts stand.
+pub const HEADER: usize = 14;
+
+pub const VERSION: u32 = 1;
+
+pub const KIND: u32 = 1;
+
+pub const NODES_AT: usize = 6;
+
+pub const HYPERS_AT: usize = 8;
+
+pub const COVERS_AT: usize = 12;
+
+const HEAD: Head = Head {
+    length: HEADER,
+    version: VERSION,
+    kind: KIND,
+};
+
+const NODES: Count = Count {
+    at: NODES_AT,
+    width: Width::Two,
+    least: 1,
+    most: 4096,
+};
+
+const HYPERS: Count = Count {
+    at: HYPERS_AT,
+    width: Width::Four,
+    least: 0,
+    most: 65535,
+};
+
+const COVERS: Count = Count {
+    at: COVERS_AT,
+    width: Width::Two,
+    least: 0,
+    most: 4096,
+};
+
+// The most targets of all hyperedges together.
+pub const MOST_TARGETS: u32 = 262144;
+
+// Where the target count of a hyperedge stands, and how wide its fixed bytes are.
+pub const TARGET_COUNT_AT: usize = 2;
+
+pub const HYPER: usize = TARGET_COUNT_AT + 2;
+
+// Where the node of a target stands, and how wide it is.
+pub const NODE_AT: usize = 4;
+
+pub const TARGET: usize = NODE_AT + 2;
+
+// Where the bound and the target of a cover edge stand, and how wide it is.
+pub const COVER_BOUND_AT: usize = 2;
+
+pub const COVER_TARGET_AT: usize = COVER_BOUND_AT + 4;
+
+pub const COVER: usize = COVER_TARGET_AT + 2;
+
+// How many nodes, hyperedges, cover edges and targets of all hyperedges an accepted message has, or its first fault.
 pub enum Checked {
-    Graph(u32, u32, u32),
+    Graph(u32, u32, u32, u32),
     Refused(Refusal),
 }
 
@@ -26,7 +89,7 @@ impl Checked {
         ensures { λ r. ⌜ r ≡ answers.checkedNumber self ⌝ }
     {
         match self {
-            Checked::Graph(_, _, _) => 0,
+            Checked::Graph(_, _, _, _) => 0,
             Checked::Refused(e) => e.number(),
         }
     }
@@ -34,16 +97,16 @@ impl Checked {
 
 // One target, whose bytes fit.
 fn target(s: &[u8], n: u32, st: State) -> Step
-    requires { ⌜ st .at + 6 ≤ length (now s) ⌝ }
+    requires { ⌜ st .at + targetWidth ≤ length (now s) ⌝ }
     ensures { λ r. ⌜ r ≡ step (one (m.targets (now (s .entry)) n) st) ⌝ }
 {
     let at = st.at;
-    let node_at = at + 4;
+    let node_at = at + NODE_AT;
     let node = wire::number_at(s, node_at, Width::Two);
     if n <= node {
         return Step::Refused(Refusal::Name);
     }
-    let end = at + 6;
+    let end = at + TARGET;
     Step::Next(State {
         at: end,
         prev: st.prev,
@@ -53,7 +116,7 @@ fn target(s: &[u8], n: u32, st: State) -> Step
 
 // k targets, whose bytes fit.
 fn targets(s: &[u8], n: u32, k: u32, first: State) -> Step
-    requires { ⌜ first .at + k * 6 ≤ length (now s) ⌝ }
+    requires { ⌜ first .at + k * targetWidth ≤ length (now s) ⌝ }
     ensures { λ r. ⌜ r ≡ step (run (m.targets (now (s .entry)) n) k first) ⌝ }
 {
     let mut st = first;
@@ -71,11 +134,11 @@ fn targets(s: &[u8], n: u32, k: u32, first: State) -> Step
 
 // One hyperedge: where its count fits, so does its source, which stands before it.
 fn hyper(s: &[u8], n: u32, st: State) -> Step
-    requires { ⌜ (st .at ≤ length (now s)) × (st .tally ≤ 262144) ⌝ }
+    requires { ⌜ (st .at ≤ length (now s)) × (st .tally ≤ mostTargets) ⌝ }
     ensures { λ r. ⌜ r ≡ step (one (m.hypers (now (s .entry)) n) st) ⌝ }
 {
     let at = st.at;
-    let count_at = at + 2;
+    let count_at = at + TARGET_COUNT_AT;
     let Field::Number(count) = wire::read(s, count_at, Width::Two) else {
         return Step::Refused(Refusal::Length);
     };
@@ -91,15 +154,15 @@ fn hyper(s: &[u8], n: u32, st: State) -> Step
 
 // The targets of a hyperedge of this source and so many targets.
 fn hyper_targets(s: &[u8], n: u32, st: State, source: u32, count: u32) -> Step
-    requires { ⌜ (st .at + 4 ≤ length (now s)) × (st .tally ≤ 262144) × (count ≤ 65535) ⌝ }
+    requires { ⌜ (st .at + hyperWidth ≤ length (now s)) × (st .tally ≤ mostTargets) × (count ≤ 65535) ⌝ }
     ensures { λ r. ⌜ r ≡ step (m.afterTargets (now (s .entry)) n st source count) ⌝ }
 {
     let tally = st.tally;
-    if 262144 - tally < count {
+    if MOST_TARGETS - tally < count {
         return Step::Refused(Refusal::Limit);
     }
-    let first = st.at + 4;
-    let end = first + (count as usize) * 6;
+    let first = st.at + HYPER;
+    let end = first + (count as usize) * TARGET;
     if s.len() < end {
         return Step::Refused(Refusal::Length);
     }
@@ -126,7 +189,7 @@ fn hyper_targets(s: &[u8], n: u32, st: State, source: u32, count: u32) -> Step
 
 // k hyperedges.
 fn hypers(s: &[u8], n: u32, k: u32, first: State) -> Step
-    requires { ⌜ (first .at ≤ length (now s)) × (first .tally ≤ 262144) ⌝ }
+    requires { ⌜ (first .at ≤ length (now s)) × (first .tally ≤ mostTargets) ⌝ }
     ensures { λ r. ⌜ r ≡ step (run (m.hypers (now (s .entry)) n) k first) ⌝ }
 {
     let mut st = first;
@@ -149,7 +212,7 @@ fn cover(s: &[u8], n: u32, st: State) -> Step
 {
     let at = st.at;
     let prev = st.prev;
-    let target_at = at + 6;
+    let target_at = at + COVER_TARGET_AT;
     let Field::Number(target) = wire::read(s, target_at, Width::Two) else {
         return Step::Refused(Refusal::Length);
     };
@@ -163,7 +226,7 @@ fn cover(s: &[u8], n: u32, st: State) -> Step
     if n <= target {
         return Step::Refused(Refusal::Name);
     }
-    let end = at + 8;
+    let end = at + COVER;
     Step::Next(State {
         at: end,
         prev: source,
@@ -189,49 +252,50 @@ fn covers(s: &[u8], n: u32, k: u32, first: State) -> Step
     Step::Next(st)
 }
 
-// The header.
+// The header: its counts, and no target yet.
 fn header(s: &[u8]) -> Checked
     ensures { λ r. ⌜ r ≡ answers.counted (m.readHeader (now (s .entry))) ⌝ }
 {
-    if let Opened::Refused(e) = wire::open(s, 14, 1, 1) {
+    if let Opened::Refused(e) = wire::open(s, HEAD) {
         return Checked::Refused(e);
     }
-    let n = match wire::count_at(s, 6, Width::Two, 1, 4096) {
+    let n = match wire::read_count(s, NODES) {
         Counted::Count(n) => n,
         Counted::Refused(e) => return Checked::Refused(e),
     };
-    let h = match wire::count_at(s, 8, Width::Four, 0, 65535) {
+    let h = match wire::read_count(s, HYPERS) {
         Counted::Count(h) => h,
         Counted::Refused(e) => return Checked::Refused(e),
     };
-    let c = match wire::count_at(s, 12, Width::Two, 0, 4096) {
+    let c = match wire::read_count(s, COVERS) {
         Counted::Count(c) => c,
         Counted::Refused(e) => return Checked::Refused(e),
     };
-    Checked::Graph(n, h, c)
+    Checked::Graph(n, h, c, 0)
 }
 
-// A whole graph message: the counts of its header, or its first fault.
+// A whole graph message: the counts of its header and its targets, or its first fault.
 pub fn check(s: &[u8]) -> Checked
     ensures { λ r. ⌜ r ≡ answers.checked (m.readGraph (now (s .entry))) ⌝ }
 {
     let head = header(s);
-    let Checked::Graph(n, h, c) = head else {
+    let Checked::Graph(n, h, c, _) = head else {
         return head;
     };
-    let middle = match hypers(
+    let last = match hypers(
         s,
         n,
         h,
         State {
-            at: 14,
+            at: HEADER,
             prev: 0,
             tally: 0,
         },
     ) {
-        Step::Next(st) => st.at,
+        Step::Next(st) => st,
         Step::Refused(e) => return Checked::Refused(e),
     };
+    let middle = last.at;
     let end = match covers(
         s,
         n,
@@ -248,5 +312,5 @@ pub fn check(s: &[u8]) -> Checked
     if end != s.len() {
         return Checked::Refused(Refusal::Length);
     }
-    head
+    Checked::Graph(n, h, c, last.tally)
 }

@@ -12,26 +12,30 @@ use Rattle.lists.proofs.Places.{first, second, place-∈}
 use Rattle.lists.proofs.Each.{Each, each-none, each-more}
 use Rattle.value.specs.declared.Bound.{Bound}
 use Rattle.value.specs.declared.Bound.the-variants.{Within, Unbounded}
-use Rattle.value.specs.Value.{Value, fin}
+use Rattle.value.specs.Value.{Value}
 use Rattle.rules.specs.Graph.{Closed}
+use Rattle.rules.specs.Rounds.{rounds}
+use Rattle.rules.proofs.Count.{count-first}
 use Rattle.model.specs.Model.{Transition}
 use Rattle.formula.specs.declared.Quantifier.{Quantifier}
 use Rattle.formula.specs.declared.Quantifier.the-variants.{Some, Every}
 use Rattle.formula.specs.declared.Row.{Row}
 use Rattle.formula.specs.declared.Row.the-variants.{Proposition, Until}
-use Rattle.formula.specs.Formula.{formulaOf}
 use Rattle.formula.specs.Rows.{operands}
 use Rattle.formula.specs.WellFormed.{RowAt}
 use Rattle.formula.proofs.Trees.{Ordered}
-use Rattle.runs.specs.Runs.{Leads}
-use Rattle.runs.specs.Sat.{Sat}
+use Rattle.runs.specs.Systems.{Leads}
 use Rattle.runs.proofs.Proper.{Proper}
 use Rattle.reduction.specs.Built.{graphOf}
 use Rattle.reduction.proofs.Built.{built-closed}
-use Rattle.known.specs.Questions.{M, p0-until-p1, T13, T14, T15}
-use Rattle.known.specs.Table.{row, known}
-use Rattle.known.proofs.Table.{row-settled, row-value}
 use Rattle.reduction.proofs.Verdict.{yes-exactly}
+use Rattle.verdict.specs.declared.Verdict.{Verdict}
+use Rattle.verdict.specs.declared.Verdict.the-variants.{Yes}
+use Rattle.verdict.specs.Promise.{Satisfies}
+use Rattle.verdict.proofs.Deciding.{yes-zero}
+use Rattle.known.specs.Questions.{M, p0-until-p1, on-M, T13, T14, T15}
+use Rattle.known.specs.Table.{ask, known}
+use Rattle.known.proofs.Table.{row-within, row-verdict}
 
 -- M is proper
 proper-M : Proper M
@@ -63,23 +67,27 @@ module _ (q : Quantifier) (b : Bound) where
   closed : Closed (graphOf M (p0-until-p1 q b))
   closed = built-closed M (p0-until-p1 q b) proper-M ordered-rows
 
-  -- where a row of the table has this graph and says OK, the value of a state's node of the until is 0 exactly where the state satisfies it
-  exactly : (place count : ℕ) (values : List Value) {x : Value} → getElem? known place ≡ some (row (graphOf M (p0-until-p1 q b)) 9 0 count values)
-      → (a : ℕ) → a < 2 → getElem? values (a + 2 * 2) ≡ some x → (x ≡ fin 0) ↔ Sat M (formulaOf (p0-until-p1 q b) 2) a
-  exactly place count values {x} is a l at =
-      let r = row (graphOf M (p0-until-p1 q b)) 9 0 count values in
+  -- the verdict that a row of the table says of a state is yes exactly where the state satisfies the formula
+  exactly : (place count : ℕ) (values : List Value) (verdicts : List Verdict) {y : Verdict}
+      → getElem? known place ≡ some (ask (on-M (p0-until-p1 q b)) 9 0 count values verdicts)
+      → (a : ℕ) → a < 2 → getElem? verdicts a ≡ some y → (y ≡ Yes) ↔ Satisfies (on-M (p0-until-p1 q b)) a
+  exactly place count values verdicts {y} is a l at =
+      let r = ask (on-M (p0-until-p1 q b)) 9 0 count values verdicts in
       let there = place-∈ known place is in
-      rw (← (row-value r there (a + 2 * 2) at))
-      (yes-exactly M (p0-until-p1 q b) proper-M ordered-rows count (row-settled r there closed refl) 2 (lit< tt) a l)
+      let first = count-first (graphOf M (p0-until-p1 q b)) closed in
+      let settled = rw (row-within r there refl .1) at (first .settled) in
+      let yes-is = yes-exactly M (p0-until-p1 q b) proper-M ordered-rows count settled 2 (lit< tt) a l in
+      let zero-is = yes-zero (rounds (graphOf M (p0-until-p1 q b)) count (a + 2 * 2)) in
+      rw (← (row-verdict (on-M (p0-until-p1 q b)) 9 count values verdicts there a at)) (λ e. yes-is .0 (zero-is .0 e), λ s. zero-is .1 (yes-is .1 s))
 
-pub T13-holds : Sat M (formulaOf T13 2) 0
-T13-holds = exactly Some (Within 2) 12 4 _ refl 0 (lit< tt) refl .0 refl
+pub T13-holds : Satisfies T13 0
+T13-holds = exactly Some (Within 2) 12 4 _ _ refl 0 (lit< tt) refl .0 refl
 
-pub T14-fails : ¬ Sat M (formulaOf T14 2) 0
-T14-fails h = let e = exactly Some (Within 1) 13 3 _ refl 0 (lit< tt) refl .1 h in let z : _≡_ {A = ℕ} 0 1 = cc in omega arith
+pub T14-fails : ¬ Satisfies T14 0
+T14-fails h = let e = exactly Some (Within 1) 13 3 _ _ refl 0 (lit< tt) refl .1 h in let z : _≡_ {A = ℕ} 0 1 = cc in omega arith
 
-pub T15-fails : ¬ Sat M (formulaOf T15 2) 0
-T15-fails h = let e = exactly Every Unbounded 14 3 _ refl 0 (lit< tt) refl .1 h in let z : _≡_ {A = ℕ} 0 1 = cc in omega arith
+pub T15-fails : ¬ Satisfies T15 0
+T15-fails h = let e = exactly Every Unbounded 14 3 _ _ refl 0 (lit< tt) refl .1 h in let z : _≡_ {A = ℕ} 0 1 = cc in omega arith
 
-pub T15-holds : Sat M (formulaOf T15 2) 1
-T15-holds = exactly Every Unbounded 14 3 _ refl 1 (lit< tt) refl .0 refl
+pub T15-holds : Satisfies T15 1
+T15-holds = exactly Every Unbounded 14 3 _ _ refl 1 (lit< tt) refl .0 refl

@@ -1,4 +1,4 @@
--- Model M of the paper, and the rows of T13 to T15.
+-- Model M of the paper, and the questions T13 to T15.
 use Prim.Native.Nat.{ℕ}
 use mathlib.Core.List.{List, [], _∷_}
 use Rattle.value.specs.declared.Bound.{Bound}
@@ -8,6 +8,7 @@ use Rattle.formula.specs.declared.Quantifier.{Quantifier}
 use Rattle.formula.specs.declared.Quantifier.the-variants.{Some, Every}
 use Rattle.formula.specs.declared.Row.{Row}
 use Rattle.formula.specs.declared.Row.the-variants.{Proposition, Until}
+use Rattle.verdict.specs.Question.{Question}
 
 -- a transition by its parts
 abbrev transition : (from weight to : ℕ) → Transition
@@ -21,12 +22,16 @@ M = record { states = 2; propositions = 2; labels = 1 ∷ 2 ∷ []; transitions 
 abbrev pub p0-until-p1 : Quantifier → Bound → List Row
 p0-until-p1 q b = Proposition 0 ∷ Proposition 1 ∷ Until q 0 1 b ∷ []
 
+-- a question about M
+abbrev pub on-M : List Row → Question
+on-M rows = record { model = M; rows = rows }
+
 -- E[p0 U<=2 p1], the same with bound 1, and A[p0 U p1]
-abbrev pub T13 : List Row
-T13 = p0-until-p1 Some (Within 2)
+abbrev pub T13 : Question
+T13 = on-M (p0-until-p1 Some (Within 2))
 
-abbrev pub T14 : List Row
-T14 = p0-until-p1 Some (Within 1)
+abbrev pub T14 : Question
+T14 = on-M (p0-until-p1 Some (Within 1))
 
-abbrev pub T15 : List Row
-T15 = p0-until-p1 Every Unbounded
+abbrev pub T15 : Question
+T15 = on-M (p0-until-p1 Every Unbounded)

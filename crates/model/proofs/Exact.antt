@@ -14,6 +14,7 @@ use Rattle.lists.specs.Order.{Rising}
 use Rattle.wire.specs.declared.State.{State}
 use Rattle.wire.specs.Bytes.{bytes, Bytes}
 use Rattle.wire.specs.Read.{good, field}
+use Rattle.wire.specs.Start.{startWidth}
 use Rattle.wire.specs.Reader.{readAll}
 use Rattle.wire.specs.Write.{writeAll, message}
 use Rattle.wire.proofs.Bytes.{length-bytes}
@@ -24,6 +25,7 @@ use Rattle.wire.proofs.Counts.{good-count}
 use Rattle.wire.proofs.Exact.{good-bind, good-after, good-demand, length-writeAll, Exact, FitsAll, all-reads, all-written, fits-map, fits-both, fits-each, each-fits, fits-rising, rising-fits, message-length, message-rest, start-reads, start-written}
 use Rattle.model.specs.Model.{Model, Transition, noneDead}
 use Rattle.wire.specs.Step.{start}
+use Rattle.model.specs.Format.{modelHeader, modelHead, statesCount, propositionsCount, transitionsCount, labelWidth, weightAt, toAt, transitionWidth, labelAt, modelLength}
 use Rattle.model.specs.Message.{readLabel, readTransition, readHeader, readModel, labels, transitions}
 use Rattle.model.specs.Write.{writeTransition, writeBody, writeModel}
 use Rattle.model.specs.WellFormed.{WellFormed}
@@ -42,7 +44,7 @@ abbrev pub TransitionNext : ℕ → State → Transition → Type 0
 TransitionNext n st t = (st .prev ≤ t .from) × TransitionFits n t
 
 -- how long a transition is
-transition-length : (t : Transition) → length (writeTransition t) ≡ 8
+transition-length : (t : Transition) → length (writeTransition t) ≡ transitionWidth
 unfolding writeTransition
 transition-length t = simp (length-append, length-bytes)
 
@@ -77,9 +79,9 @@ module _ (s : List ℕ) where
     written = λ st t stands f.
         let front : Stands s (st .at) (bytes 2 (t .from) ++ bytes 4 (t .weight)) = stands-first _ _ stands in
         let from-there : field 2 s (st .at) ≡ good (t .from) = stands-field 2 (omega arith) (stands-first _ _ front) (omega arith) in
-        let weight-there : field 4 s (st .at + 2) ≡ good (t .weight) =
+        let weight-there : field 4 s (st .at + weightAt) ≡ good (t .weight) =
         stands-field 4 (omega arith) (stands-second (bytes 2 (t .from)) _ (simp length-bytes) front) (f .1 .weight-fits) in
-        let to-there : field 2 s (st .at + 6) ≡ good (t .to) =
+        let to-there : field 2 s (st .at + toAt) ≡ good (t .to) =
         stands-field 2 (omega arith) (stands-second (bytes 2 (t .from) ++ bytes 4 (t .weight)) _ (simp (length-append, length-bytes) (omega arith)) stands) (omega arith) in
         good-bind _ from-there
         (good-bind _ weight-there
@@ -107,38 +109,38 @@ module _ (s : List ℕ) where
 abbrev writeCounts : Model → List ℕ
 writeCounts M = bytes 2 (M .states) ++ bytes 1 (M .propositions) ++ bytes 4 (length (M .transitions))
 
-body-length : (M : Model) → length (writeBody M) ≡ 7 + length (M .labels) * 4 + length (M .transitions) * 8
+body-length : (M : Model) → startWidth + length (writeBody M) ≡ modelLength (length (M .labels)) (length (M .transitions))
 unfolding writeBody
-body-length M = simp (length-append, length-bytes, length-writeAll (bytes 4) 4 (length-bytes 4), length-writeAll writeTransition 8 transition-length)
+body-length M = simp (length-append, length-bytes, length-writeAll (bytes 4) labelWidth (length-bytes 4), length-writeAll writeTransition transitionWidth transition-length) (omega arith)
 
 -- the body of a message, part by part
 record Laid (s : List ℕ) (M : Model) : Type 0 where
-  states-there : Stands s 6 (bytes 2 (M .states))
-  propositions-there : Stands s 8 (bytes 1 (M .propositions))
-  count-there : Stands s 9 (bytes 4 (length (M .transitions)))
-  labels-there : Stands s 13 (writeAll (bytes 4) (M .labels))
-  transitions-there : Stands s (13 + length (M .labels) * 4) (writeAll writeTransition (M .transitions))
+  states-there : Stands s (statesCount .at) (bytes 2 (M .states))
+  propositions-there : Stands s (propositionsCount .at) (bytes 1 (M .propositions))
+  count-there : Stands s (transitionsCount .at) (bytes 4 (length (M .transitions)))
+  labels-there : Stands s modelHeader (writeAll (bytes 4) (M .labels))
+  transitions-there : Stands s (labelAt (length (M .labels))) (writeAll writeTransition (M .transitions))
 
-laid-body : {s : List ℕ} (M : Model) → Laid s M → Stands s 6 (writeBody M)
+laid-body : {s : List ℕ} (M : Model) → Laid s M → Stands s startWidth (writeBody M)
 unfolding writeBody
 laid-body {s} M l =
-    let two : Stands s 6 (bytes 2 (M .states) ++ bytes 1 (M .propositions)) = stands-both (simp length-bytes) (l .states-there) (l .propositions-there) in
-    let counts-there : Stands s 6 (writeCounts M) = stands-both (simp (length-append, length-bytes)) two (l .count-there) in
-    let front : Stands s 6 (writeCounts M ++ writeAll (bytes 4) (M .labels)) = stands-both (simp (length-append, length-bytes)) counts-there (l .labels-there) in
-    stands-both (simp (length-append, length-bytes, length-writeAll (bytes 4) 4 (length-bytes 4)) (omega arith)) front (l .transitions-there)
+    let two : Stands s startWidth (bytes 2 (M .states) ++ bytes 1 (M .propositions)) = stands-both (simp length-bytes) (l .states-there) (l .propositions-there) in
+    let counts-there : Stands s startWidth (writeCounts M) = stands-both (simp (length-append, length-bytes)) two (l .count-there) in
+    let front : Stands s startWidth (writeCounts M ++ writeAll (bytes 4) (M .labels)) = stands-both (simp (length-append, length-bytes)) counts-there (l .labels-there) in
+    stands-both (simp (length-append, length-bytes, length-writeAll (bytes 4) labelWidth (length-bytes 4)) (omega arith)) front (l .transitions-there)
 
-body-laid : {s : List ℕ} (M : Model) → Stands s 6 (writeBody M) → Laid s M
+body-laid : {s : List ℕ} (M : Model) → Stands s startWidth (writeBody M) → Laid s M
 unfolding writeBody
 body-laid {s} M h =
-    let front : Stands s 6 (writeCounts M ++ writeAll (bytes 4) (M .labels)) = stands-first _ _ h in
-    let counts-there : Stands s 6 (writeCounts M) = stands-first _ _ front in
-    let two : Stands s 6 (bytes 2 (M .states) ++ bytes 1 (M .propositions)) = stands-first _ _ counts-there in
+    let front : Stands s startWidth (writeCounts M ++ writeAll (bytes 4) (M .labels)) = stands-first _ _ h in
+    let counts-there : Stands s startWidth (writeCounts M) = stands-first _ _ front in
+    let two : Stands s startWidth (bytes 2 (M .states) ++ bytes 1 (M .propositions)) = stands-first _ _ counts-there in
     record {
       states-there = stands-first _ _ two;
       propositions-there = stands-second (bytes 2 (M .states)) _ (simp length-bytes) two;
       count-there = stands-second (bytes 2 (M .states) ++ bytes 1 (M .propositions)) _ (simp (length-append, length-bytes)) counts-there;
       labels-there = stands-second (writeCounts M) _ (simp (length-append, length-bytes)) front;
-      transitions-there = stands-second (writeCounts M ++ writeAll (bytes 4) (M .labels)) _ (simp (length-append, length-bytes, length-writeAll (bytes 4) 4 (length-bytes 4)) (omega arith)) h;
+      transitions-there = stands-second (writeCounts M ++ writeAll (bytes 4) (M .labels)) _ (simp (length-append, length-bytes, length-writeAll (bytes 4) labelWidth (length-bytes 4)) (omega arith)) h;
     }
 
 -- parts that a good message has make it good
@@ -149,7 +151,7 @@ good-model M p =
 
 -- a model is well-formed when its counts are within their limits, its records are those that the states demand, and none is dead
 fits-well : {s : List ℕ} {M : Model} {middle : ℕ} → HeaderAt s (counts M) → length (M .labels) ≡ M .states
-    → FitsAll (labels s (M .propositions)) (λ st l. l < 2 ^ M .propositions) (start 13) (M .labels)
+    → FitsAll (labels s (M .propositions)) (λ st l. l < 2 ^ M .propositions) (start modelHeader) (M .labels)
     → FitsAll (transitions s (M .states)) (TransitionNext (M .states)) (start middle) (M .transitions)
     → noneDead (M .states) (M .transitions) ≡ true → WellFormed M
 fits-well {s} {M} header labelled ls ts live =
@@ -171,7 +173,7 @@ fits-well {s} {M} header labelled ls ts live =
 
 -- and the other way round
 module _ (s : List ℕ) (M : Model) (w : WellFormed M) where
-  labels-well : FitsAll (labels s (M .propositions)) (λ st l. l < 2 ^ M .propositions) (start 13) (M .labels)
+  labels-well : FitsAll (labels s (M .propositions)) (λ st l. l < 2 ^ M .propositions) (start modelHeader) (M .labels)
   labels-well = each-fits (labels s (M .propositions)) _ _ (λ l m. w .labels-fit m)
 
   transitions-well : (middle : ℕ) → FitsAll (transitions s (M .states)) (TransitionNext (M .states)) (start middle) (M .transitions)
@@ -189,7 +191,7 @@ unfolding writeModel
 accepted-written s M b e =
     let p = model-good {s = s} {M = M} e in
     let header = header-good s _ (p .header) in
-    let started = start-reads 13 1 2 b (header .opened) in
+    let started = start-reads modelHead b (header .opened) in
     let ls = all-reads (labels-exact s (M .propositions) (header .propositions-counted .no-more)) b _ _ _ (p .labels-there) in
     let ts = all-reads (transitions-exact s (M .states) (omega arith)) b _ _ _ (p .transitions-there) in
     let body = laid-body M (record {
@@ -199,25 +201,25 @@ accepted-written s M b e =
       labels-there = ls .0;
       transitions-there = rw (p .labelled) (ts .0);
     }) in
-    let rest : drop 6 s ≡ writeBody M = stands-last body (omega (arith, body-length M, p .labelled, header .long)) in
-    (started .whole ∙ ap (message 1 2) rest, fits-well header (p .labelled) (ls .1) (ts .1) (p .live))
+    let rest : drop startWidth s ≡ writeBody M = stands-last body (omega (arith, body-length M, p .labelled, header .long)) in
+    (started .whole ∙ ap (message modelHead) rest, fits-well header (p .labelled) (ls .1) (ts .1) (p .live))
 
 pub written-accepted : (M : Model) → WellFormed M → readModel (writeModel M) ≡ good M
 unfolding readHeader writeModel
 written-accepted M w =
-    let s : List ℕ = message 1 2 (writeBody M) in
-    let laid = body-laid M (message-rest 1 2 (writeBody M)) in
-    let long : length (writeBody M) ≡ 7 + M .states * 4 + length (M .transitions) * 8 = rw (w .labelled) at (body-length M) in
-    let total : length s ≡ 13 + M .states * 4 + length (M .transitions) * 8 = omega (arith, message-length 1 2 (writeBody M)) in
-    let opened = start-written (writeBody M) 13 1 2 (omega arith) (omega arith) (omega arith) (omega arith) in
-    let middle : ℕ = 13 + M .states * 4 in
-    let labels-read = all-written (labels-exact s (M .propositions) (w .propositions-fit)) (start 13) (M .labels) (laid .labels-there) (labels-well s M w) in
+    let s : List ℕ = message modelHead (writeBody M) in
+    let laid = body-laid M (message-rest modelHead (writeBody M)) in
+    let long : startWidth + length (writeBody M) ≡ modelLength (M .states) (length (M .transitions)) = rw (w .labelled) at (body-length M) in
+    let total : length s ≡ modelLength (M .states) (length (M .transitions)) = omega (arith, message-length modelHead (writeBody M)) in
+    let opened = start-written (writeBody M) modelHead (omega arith) (omega arith) (omega arith) (omega arith) in
+    let middle : ℕ = labelAt (M .states) in
+    let labels-read = all-written (labels-exact s (M .propositions) (w .propositions-fit)) (start modelHeader) (M .labels) (laid .labels-there) (labels-well s M w) in
     good-model M (record {
       header =
           good-after opened
-          (good-bind _ (good-count 2 s 6 1 256 (stands-field 2 (omega arith) (laid .states-there) (omega arith)) (w .some-state) (w .states-fit))
-          (good-bind _ (good-count 1 s 8 0 32 (stands-field 1 (omega arith) (laid .propositions-there) (omega arith)) (omega arith) (w .propositions-fit))
-          (good-bind _ (good-count 4 s 9 0 65535 (stands-field 4 (omega arith) (laid .count-there) (omega arith)) (omega arith) (w .transitions-fit))
+          (good-bind _ (good-count s statesCount (stands-field 2 (omega arith) (laid .states-there) (omega arith)) (w .some-state) (w .states-fit))
+          (good-bind _ (good-count s propositionsCount (stands-field 1 (omega arith) (laid .propositions-there) (omega arith)) (omega arith) (w .propositions-fit))
+          (good-bind _ (good-count s transitionsCount (stands-field 4 (omega arith) (laid .count-there) (omega arith)) (omega arith) (w .transitions-fit))
           (good-demand _ (eq-eqb _ _ total) refl))));
       labelled = w .labelled;
       labels-there = rw (w .labelled) at labels-read;

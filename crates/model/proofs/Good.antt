@@ -21,6 +21,7 @@ use Rattle.wire.proofs.Reading.{reading, bind-good, and-good, demand-good, fiel
 use Rattle.wire.proofs.Readers.{all-length}
 use Rattle.model.specs.Model.{Model, Transition, noneDead}
 use Rattle.wire.specs.Step.{start}
+use Rattle.model.specs.Format.{modelHeader, modelHead, statesCount, propositionsCount, transitionsCount, weightAt, toAt, transitionWidth, labelAt, modelLength}
 use Rattle.model.specs.Message.{readLabel, readTransition, readHeader, readModel, labels, transitions, afterFrom, Counts}
 
 after-from-most : {n first from : ℕ} → first ≤ n → from < n → afterFrom first from ≤ n
@@ -48,8 +49,8 @@ module _ (s : List ℕ) where
   -- what a good transition says of the bytes
   pub record TransitionAt (n : ℕ) (st : State) (t : Transition) : Type 0 where
     pub from-there : fieldAt 2 s (st .at) ≡ Number (t .from)
-    pub weight-there : fieldAt 4 s (st .at + 2) ≡ Number (t .weight)
-    pub to-there : fieldAt 2 s (st .at + 6) ≡ Number (t .to)
+    pub weight-there : fieldAt 4 s (st .at + weightAt) ≡ Number (t .weight)
+    pub to-there : fieldAt 2 s (st .at + toAt) ≡ Number (t .to)
     pub from-named : t .from < n
     pub ordered : st .prev ≤ t .from
     pub to-named : t .to < n
@@ -80,17 +81,17 @@ module _ (s : List ℕ) where
       let l = label-good p st (r .value) (r .first) in
       omega (arith, value-inside 4 s (st .at) (l .label-there), ap (λ (u : State). u .at) (good-same (r .rest)))
 
-  -- a transition moves the position by its 8 bytes, and the first state that none leaves is at most their number
-  pub transitions-stay : (n : ℕ) (st next : State) → st .tally ≤ n → one (transitions s n) st ≡ good next → (st .at + 8 ≡ next .at) × (next .at ≤ length s) × (next .tally ≤ n)
+  -- a transition moves the position past it, and the first state that none leaves is at most their number
+  pub transitions-stay : (n : ℕ) (st next : State) → st .tally ≤ n → one (transitions s n) st ≡ good next → (st .at + transitionWidth ≡ next .at) × (next .at ≤ length s) × (next .tally ≤ n)
   transitions-stay n st next most e =
       let r = bind-good _ _ e in
       let t = transition-good n st (r .value) (r .first) in
-      rw (← good-same (r .rest)) (refl, omega (arith, value-inside 2 s (st .at + 6) (t .to-there)), after-from-most most (t .from-named))
+      rw (← good-same (r .rest)) (refl, omega (arith, value-inside 2 s (st .at + toAt) (t .to-there)), after-from-most most (t .from-named))
 
   -- one from the same state as the one before it, which is counted already, moves the position only
-  pub transition-goes-on : (n : ℕ) (st : State) {from weight to : ℕ} {r : Bool} → st .tally ≤ n → fieldAt 2 s (st .at) ≡ Number from → fieldAt 4 s (st .at + 2) ≡ Number weight
-      → fieldAt 2 s (st .at + 6) ≡ Number to → r ≡ (eqb from (st .prev) && (ltb from (st .tally) && ltb to n)) → r ≡ true
-      → one (transitions s n) st ≡ good (record { at = st .at + 8; prev = st .prev; tally = st .tally })
+  pub transition-goes-on : (n : ℕ) (st : State) {from weight to : ℕ} {r : Bool} → st .tally ≤ n → fieldAt 2 s (st .at) ≡ Number from → fieldAt 4 s (st .at + weightAt) ≡ Number weight
+      → fieldAt 2 s (st .at + toAt) ≡ Number to → r ≡ (eqb from (st .prev) && (ltb from (st .tally) && ltb to n)) → r ≡ true
+      → one (transitions s n) st ≡ good (record { at = st .at + transitionWidth; prev = st .prev; tally = st .tally })
   unfolding readTransition afterFrom
   transition-goes-on n st {from} {weight} {to} most from-there weight-there to-there tests passed =
       let all = by tests passed in
@@ -99,15 +100,15 @@ module _ (s : List ℕ) where
       let low : from < st .tally = ltb-true _ _ (and-left _ (ltb to n) rest) in
       let to-named = and-right (ltb from (st .tally)) _ rest in
       simp (reading, from-there, weight-there, to-there, lt-ltb from n (omega arith), le-leb (st .prev) from (omega arith), to-named, ne-eqb from (st .tally) (omega arith))
-      (λ i. good (record { at = st .at + 8; prev = same i; tally = st .tally }))
+      (λ i. good (record { at = st .at + transitionWidth; prev = same i; tally = st .tally }))
 
 -- what a good header says of the bytes
 pub record HeaderAt (s : List ℕ) (k : Counts) : Type 0 where
-  pub opened : readStart s 13 1 2 ≡ good tt
-  pub states-counted : CountAt 2 s 6 1 256 (k .states)
-  pub propositions-counted : CountAt 1 s 8 0 32 (k .propositions)
-  pub transitions-counted : CountAt 4 s 9 0 65535 (k .transitions)
-  pub long : length s ≡ 13 + k .states * 4 + k .transitions * 8
+  pub opened : readStart s modelHead ≡ good tt
+  pub states-counted : CountAt s statesCount (k .states)
+  pub propositions-counted : CountAt s propositionsCount (k .propositions)
+  pub transitions-counted : CountAt s transitionsCount (k .transitions)
+  pub long : length s ≡ modelLength (k .states) (k .transitions)
 
 pub header-good : (s : List ℕ) (k : Counts) → readHeader s ≡ good k → HeaderAt s k
 unfolding readHeader
@@ -121,9 +122,9 @@ header-good s k e =
     subst (HeaderAt s) same
     (record {
       opened = opened .0;
-      states-counted = count-good _ _ _ _ _ (n .first);
-      propositions-counted = count-good _ _ _ _ _ (p .first);
-      transitions-counted = count-good _ _ _ _ _ (t .first);
+      states-counted = count-good _ _ (n .first);
+      propositions-counted = count-good _ _ (p .first);
+      transitions-counted = count-good _ _ (t .first);
       long = eqb-true _ _ (long .0);
     })
 
@@ -135,8 +136,8 @@ counts M = record { states = M .states; propositions = M .propositions; transiti
 pub record ModelAt (s : List ℕ) (M : Model) : Type 0 where
   pub header : readHeader s ≡ good (counts M)
   pub labelled : length (M .labels) ≡ M .states
-  pub labels-there : readAll (labels s (M .propositions)) (M .states) (start 13) ≡ good (M .labels)
-  pub transitions-there : readAll (transitions s (M .states)) (length (M .transitions)) (start (13 + M .states * 4)) ≡ good (M .transitions)
+  pub labels-there : readAll (labels s (M .propositions)) (M .states) (start modelHeader) ≡ good (M .labels)
+  pub transitions-there : readAll (transitions s (M .states)) (length (M .transitions)) (start (labelAt (M .states))) ≡ good (M .transitions)
   pub live : noneDead (M .states) (M .transitions) ≡ true
 
 pub model-good : {s : List ℕ} {M : Model} → readModel s ≡ good M → ModelAt s M

@@ -9,10 +9,11 @@ use Rattle.refusal.specs.declared.Refusal.the-variants.{Length, Order, Name, De
 use Rattle.wire.specs.Read.{Read, good, _>>=_, _>>_, demand, field}
 use Rattle.wire.specs.Reader.{Reader, readAll}
 use Rattle.wire.specs.Start.{readStart}
-use Rattle.wire.specs.Counts.{countAt}
+use Rattle.wire.specs.Counts.{readCount}
 use Rattle.wire.specs.Step.{start}
 use Rattle.wire.specs.declared.State.{State}
 use Rattle.model.specs.Model.{Model, Transition, noneDead}
+use Rattle.model.specs.Format.{modelHeader, modelHead, statesCount, propositionsCount, transitionsCount, labelWidth, weightAt, toAt, transitionWidth, labelAt, modelLength}
 
 -- with transitions in order, the first state that none leaves: the next one where a transition leaves this one. It serves the check;
 -- what is read does not depend on it, for DEAD is `noneDead`
@@ -27,31 +28,31 @@ module _ (s : List ℕ) where
     demand (ltb label (2 ^ p)) Form
     good label
 
-  -- the labels, 4 bytes each
+  -- the labels, one behind another
   abbrev pub labels : ℕ → Reader State ℕ
   labels p = record {
     position = λ st. st .at;
     read = readLabel p;
-    next = λ st label. record { at = st .at + 4; prev = st .prev; tally = st .tally };
+    next = λ st label. record { at = st .at + labelWidth; prev = st .prev; tally = st .tally };
   }
 
   -- a transition of a model with n states: from (2), weight (4), to (2)
   unfoldable pub readTransition : ℕ → State → Read Transition
   readTransition n st = do
     from ← field 2 s (st .at)
-    weight ← field 4 s (st .at + 2)
-    to ← field 2 s (st .at + 6)
+    weight ← field 4 s (st .at + weightAt)
+    to ← field 2 s (st .at + toAt)
     demand (ltb from n) Name
     demand (leb (st .prev) from) Order
     demand (ltb to n) Name
     good (record { from = from; weight = weight; to = to })
 
-  -- the transitions, 8 bytes each
+  -- the transitions, one behind another
   abbrev pub transitions : ℕ → Reader State Transition
   transitions n = record {
     position = λ st. st .at;
     read = readTransition n;
-    next = λ st t. record { at = st .at + 8; prev = t .from; tally = afterFrom (st .tally) (t .from) };
+    next = λ st t. record { at = st .at + transitionWidth; prev = t .from; tally = afterFrom (st .tally) (t .from) };
   }
 
 -- the counts of a header
@@ -60,21 +61,21 @@ pub record Counts : Type 0 where
   pub propositions : ℕ
   pub transitions : ℕ
 
--- the header, 13 bytes, version 1, kind 2: then states (2), propositions (1), transitions (4); then the message is exactly as long as they say
+-- the header: its start, then states, propositions, transitions; then the message is exactly as long as they say
 unfoldable pub readHeader : List ℕ → Read Counts
 readHeader s = do
-  readStart s 13 1 2
-  n ← countAt 2 s 6 1 256
-  p ← countAt 1 s 8 0 32
-  t ← countAt 4 s 9 0 65535
-  demand (eqb (length s) (13 + n * 4 + t * 8)) Length
+  readStart s modelHead
+  n ← readCount s statesCount
+  p ← readCount s propositionsCount
+  t ← readCount s transitionsCount
+  demand (eqb (length s) (modelLength n t)) Length
   good (record { states = n; propositions = p; transitions = t })
 
 -- a whole message: the header, the labels, the transitions, and after all of them DEAD
 unfoldable pub readModel : List ℕ → Read Model
 readModel s = do
   counts ← readHeader s
-  ls ← readAll (labels s (counts .propositions)) (counts .states) (start 13)
-  ts ← readAll (transitions s (counts .states)) (counts .transitions) (start (13 + counts .states * 4))
+  ls ← readAll (labels s (counts .propositions)) (counts .states) (start modelHeader)
+  ts ← readAll (transitions s (counts .states)) (counts .transitions) (start (labelAt (counts .states)))
   demand (noneDead (counts .states) ts) Dead
   good (record { states = counts .states; propositions = counts .propositions; labels = ls; transitions = ts })

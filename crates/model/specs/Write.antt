@@ -5,6 +5,7 @@ use lib.ListN.{length}
 use Rattle.wire.specs.Bytes.{bytes}
 use Rattle.wire.specs.Write.{writeAll, message}
 use Rattle.model.specs.Model.{Model, Transition}
+use Rattle.model.specs.Format.{modelHead}
 
 -- from (2), weight (4), to (2)
 unfoldable pub writeTransition : Transition → List ℕ
@@ -16,6 +17,6 @@ writeBody M =
     bytes 2 (M .states) ++ bytes 1 (M .propositions) ++ bytes 4 (length (M .transitions))
     ++ writeAll (bytes 4) (M .labels) ++ writeAll writeTransition (M .transitions)
 
--- version 1, kind 2
+-- behind the start
 unfoldable pub writeModel : Model → List ℕ
-writeModel M = message 1 2 (writeBody M)
+writeModel M = message modelHead (writeBody M)

@@ -10,13 +10,58 @@ ghost use Rattle.wire.specs.Reader.{one, run};
 ghost use Rattle.wire.specs.Step.{step};
 ghost use Rattle.model.specs.Message as m;
 ghost use Rattle.model.specs.Answers as answers;
+ghost use Rattle.model.specs.Format.{toAt, transitionWidth};
 use refusal::Refusal;
+use wire::Count;
 use wire::Counted;
 use wire::Field;
+use wire::Head;
 use wire::Opened;
 use wire::State;
 use wire::Step;
 use wire::Width;
+
+// The header of a model message, and its counts.
+pub const HEADER: usize = 13;
+
+const HEAD: Head = Head {
+    length: HEADER,
+    version: 1,
+    kind: 2,
+};
+
+const STATES: Count = Count {
+    at: 6,
+    width: Width::Two,
+    least: 1,
+    most: 256,
+};
+
+// Where the propositions are told: whoever has an accepted model reads them there.
+pub const PROPOSITIONS_AT: usize = 8;
+
+const PROPOSITIONS: Count = Count {
+    at: PROPOSITIONS_AT,
+    width: Width::One,
+    least: 0,
+    most: 32,
+};
+
+const TRANSITIONS: Count = Count {
+    at: 9,
+    width: Width::Four,
+    least: 0,
+    most: 65535,
+};
+
+// How wide a label is; where the weight and the `to` of a transition stand, and how wide it is.
+pub const LABEL: usize = 4;
+
+pub const WEIGHT_AT: usize = 2;
+
+pub const TO_AT: usize = WEIGHT_AT + 4;
+
+pub const TRANSITION: usize = TO_AT + 2;
 
 // How many states, propositions and transitions an accepted message has, or its first fault.
 pub enum Checked {
@@ -62,7 +107,7 @@ fn label(s: &[u8], p: u32, limit: u64, st: State) -> Step
     if limit <= label as u64 {
         return Step::Refused(Refusal::Form);
     }
-    let end = at + 4;
+    let end = at + LABEL;
     Step::Next(State {
         at: end,
         prev: st.prev,
@@ -98,13 +143,13 @@ fn goes_on(n: u32, st: State, from: u32, to: u32) -> bool
 
 // One transition of a model with n states, whose last field is there, and so are those before it. One that goes on moves the position only.
 fn transition(s: &[u8], n: u32, to: u32, st: State) -> Step
-    requires { ⌜ fieldAt 2 (now s) (st .at + 6) ≡ Number to ⌝ }
+    requires { ⌜ fieldAt 2 (now s) (st .at + toAt) ≡ Number to ⌝ }
     requires { ⌜ (n ≤ 256) × (st .tally ≤ n) ⌝ }
     ensures { λ r. ⌜ r ≡ step (one (m.transitions (now (s .entry)) n) st) ⌝ }
 {
     let at = st.at;
     let from = wire::number_at(s, at, Width::Two);
-    let end = at + 8;
+    let end = at + TRANSITION;
     if goes_on(n, st, from, to) {
         return Step::Next(State {
             at: end,
@@ -143,11 +188,11 @@ fn after_from(first: u32, from: u32) -> u32
 // The k transitions up to the end of the message: where no last field fits, none is left.
 fn transitions(s: &[u8], n: u32, start: State) -> Step
     requires { ⌜ (start .at ≤ length (now s)) × (n ≤ 256) × (start .tally ≤ n) ⌝ }
-    ensures { λ r. ⌜ ((k : ℕ) → start .at + k * 8 ≡ length (now (s .entry)) → r ≡ step (run (m.transitions (now (s .entry)) n) k start)) ⌝ }
+    ensures { λ r. ⌜ ((k : ℕ) → start .at + k * transitionWidth ≡ length (now (s .entry)) → r ≡ step (run (m.transitions (now (s .entry)) n) k start)) ⌝ }
 {
     let mut st = start;
     loop {
-        let to_at = st.at + 6;
+        let to_at = st.at + TO_AT;
         let Field::Number(to) = wire::read(s, to_at, Width::Two) else {
             return Step::Next(st);
         };
@@ -163,22 +208,22 @@ fn transitions(s: &[u8], n: u32, start: State) -> Step
 fn header(s: &[u8]) -> Checked
     ensures { λ r. ⌜ r ≡ answers.counted (m.readHeader (now (s .entry))) ⌝ }
 {
-    if let Opened::Refused(e) = wire::open(s, 13, 1, 2) {
+    if let Opened::Refused(e) = wire::open(s, HEAD) {
         return Checked::Refused(e);
     }
-    let n = match wire::count_at(s, 6, Width::Two, 1, 256) {
+    let n = match wire::read_count(s, STATES) {
         Counted::Count(n) => n,
         Counted::Refused(e) => return Checked::Refused(e),
     };
-    let p = match wire::count_at(s, 8, Width::One, 0, 32) {
+    let p = match wire::read_count(s, PROPOSITIONS) {
         Counted::Count(p) => p,
         Counted::Refused(e) => return Checked::Refused(e),
     };
-    let t = match wire::count_at(s, 9, Width::Four, 0, 65535) {
+    let t = match wire::read_count(s, TRANSITIONS) {
         Counted::Count(t) => t,
         Counted::Refused(e) => return Checked::Refused(e),
     };
-    let end = 13 + (n as usize) * 4 + (t as usize) * 8;
+    let end = HEADER + (n as usize) * LABEL + (t as usize) * TRANSITION;
     if s.len() != end {
         return Checked::Refused(Refusal::Length);
     }
@@ -198,14 +243,14 @@ pub fn check(s: &[u8]) -> Checked
         p,
         n,
         State {
-            at: 13,
+            at: HEADER,
             prev: 0,
             tally: 0,
         },
     ) {
         return Checked::Refused(e);
     }
-    let middle = 13 + (n as usize) * 4;
+    let middle = HEADER + (n as usize) * LABEL;
     let first = match transitions(
         s,
         n,

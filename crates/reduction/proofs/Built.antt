@@ -26,7 +26,7 @@ use Rattle.formula.specs.declared.Row.the-variants.{True, False, Proposition, N
 use Rattle.formula.specs.Rows.{operands}
 use Rattle.formula.specs.WellFormed as formula
 use Rattle.formula.proofs.Trees.{Ordered, ordered}
-use Rattle.runs.specs.Runs.{Leads}
+use Rattle.runs.specs.Systems.{Leads}
 use Rattle.runs.proofs.Proper.{Proper, proper}
 use Rattle.reduction.specs.Built.{to, out, near, rowEdges, stepEdges, helperEdges, rowCovers, isUntil, untils, layout, hyper, cover, graphOf, Fits}
 use Rattle.reduction.proofs.Out.{out-leads, near-leads}

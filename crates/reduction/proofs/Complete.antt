@@ -26,7 +26,7 @@ use Rattle.formula.specs.Formula.{grow, formulaOf}
 use Rattle.formula.specs.Rows.{operands}
 use Rattle.formula.specs.WellFormed.{RowAt}
 use Rattle.formula.proofs.Trees.{Ordered, formula-of-row}
-use Rattle.runs.specs.Runs.{Step, go}
+use Rattle.runs.specs.Systems.{Leads, systemOf}
 use Rattle.runs.specs.Sat as sat
 use Rattle.runs.specs.Sat.{Sat}
 use Rattle.runs.proofs.Proper.{Proper}
@@ -67,8 +67,8 @@ module _ (M : Model) (rows : List Row) (ok : Proper M) (order : Ordered rows) (x
     start q at a l h = value-≼ q at l (to 0 (a + s * k) ∷ []) first (each-more (zero-sum 0 k right a l h) each-none)
 
     -- where left holds it climbs by no more than the weight. E: along each step
-    E-climb : RowAt rows r (Until Some j k b) → (a w c : ℕ) → a < s → Step M a w c → Climbs (Holds M rows j) value a w c
-    E-climb at a w c l (go m) h e p =
+    E-climb : RowAt rows r (Until Some j k b) → (a w c : ℕ) → a < s → Leads M a w c → Climbs (Holds M rows j) value a w c
+    E-climb at a w c l m h e p =
         let d = w + e in
         value-≼ Some at l (to 0 (a + s * j) ∷ to w (c + s * H) ∷ [])
         (List·Memᴰ·tail (Memᴰ·map (λ (t : Target). to 0 (a + s * j) ∷ to (t .weight) (t .node + s * H) ∷ []) (leads-out M a m)))
@@ -79,7 +79,7 @@ module _ (M : Model) (rows : List Row) (ok : Proper M) (order : Ordered rows) (x
     A-climb at a l =
         let (w, c, m) = ok .live a l in
         let p = peak (λ (t : Target). plus (t .weight) (value (t .node))) (leads-out M a m) in (
-          record { weight = p .top .weight; state = p .top .node; step = go (out-leads M a (p .there)) },
+          record { weight = p .top .weight; state = p .top .node; step = out-leads M a (p .there) },
           λ h e v.
               let d = p .top .weight + e in
               value-≼ Every at l (to 0 (a + s * j) ∷ map (λ (t : Target). to (t .weight) (t .node + s * H)) (out M a)) second
@@ -88,7 +88,7 @@ module _ (M : Model) (rows : List Row) (ok : Proper M) (order : Ordered rows) (x
         )
 
     -- where the until holds, the helper's value is within the bound
-    helper-complete : (q : Quantifier) → RowAt rows r (Until q j k b) → (a : ℕ) → a < s → sat.Until M q (Holds M rows j) (Holds M rows k) b a
+    helper-complete : (q : Quantifier) → RowAt rows r (Until q j k b) → (a : ℕ) → a < s → sat.Until (systemOf M) q (Holds M rows j) (Holds M rows k) b a
         → meets b (value a) ≡ true
     helper-complete Some at a l u = E-value M ok (Holds M rows j) (Holds M rows k) value (start Some at) b (E-climb at) a l u
     helper-complete Every at a l u =
@@ -96,7 +96,7 @@ module _ (M : Model) (rows : List Row) (ok : Proper M) (order : Ordered rows) (x
 
   -- where a row's formula holds there is a reason for 0
   row-complete : (r : ℕ) (row : Row) → RowAt rows r row → ((l : ℕ) → l ∈ operands row → RowZero l) → (a : ℕ) (l : a < s)
-      → Sat M (grow (some row) (formulaOf rows)) a → Why M rows x r l row 0
+      → Sat (systemOf M) (grow (some row) (formulaOf rows)) a → Why M rows x r l row 0
   row-complete r True at op a l h = by-edge [] first each-none
   row-complete r False at op a l h = absurd h
   row-complete r (Proposition i) at op a l h = by-edge [] (rw h first) each-none
@@ -124,5 +124,5 @@ module _ (M : Model) (rows : List Row) (ok : Proper M) (order : Ordered rows) (x
       (row-complete r row at (λ j m. let e = order .earlier r at m in from-rows n j (omega arith) (omega arith)) a l
       (rw (formula-of-row rows order r at) at t)))
 
-  pub complete : (r : ℕ) → r < length rows → (a : ℕ) → a < M .states → Sat M (formulaOf rows r) a → x (a + M .states * r) ≼ 0
+  pub complete : (r : ℕ) → r < length rows → (a : ℕ) → a < M .states → Sat (systemOf M) (formulaOf rows r) a → x (a + M .states * r) ≼ 0
   complete r h = from-rows (suc r) r (omega arith) h

@@ -12,7 +12,7 @@ use Rattle.value.specs.declared.Bound.{Bound}
 use Rattle.value.specs.Value.{inside}
 use Rattle.rules.specs.Graph.{Target}
 use Rattle.model.specs.Model.{Model, Transition}
-use Rattle.runs.specs.Runs.{Leads}
+use Rattle.runs.specs.Systems.{Leads}
 use Rattle.reduction.specs.Built.{to, out, near}
 
 module _ (M : Model) (a : ℕ) where

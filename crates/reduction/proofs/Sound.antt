@@ -26,7 +26,7 @@ use Rattle.formula.specs.Formula.{grow, formulaOf}
 use Rattle.formula.specs.Rows.{operands}
 use Rattle.formula.specs.WellFormed.{RowAt}
 use Rattle.formula.proofs.Trees.{Ordered, formula-of-row}
-use Rattle.runs.specs.Runs.{Leads, Step, go}
+use Rattle.runs.specs.Systems.{System, Leads, systemOf}
 use Rattle.runs.specs.Sat as sat
 use Rattle.runs.specs.Sat.{Sat}
 use Rattle.runs.proofs.Proper.{Proper}
@@ -45,9 +45,12 @@ module _ (M : Model) (rows : List Row) where
   abbrev s : ℕ
   s = M .states
 
+  abbrev S : System
+  S = systemOf M
+
   -- the states that satisfy row l
   abbrev pub Holds : ℕ → ℕ → Type 0
-  Holds l a = Sat M (formulaOf rows l) a
+  Holds l a = Sat S (formulaOf rows l) a
 
   -- y has a number at the nodes of row l only where the row's formula holds
   abbrev pub RowSound : Assignment → ℕ → Type 0
@@ -55,7 +58,7 @@ module _ (M : Model) (rows : List Row) where
 
   -- y has d at the helper nodes of row r only where the until of rows j and k holds within d
   abbrev pub HelperSound : Assignment → ℕ → Quantifier → ℕ → ℕ → Type 0
-  HelperSound y r q j k = (a : ℕ) → a < s → (d : ℕ) → y (a + s * helperAt rows r) ≼ d → sat.Until M q (Holds j) (Holds k) (Within d) a
+  HelperSound y r q j k = (a : ℕ) → a < s → (d : ℕ) → y (a + s * helperAt rows r) ≼ d → sat.Until S q (Holds j) (Holds k) (Within d) a
 
   module _ (ok : Proper M) (y : Assignment) where
     -- a row's target at weight 0
@@ -64,7 +67,7 @@ module _ (M : Model) (rows : List Row) where
 
     -- a hyperedge of a row's node has a number: its formula holds
     edge-sound : (row : Row) → ((l : ℕ) → l ∈ operands row → RowSound y l) → (a : ℕ) → a < s → (d : ℕ) (ts : List Target)
-        → ts ∈ rowEdges M row a → Cheap y d ts → Sat M (grow (some row) (formulaOf rows)) a
+        → ts ∈ rowEdges M row a → Cheap y d ts → Sat S (grow (some row) (formulaOf rows)) a
     edge-sound True op a l d ts m p = tt
     edge-sound False op a l d ts m p = elim m [ ]
     edge-sound (Proposition i) op a l d ts m p = passed (holds M i a) m
@@ -89,30 +92,30 @@ module _ (M : Model) (rows : List Row) where
 
       -- a helper's target at the weight of a transition
       next-sound : (q : Quantifier) → HelperSound y r q j k → {a w c d : ℕ} {ts : List Target} → Leads M a w c → Cheap y d ts
-          → to w (c + s * H) ∈ ts → (e : ℕ) × sat.Until M q (Holds j) (Holds k) (Within e) c × (w + e ≤ d)
+          → to w (c + s * H) ∈ ts → (e : ℕ) × sat.Until S q (Holds j) (Holds k) (Within e) c × (w + e ≤ d)
       next-sound q hp {w = w} {c} {d} h p m =
           let u = ≼-plus w (y (c + s * H)) (p .at (to w (c + s * H)) m) in
           (d - w, hp c (ok .target h) (d - w) (u .1), omega arith)
 
       -- a hyperedge of a helper's node is at most d: the until holds within d
       step-sound : (q : Quantifier) → RowSound y j → HelperSound y r q j k → (a : ℕ) → a < s → (d : ℕ) (ts : List Target)
-          → ts ∈ stepEdges M q j H a → Cheap y d ts → sat.Until M q (Holds j) (Holds k) (Within d) a
+          → ts ∈ stepEdges M q j H a → Cheap y d ts → sat.Until S q (Holds j) (Holds k) (Within d) a
       step-sound Some left hp a l d ts m p =
           let (t, n, e) = Memᴰ·of-map (λ (t : Target). to 0 (a + s * j) ∷ to (t .weight) (t .node + s * H) ∷ []) (out M a) m in
           let p = rw (← e) at p in
           let h = out-leads M a n in
           let (i, u, fits) = next-sound Some hp h p second in
-          E-later M (Holds j) (Holds k) (go h) (target-sound j left l p first) u fits
-      step-sound Every left hp a l d ts m p = A-later M (Holds j) (Holds k) (target-sound j left l cheap first) onward
+          E-later S (Holds j) (Holds k) h (target-sound j left l p first) u fits
+      step-sound Every left hp a l d ts m p = A-later S (Holds j) (Holds k) (target-sound j left l cheap first) onward
         where
           cheap : Cheap y d (to 0 (a + s * j) ∷ map (λ (t : Target). to (t .weight) (t .node + s * H)) (out M a))
           cheap = rw (List·Memᴰ·eq-of-singleton m) at p
 
-          onward : (w c : ℕ) → Step M a w c → (e : ℕ) × sat.Until M Every (Holds j) (Holds k) (Within e) c × (w + e ≤ d)
-          onward w c (go h) = next-sound Every hp h cheap (List·Memᴰ·tail (Memᴰ·map (λ (t : Target). to (t .weight) (t .node + s * H)) (leads-out M a h)))
+          onward : (w c : ℕ) → Leads M a w c → (e : ℕ) × sat.Until S Every (Holds j) (Holds k) (Within e) c × (w + e ≤ d)
+          onward w c h = next-sound Every hp h cheap (List·Memᴰ·tail (Memᴰ·map (λ (t : Target). to (t .weight) (t .node + s * H)) (leads-out M a h)))
 
       helper-sound : (q : Quantifier) (b : Bound) → RowSound y j → RowSound y k → HelperSound y r q j k → (a : ℕ) → a < s → (d : ℕ) (ts : List Target)
-          → ts ∈ helperEdges M (Until q j k b) H a → Cheap y d ts → sat.Until M q (Holds j) (Holds k) (Within d) a
+          → ts ∈ helperEdges M (Until q j k b) H a → Cheap y d ts → sat.Until S q (Holds j) (Holds k) (Within d) a
       helper-sound q b left right hp a l d ts (List·Memᴰ·head e) p =
           until-now M ok (Holds j) (Holds k) q (Within d) a l (target-sound k right l (rw e at p) first)
       helper-sound q b left right hp a l d ts (List·Memᴰ·tail m) p = step-sound q left hp a l d ts m p
@@ -135,10 +138,10 @@ module _ (M : Model) (rows : List Row) where
             let (ts, m, c) = why-helper M rows y r l q j k b at p in
             helper-sound ok y r j k q b (operand r at j first) (operand r at k second) (ih .helper r q j k b at) a l d ts m c
 
-        by-reason : (r a : ℕ) (l : a < s) (d : ℕ) {row : Row} → RowAt rows r row → Why M rows y r l row d → Sat M (grow (some row) (formulaOf rows)) a
+        by-reason : (r a : ℕ) (l : a < s) (d : ℕ) {row : Row} → RowAt rows r row → Why M rows y r l row d → Sat S (grow (some row) (formulaOf rows)) a
         by-reason r a l d at (by-limit q j k b same e) =
             let (d, i, p) = meets-inside b (y (a + s * helperAt rows r)) e in
-            rw same (weaken M (Holds j) (Holds k) q b a d i (ih .helper r q j k b (rw same at at) a l d p))
+            rw same (weaken S (Holds j) (Holds k) q b a d i (ih .helper r q j k b (rw same at at) a l d p))
         by-reason r a l d {row} at (by-edge ts m c) = edge-sound ok y row (operand r at) a l d ts m c
 
         at-row : (r : ℕ) → r < length rows → RowSound (round (graphOf M rows) y) r

@@ -14,6 +14,7 @@ use Rattle.model.specs.Model.{Model}
 use Rattle.formula.specs.declared.Row.{Row}
 use Rattle.formula.specs.Formula.{formulaOf}
 use Rattle.formula.proofs.Trees.{Ordered}
+use Rattle.runs.specs.Systems.{systemOf}
 use Rattle.runs.specs.Sat.{Sat}
 use Rattle.runs.proofs.Proper.{Proper}
 use Rattle.reduction.specs.Built.{graphOf}
@@ -40,12 +41,12 @@ zero-exactly (fails n e) = (λ z. let clash : _≡_ {A = ℕ} 0 1 = cc in absurd
 
 module _ (M : Model) (rows : List Row) (ok : Proper M) (order : Ordered rows) (i : ℕ) (settled : Settled (graphOf M rows) i)
     (r : ℕ) (row : r < length rows) (a : ℕ) (state : a < M .states) where
-  pub verdict : Decided (Sat M (formulaOf rows r) a) (rounds (graphOf M rows) i (a + M .states * r))
+  pub verdict : Decided (Sat (systemOf M) (formulaOf rows r) a) (rounds (graphOf M rows) i (a + M .states * r))
   unfolding rounds
   verdict =
       decide (rounds (graphOf M rows) i (a + M .states * r)) (sound M rows ok order i .row r row a state)
       (complete M rows ok order (rounds (graphOf M rows) i) settled r row a state)
 
   -- yes, the value 0, exactly where the formula holds
-  pub yes-exactly : (rounds (graphOf M rows) i (a + M .states * r) ≡ fin 0) ↔ Sat M (formulaOf rows r) a
+  pub yes-exactly : (rounds (graphOf M rows) i (a + M .states * r) ≡ fin 0) ↔ Sat (systemOf M) (formulaOf rows r) a
   yes-exactly = zero-exactly verdict

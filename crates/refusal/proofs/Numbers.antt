@@ -1,15 +1,15 @@
--- The numbers given back tell the refusals apart, and from OK. Assumes nothing.
+-- The numbers given back tell the refusals apart, and from OK and BUDGET. Assumes nothing.
 use mathlib.Core.Path.{_≡_, refl, sym, ap, _∙_}
 use Prim.Native.Nat.{ℕ, zero, suc, _<_}
 use native.Mathlib.Omega.{arith}
-use Rattle.refusal.specs.Number.{numberOf}
+use Rattle.refusal.specs.Number.{overBudget, numberOf}
 use Rattle.refusal.specs.declared.Refusal.{Refusal}
-use Rattle.refusal.specs.declared.Refusal.the-variants.{Budget, Length, Version, Limit, Order, Name, Dead, Size, Room, Form}
+use Rattle.refusal.specs.declared.Refusal.the-variants.{Length, Version, Limit, Order, Name, Dead, Size, Room, Form}
 
 -- the refusal of a number; numbers outside the table have none of their own
 refusalOf : ℕ → Refusal
 refusalOf zero = Form
-refusalOf (suc zero) = Budget
+refusalOf (suc zero) = Form
 refusalOf (suc (suc zero)) = Length
 refusalOf (suc (suc (suc zero))) = Version
 refusalOf (suc (suc (suc (suc zero)))) = Limit
@@ -22,7 +22,6 @@ refusalOf (suc (suc (suc (suc (suc (suc (suc (suc (suc (suc n)))))))))) = Form
 
 back : (r : Refusal) → refusalOf (numberOf r) ≡ r
 unfolding refusalOf
-back Budget = refl
 back Length = refl
 back Version = refl
 back Limit = refl
@@ -37,15 +36,14 @@ back Form = refl
 pub number-tells : {a b : Refusal} → numberOf a ≡ numberOf b → a ≡ b
 number-tells {a} {b} e = sym (back a) ∙ ap refusalOf e ∙ back b
 
--- no refusal has the number of OK
-pub number-positive : (r : Refusal) → 0 < numberOf r
-number-positive Budget = omega arith
-number-positive Length = omega arith
-number-positive Version = omega arith
-number-positive Limit = omega arith
-number-positive Order = omega arith
-number-positive Name = omega arith
-number-positive Dead = omega arith
-number-positive Size = omega arith
-number-positive Room = omega arith
-number-positive Form = omega arith
+-- no refusal has the number of OK or of BUDGET
+pub number-above : (r : Refusal) → overBudget < numberOf r
+number-above Length = omega arith
+number-above Version = omega arith
+number-above Limit = omega arith
+number-above Order = omega arith
+number-above Name = omega arith
+number-above Dead = omega arith
+number-above Size = omega arith
+number-above Room = omega arith
+number-above Form = omega arith

@@ -1,14 +1,17 @@
--- The numbers given back: 0 is OK, and each refusal has its own.
+-- The numbers given back: 0 is OK, 1 is BUDGET, and each refusal has its own.
 use Prim.Native.Nat.{ℕ}
 use Rattle.refusal.specs.declared.Refusal.{Refusal}
-use Rattle.refusal.specs.declared.Refusal.the-variants.{Budget, Length, Version, Limit, Order, Name, Dead, Size, Room, Form}
+use Rattle.refusal.specs.declared.Refusal.the-variants.{Length, Version, Limit, Order, Name, Dead, Size, Room, Form}
 
--- no refusal applies
+-- no other number applies
 abbrev pub ok : ℕ
 ok = 0
 
+-- BUDGET: the count of rounds is greater than the budget
+abbrev pub overBudget : ℕ
+overBudget = 1
+
 abbrev pub numberOf : Refusal → ℕ
-numberOf Budget = 1
 numberOf Length = 2
 numberOf Version = 3
 numberOf Limit = 4

@@ -1,9 +1,9 @@
-// Why a call is refused. The paper's number of each case is one definition, `numberOf`.
+// Why a call is refused. The paper's number of each case is one definition, `numberOf`. BUDGET is no case of it: a spent budget is an
+// answer of its own, with its count.
 ghost use mathlib.Core.Path.{_≡_};
 ghost use Rattle.refusal.specs.Number.{numberOf};
 
 pub enum Refusal {
-    Budget,
     Length,
     Version,
     Limit,
@@ -21,7 +21,6 @@ impl Refusal {
         ensures { λ r. ⌜ r ≡ numberOf self ⌝ }
     {
         match self {
-            Refusal::Budget => 1,
             Refusal::Length => 2,
             Refusal::Version => 3,
             Refusal::Limit => 4,

@@ -5,8 +5,6 @@ use mathlib.Core.Bool.{Bool, true, false}
 use mathlib.Core.Path.{_≡_}
 use native.Mathlib.Omega.{arith}
 use lib.ListN.{length, length-append}
-use Rattle.refusal.specs.declared.Refusal.{Refusal}
-use Rattle.refusal.specs.Number.{numberOf}
 use Rattle.text.specs.Text.{decimal}
 use Rattle.text.proofs.Decimal.{decimal-length}
 use Rattle.report.specs.Lines.{line, refusedLine, roundsLine, answerWord, stateLine}
@@ -16,18 +14,18 @@ pub word-fits : (w : List ℕ) (n at : ℕ) {size : ℕ} → at + length (line (
 word-fits w n at h = omega (arith, length-append w (decimal n), length-append (w ++ decimal n) (10 ∷ []))
 
 -- a number and a word behind it, with the end of the line
-pub state-parts : (holds : Bool) (a : ℕ) → stateLine holds a ≡ decimal a ++ (answerWord holds ++ (10 ∷ []))
+pub state-parts : (satisfied : Bool) (a : ℕ) → stateLine satisfied a ≡ decimal a ++ (answerWord satisfied ++ (10 ∷ []))
 unfolding stateLine
-state-parts holds a = append-assoc (decimal a) (answerWord holds) (10 ∷ [])
+state-parts satisfied a = append-assoc (decimal a) (answerWord satisfied) (10 ∷ [])
 
 -- ---- no line is long
 
-refused-length : (e : Refusal) → length (refusedLine e) ≤ 19
+refused-length : (number : ℕ) → length (refusedLine number) ≤ 19
 unfolding refusedLine
-refused-length e = simp length-append (omega (arith, decimal-length 10 (numberOf e)))
+refused-length number = simp length-append (omega (arith, decimal-length 10 number))
 
-pub refused-fits : (e : Refusal) {size : ℕ} → 8192 ≤ size → length (refusedLine e) ≤ size
-refused-fits e h = omega (arith, refused-length e)
+pub refused-fits : (number : ℕ) {size : ℕ} → 8192 ≤ size → length (refusedLine number) ≤ size
+refused-fits number h = omega (arith, refused-length number)
 
 pub rounds-length : (m : ℕ) → length (roundsLine m) ≤ 18
 unfolding roundsLine

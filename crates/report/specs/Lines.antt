@@ -2,8 +2,6 @@
 use Prim.Native.Nat.{ℕ}
 use mathlib.Core.List.{List, [], _∷_, _++_}
 use mathlib.Core.Bool.{Bool, true, false}
-use Rattle.refusal.specs.declared.Refusal.{Refusal}
-use Rattle.refusal.specs.Number.{numberOf}
 use Rattle.text.specs.Text.{word, decimal}
 
 -- every line is ended by a line feed
@@ -11,8 +9,8 @@ abbrev pub line : List ℕ → List ℕ
 line s = s ++ (10 ∷ [])
 
 -- any refusal writes only `refused` and the number
-unfoldable pub refusedLine : Refusal → List ℕ
-refusedLine e = line (word "refused " ++ decimal (numberOf e))
+unfoldable pub refusedLine : (number : ℕ) → List ℕ
+refusedLine number = line (word "refused " ++ decimal number)
 
 -- the count of rounds
 unfoldable pub roundsLine : ℕ → List ℕ
@@ -24,4 +22,4 @@ answerWord true = word " yes"
 answerWord false = word " no"
 
 unfoldable pub stateLine : Bool → ℕ → List ℕ
-stateLine holds a = line (decimal a ++ answerWord holds)
+stateLine satisfied a = line (decimal a ++ answerWord satisfied)

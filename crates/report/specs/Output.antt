@@ -1,77 +1,67 @@
 -- What the program writes for what it reads.
-use Prim.Native.Nat.{ℕ}
+use Prim.Native.Nat.{ℕ, _+_, _*_}
 use mathlib.Core.List.{List, _++_}
 use mathlib.Core.Bool.{cond}
 use lib.ListN.{length, take, drop, replicate}
 use lib.Dec.{leb}
 use Rattle.lists.specs.Making.{span}
-use Rattle.refusal.specs.declared.Refusal.the-variants.{Length, Budget}
+use Rattle.refusal.specs.Number.{overBudget, numberOf}
+use Rattle.refusal.specs.declared.Refusal.the-variants.{Length}
 use Rattle.value.specs.Value.{atMost}
-use Rattle.wire.specs.Laid.{laid}
 use Rattle.wire.specs.Read.{Read, good, bad, _>>=_, _>>_, demand, field}
 use Rattle.rules.specs.Rounds.{rounds}
-use Rattle.rules.specs.Count.{enough}
+use Rattle.rules.specs.Count.{count}
 use Rattle.formula.specs.Formula.{rootOf}
 use Rattle.text.specs.Text.{text}
-use Rattle.verdict.specs.Question.{Question, readQuestion, graphFor, rootNode}
-use Rattle.verdict.specs.Answer.{settledFor, bytesOf, valuesFor}
-use Rattle.verdict.specs.declared.Settled.{Settled}
-use Rattle.verdict.specs.declared.Settled.the-variants as Settled
-use Rattle.report.specs.declared.Cut.{Cut}
-use Rattle.report.specs.declared.Cut.the-variants as Cut
+use Rattle.verdict.specs.Question.{Question, ruledFor, rootNode}
+use Rattle.verdict.specs.Answer.{readSettled, bytesOf, valuesOf}
 use Rattle.report.specs.Lines.{line, refusedLine, roundsLine, stateLine}
 
 -- at most 8,192 bytes; the model ends where its length field says; if that can't be done, or the input is longer, LENGTH
-unfoldable pub readCut : List ℕ → Read ℕ
-readCut s = do
-  demand (leb (length s) 8192) Length
-  total ← field 4 s 0
-  demand (leb total (length s)) Length
+unfoldable pub readCut : (input : List ℕ) → Read ℕ
+readCut input = do
+  demand (leb (length input) 8192) Length
+  total ← field 4 input 0
+  demand (leb total (length input)) Length
   good total
 
--- what the function that finds the model's end answers
-unfoldable pub cutOf : Read ℕ → Cut
-cutOf (good k) = Cut.At k
-cutOf (bad e) = Cut.Refused e
+-- a model followed by a formula, and what settling them asks for before BUDGET
+unfoldable pub readInput : (input bytes values : List ℕ) → Read Question
+readInput input bytes values = readCut input >>= λ k. readSettled (take k input) (drop k input) bytes values
 
--- a model followed by a formula
-unfoldable pub readInput : List ℕ → Read Question
-readInput s = readCut s >>= λ k. readQuestion (take k s) (drop k s)
+-- the budget is n (c + 1)
+abbrev pub budgetOf : Question → ℕ
+budgetOf question = ruledFor question .nodes * (length (ruledFor question .covers) + 1)
 
 -- the formula's text, the count of rounds, and for each state yes where the root row's node of the state has value 0, else no
 unfoldable pub settledLines : Question → ℕ → List ℕ
-settledLines q m =
-    line (text (rootOf (q .rows))) ++ roundsLine m
-    ++ span (λ a. stateLine (atMost (rounds (graphFor q) m (rootNode q a)) 0) a) 0 (q .model .states)
+settledLines question m =
+    line (text (rootOf (question .rows))) ++ roundsLine m
+    ++ span (λ a. stateLine (atMost (rounds (ruledFor question) m (rootNode question a)) 0) a) 0 (question .model .states)
 
 -- any refusal writes only its line
-abbrev pub settledOutput : Question → Settled → List ℕ
-settledOutput q (Settled.Done m n first states) = settledLines q m
-settledOutput q (Settled.Spent m n) = refusedLine Budget
-settledOutput q (Settled.Refused e) = refusedLine e
-
--- the budget is n (c + 1)
-unfoldable pub outputOf : Read Question → (bytes values : List ℕ) → List ℕ
-outputOf (good q) b v = settledOutput q (settledFor q (enough (graphFor q)) b v)
-outputOf (bad e) b v = refusedLine e
+unfoldable pub outputOf : Read Question → List ℕ
+outputOf (good question) =
+    cond (leb (count (ruledFor question)) (budgetOf question)) (settledLines question (count (ruledFor question))) (refusedLine overBudget)
+outputOf (bad e) = refusedLine (numberOf e)
 
 -- what is left in the room of values
-unfoldable pub leftOf : Read Question → (bytes values : List ℕ) → List ℕ
-leftOf (good q) b v = valuesFor q (enough (graphFor q)) b v
-leftOf (bad e) b v = v
+unfoldable pub leftOf : Read Question → (values : List ℕ) → List ℕ
+leftOf (good question) values = valuesOf (good question) (budgetOf question) values
+leftOf (bad e) values = values
 
 -- the output stands at the front of a room of at least 8,192 bytes, and its length is returned; with less nothing is done
-unfoldable pub reportLength : Read Question → (bytes values out : List ℕ) → ℕ
-reportLength x b v o = cond (leb 8192 (length o)) (length (outputOf x b v)) 0
+unfoldable pub reportLength : Read Question → (out : List ℕ) → ℕ
+reportLength x out = cond (leb 8192 (length out)) (length (outputOf x)) 0
 
-unfoldable pub reportOut : Read Question → (bytes values out : List ℕ) → List ℕ
-reportOut x b v o = cond (leb 8192 (length o)) (laid o 0 (outputOf x b v)) o
+unfoldable pub reportOut : Read Question → (out : List ℕ) → List ℕ
+reportOut x out = cond (leb 8192 (length out)) (outputOf x ++ drop (length (outputOf x)) out) out
 
-unfoldable pub reportBytes : Read Question → (bytes values out : List ℕ) → List ℕ
-reportBytes x b v o = cond (leb 8192 (length o)) (bytesOf x b v) b
+unfoldable pub reportBytes : Read Question → (bytes out : List ℕ) → List ℕ
+reportBytes x bytes out = cond (leb 8192 (length out)) (bytesOf x bytes) bytes
 
-unfoldable pub reportValues : Read Question → (bytes values out : List ℕ) → List ℕ
-reportValues x b v o = cond (leb 8192 (length o)) (leftOf x b v) v
+unfoldable pub reportValues : Read Question → (values out : List ℕ) → List ℕ
+reportValues x values out = cond (leb 8192 (length out)) (leftOf x values) values
 
 -- the rooms of the program: 65,536 bytes and 8,192 numbers, all zero
 unfoldable pub zeroBytes : List ℕ

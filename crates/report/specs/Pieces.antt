@@ -1,4 +1,4 @@
--- The pieces of the output as the code lays them, one after another; Output.antt says what the whole is.
+-- The pieces that the code makes of the input and lays into the output; Output.antt says what the whole is.
 use Prim.Native.Nat.{ℕ, _+_}
 use mathlib.Core.List.{List, [], _++_}
 use lib.Dec.{eqb}
@@ -8,7 +8,14 @@ use Rattle.wire.specs.Read.{Read, good, bad}
 use Rattle.formula.specs.declared.Row.{Row}
 use Rattle.formula.specs.Formula.{rootOf}
 use Rattle.text.specs.Text.{text}
+use Rattle.report.specs.declared.Cut.{Cut}
+use Rattle.report.specs.declared.Cut.the-variants as Cut
 use Rattle.report.specs.Lines.{line, roundsLine, stateLine}
+
+-- what the function that finds the model's end answers
+unfoldable pub cutOf : Read ℕ → Cut
+cutOf (good k) = Cut.At k
+cutOf (bad e) = Cut.Refused e
 
 -- a line for each of n states: yes where its number, `first` further on in the room, is 0
 unfoldable pub statesLines : (values : List ℕ) (first n : ℕ) → List ℕ

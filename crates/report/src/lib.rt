@@ -6,14 +6,13 @@ ghost use lib.ListN.{length};
 ghost use Rattle.text.specs.Text.{decimal};
 ghost use Rattle.io.specs.Counts.{Counts};
 ghost use Rattle.wire.specs.Laid.{Laid};
-ghost use Rattle.verdict.specs.Question.{readQuestion};
-ghost use Rattle.verdict.specs.Answer.{bytesOf};
+ghost use Rattle.verdict.specs.Answer.{readSettled, bytesOf};
 ghost use Rattle.report.specs.Lines.{line, refusedLine, roundsLine, stateLine};
-ghost use Rattle.report.specs.Pieces.{statesLines, textIn, endedLines};
+ghost use Rattle.report.specs.Pieces.{cutOf, statesLines, textIn, endedLines};
 ghost use Rattle.formula.specs.Message.{readFormula};
-ghost use Rattle.report.specs.Output.{readCut, cutOf, readInput, outputOf, leftOf, reportLength, reportOut, reportBytes, reportValues, zeroBytes, zeroValues};
+ghost use Rattle.report.specs.Output.{readCut, readInput, outputOf, leftOf, reportLength, reportOut, reportBytes, reportValues, zeroBytes, zeroValues};
 use refusal::Refusal;
-use verdict::Settled;
+use verdict::AllStates;
 use wire::Field;
 use wire::Width;
 
@@ -33,12 +32,11 @@ fn put_line(out: &mut [u8], at: usize, word: &[u8], n: u32) -> usize
 }
 
 // A refusal's line.
-fn put_refused(out: &mut [u8], e: Refusal) -> usize
-    requires { ⌜ length (refusedLine e) ≤ length (now out) ⌝ }
-    ensures { λ r. ⌜ Laid (now (out .entry)) 0 (refusedLine e) (now (out .exit)) r ⌝ }
+fn put_refused(out: &mut [u8], number: u8) -> usize
+    requires { ⌜ length (refusedLine number) ≤ length (now out) ⌝ }
+    ensures { λ r. ⌜ Laid (now (out .entry)) 0 (refusedLine number) (now (out .exit)) r ⌝ }
 {
-    let number = e.number() as u32;
-    put_line(out, 0, b"refused ", number)
+    put_line(out, 0, b"refused ", number as u32)
 }
 
 // The line of the count of rounds.
@@ -125,42 +123,41 @@ fn put_settled(
 // The output for a model and a formula.
 fn answer(m: &[u8], f: &[u8], bytes: &mut [u8], values: &mut [u64], out: &mut [u8]) -> usize
     requires { ⌜ 8192 ≤ length (now out) ⌝ }
-    ensures { λ r. ⌜ Laid (now (out .entry)) 0 (outputOf (readQuestion (now (m .entry)) (now (f .entry))) (now (bytes .entry)) (now (values .entry)))
-        (now (out .exit)) r ⌝ }
-    ensures { λ _. ⌜ now (bytes .exit) ≡ bytesOf (readQuestion (now (m .entry)) (now (f .entry))) (now (bytes .entry)) (now (values .entry)) ⌝ }
-    ensures { λ _. ⌜ now (values .exit) ≡ leftOf (readQuestion (now (m .entry)) (now (f .entry))) (now (bytes .entry)) (now (values .entry)) ⌝ }
+    ensures { λ r. ⌜ Laid (now (out .entry)) 0 (outputOf (readSettled (now (m .entry)) (now (f .entry)) (now (bytes .entry)) (now (values .entry)))) (now (out .exit)) r ⌝ }
+    ensures { λ _. ⌜ now (bytes .exit) ≡ bytesOf (readSettled (now (m .entry)) (now (f .entry)) (now (bytes .entry)) (now (values .entry))) (now (bytes .entry)) ⌝ }
+    ensures { λ _. ⌜ now (values .exit) ≡ leftOf (readSettled (now (m .entry)) (now (f .entry)) (now (bytes .entry)) (now (values .entry))) (now (values .entry)) ⌝ }
 {
     match verdict::settle(m, f, u32::MAX, bytes, values) {
-        Settled::Done(count, _, first, n) => {
-            let p = wire::number_at(m, 8, Width::One);
+        AllStates::Settled(count, _, first, n) => {
+            let p = wire::number_at(m, model::PROPOSITIONS_AT, Width::One);
             put_settled(f, p, count, values, first, n, out)
         }
-        Settled::Spent(_, _) => put_refused(out, Refusal::Budget),
-        Settled::Refused(e) => put_refused(out, e),
+        AllStates::Spent(_, _) => put_refused(out, 1),
+        AllStates::Refused(e) => put_refused(out, e.number()),
     }
 }
 
 // The program's output for its input, at the front of a room of at least 8,192 bytes; its length is returned.
 pub fn report(input: &[u8], bytes: &mut [u8], values: &mut [u64], out: &mut [u8]) -> usize
-    ensures { λ r. ⌜ r ≡ reportLength (readInput (now (input .entry))) (now (bytes .entry)) (now (values .entry)) (now (out .entry)) ⌝ }
-    ensures { λ _. ⌜ now (out .exit) ≡ reportOut (readInput (now (input .entry))) (now (bytes .entry)) (now (values .entry)) (now (out .entry)) ⌝ }
-    ensures { λ _. ⌜ now (bytes .exit) ≡ reportBytes (readInput (now (input .entry))) (now (bytes .entry)) (now (values .entry)) (now (out .entry)) ⌝ }
-    ensures { λ _. ⌜ now (values .exit) ≡ reportValues (readInput (now (input .entry))) (now (bytes .entry)) (now (values .entry)) (now (out .entry)) ⌝ }
+    ensures { λ r. ⌜ r ≡ reportLength (readInput (now (input .entry)) (now (bytes .entry)) (now (values .entry))) (now (out .entry)) ⌝ }
+    ensures { λ _. ⌜ now (out .exit) ≡ reportOut (readInput (now (input .entry)) (now (bytes .entry)) (now (values .entry))) (now (out .entry)) ⌝ }
+    ensures { λ _. ⌜ now (bytes .exit) ≡ reportBytes (readInput (now (input .entry)) (now (bytes .entry)) (now (values .entry))) (now (bytes .entry)) (now (out .entry)) ⌝ }
+    ensures { λ _. ⌜ now (values .exit) ≡ reportValues (readInput (now (input .entry)) (now (bytes .entry)) (now (values .entry))) (now (values .entry)) (now (out .entry)) ⌝ }
     ensures { λ r. ⌜ Counts r (now (out .exit)) ⌝ }
 {
     if out.len() < 8192 {
         return 0;
     }
     match model_end(input) {
-        Cut::Refused(e) => put_refused(out, e),
+        Cut::Refused(e) => put_refused(out, e.number()),
         Cut::At(k) => answer(&input[..k], &input[k..], bytes, values, out),
     }
 }
 
 // The same with rooms of the program's own: 65,536 bytes and 8,192 numbers, all zero.
 pub fn program(input: &[u8], out: &mut [u8]) -> usize
-    ensures { λ r. ⌜ r ≡ reportLength (readInput (now (input .entry))) zeroBytes zeroValues (now (out .entry)) ⌝ }
-    ensures { λ _. ⌜ now (out .exit) ≡ reportOut (readInput (now (input .entry))) zeroBytes zeroValues (now (out .entry)) ⌝ }
+    ensures { λ r. ⌜ r ≡ reportLength (readInput (now (input .entry)) zeroBytes zeroValues) (now (out .entry)) ⌝ }
+    ensures { λ _. ⌜ now (out .exit) ≡ reportOut (readInput (now (input .entry)) zeroBytes zeroValues) (now (out .entry)) ⌝ }
     ensures { λ r. ⌜ Counts r (now (out .exit)) ⌝ }
 {
     let mut bytes = [0u8; 65536];

@@ -1,31 +1,25 @@
--- Laws of the rounds on a message: there is one answer and one content of the room, budgets that settle agree, and when BUDGET is given.
--- Assumes nothing.
+-- Laws of the rounds on a message: what count is reported, when BUDGET is given, and budgets that settle agree. Assumes nothing.
 use Prim.Native.Nat.{ℕ, suc, _+_, _<_, _≤_, min}
 use mathlib.Core.List.{List, _++_}
 use mathlib.Core.Bool.{Bool, true, false, cond}
 use mathlib.Core.Path.{_≡_, refl, sym, ap, _∙_}
-use lib.ListN.{length, take, length-append}
+use lib.ListN.{take, length-append}
 use lib.Seq.{take-at}
-use lib.Dec.{leb, ltb}
+use lib.Dec.{leb}
 use borrow.Author.Tests.{leb-true, leb-false, le-leb, lt-leb}
 use native.Mathlib.Omega.{arith}
 use Rattle.lists.proofs.Tests.{by}
 use Rattle.refusal.specs.declared.Refusal.{Refusal}
-use Rattle.refusal.specs.declared.Refusal.the-variants.{Room}
 use Rattle.wire.specs.Read.{Read, good, bad}
 use Rattle.wire.proofs.Reading.{good-same}
 use Rattle.rules.specs.Graph.{Graph}
 use Rattle.rules.specs.Rounds.{rounds}
 use Rattle.rules.specs.Count.{count}
-use Rattle.rounds.specs.declared.Outcome.{Outcome}
+use Rattle.graph.specs.Stored.{StoredGraph}
+use Rattle.graph.specs.Message.{readGraph}
 use Rattle.rounds.specs.declared.Outcome.the-variants.{Settled, Spent, Refused}
-use Rattle.rounds.specs.Outcome.{outcomeCount, ended, storedValues, filled, outcomeOn, roomOn, outcomeOf, roomOf}
-use Rattle.rounds.proofs.Promised.{stored-length}
-
--- two that satisfy the contract are equal
-pub one-answer : (x : Read Graph) (budget : ℕ) (b : List ℕ) {r r′ : Outcome} {a a′ : List ℕ}
-    → r ≡ outcomeOf x budget b → r′ ≡ outcomeOf x budget b → a ≡ roomOf x budget b → a′ ≡ roomOf x budget b → (r ≡ r′) × (a ≡ a′)
-one-answer x budget b p q u w = (p ∙ sym q, u ∙ sym w)
+use Rattle.rounds.specs.Outcome.{outcomeCount, storedValues, filled, readRounds, ended, outcomeOf, roundsRoom}
+use Rattle.rounds.proofs.Promised.{stored-length, rounds-read}
 
 -- the reported count is the smaller of the budget and the first unchanged round
 pub count-reported : (g : Graph) (budget : ℕ) → outcomeCount (ended g budget) ≡ min (count g) budget
@@ -45,39 +39,38 @@ pub spent-above : (g : Graph) (budget : ℕ) → budget < count g → ended g bu
 unfolding ended
 spent-above g budget h = rw (lt-leb (count g) budget h)
 
--- a settled outcome is that of a graph, at its count, and the room was large enough
-pub record SettledOn (x : Read Graph) (budget : ℕ) (b : List ℕ) (m : ℕ) : Type 0 where
-  pub graph : Graph
+-- a settled outcome is that of a graph, at its count
+pub record SettledOn (x : Read StoredGraph) (budget : ℕ) (b : List ℕ) (m : ℕ) : Type 0 where
+  pub graph : StoredGraph
   pub reads : x ≡ good graph
   pub count-is : m ≡ count graph
-  pub room : roomOf x budget b ≡ filled graph m b
+  pub room : roundsRoom x budget b ≡ filled graph m b
 
-pub settled-on : (x : Read Graph) (budget : ℕ) (b : List ℕ) (m : ℕ) → outcomeOf x budget b ≡ Settled m → SettledOn x budget b m
-unfolding outcomeOf roomOf outcomeOn roomOn ended
+pub settled-on : (x : Read StoredGraph) (budget : ℕ) (b : List ℕ) (m : ℕ) → outcomeOf x budget ≡ Settled m → SettledOn x budget b m
+unfolding outcomeOf roundsRoom ended
 settled-on (bad e) budget b m h = absurd (apart h)
   where
     apart : {e : Refusal} {m : ℕ} → Refused e ≡ Settled m → ⊥
     apart z = let one : _≡_ {A = ℕ} 0 1 = cc in omega arith
-settled-on (good g) budget b m h = go (ltb (length b) (g .nodes + g .nodes)) (leb (count g) budget) refl refl h
+settled-on (good g) budget b m h = go (leb (count g) budget) refl h
   where
-    go : (t u : Bool) → ltb (length b) (g .nodes + g .nodes) ≡ t → leb (count g) budget ≡ u
-        → cond t (Refused Room) (cond u (Settled (count g)) (Spent budget)) ≡ Settled m → SettledOn (good g) budget b m
-    go true u e f z = let one : _≡_ {A = ℕ} 0 1 = cc in absurd (omega arith)
-    go false true e f z =
+    go : (u : Bool) → leb (count g) budget ≡ u → cond u (Settled (count g)) (Spent budget) ≡ Settled m → SettledOn (good g) budget b m
+    go true f z =
         let is : m ≡ count g = cc in
         let least : min (count g) budget ≡ m = omega (arith, leb-true (count g) budget f) in
-        record { graph = g; reads = refl; count-is = is; room = rw (e, least) }
-    go false false e f z = let one : _≡_ {A = ℕ} 0 1 = cc in absurd (omega arith)
+        record { graph = g; reads = refl; count-is = is; room = rw least }
+    go false f z = let one : _≡_ {A = ℕ} 0 1 = cc in absurd (omega arith)
 
--- two budgets that settle give the same values and count
-pub two-budgets : (x : Read Graph) (c d : ℕ) (b b′ : List ℕ) (m k : ℕ) → outcomeOf x c b ≡ Settled m → outcomeOf x d b′ ≡ Settled k
-    → (g : Graph) → x ≡ good g → (m ≡ k) × (take (g .nodes + g .nodes) (roomOf x c b) ≡ take (g .nodes + g .nodes) (roomOf x d b′))
+-- two budgets that settle give the same values and count, whatever the rooms
+pub two-budgets : (s : List ℕ) (c d : ℕ) (b b′ : List ℕ) (m k : ℕ) → outcomeOf (readRounds s b) c ≡ Settled m → outcomeOf (readRounds s b′) d ≡ Settled k
+    → (g : StoredGraph) → readGraph s ≡ good g
+    → (m ≡ k) × (take (g .nodes + g .nodes) (roundsRoom (readRounds s b) c b) ≡ take (g .nodes + g .nodes) (roundsRoom (readRounds s b′) d b′))
 unfolding filled
-two-budgets x c d b b′ m k p q g e =
-    let u = settled-on x c b m p in
-    let w = settled-on x d b′ k q in
-    let gu : u .graph ≡ g = good-same (by (u .reads) e) in
-    let gw : w .graph ≡ g = good-same (by (w .reads) e) in
+two-budgets s c d b b′ m k p q g e =
+    let u = settled-on (readRounds s b) c b m p in
+    let w = settled-on (readRounds s b′) d b′ k q in
+    let gu : u .graph ≡ g = good-same (by (rounds-read s b _ (u .reads) .reads) e) in
+    let gw : w .graph ≡ g = good-same (by (rounds-read s b′ _ (w .reads) .reads) e) in
     let mu : m ≡ count g = u .count-is ∙ ap count gu in
     let mk : k ≡ count g = w .count-is ∙ ap count gw in
     (mu ∙ sym mk, rw (u .room, w .room, gu, gw, mu, mk) (front g (count g) b ∙ sym (front g (count g) b′)))

@@ -1,11 +1,11 @@
 -- What the customer is promised follows from the definitions of the outcome and the room. Assumes nothing.
-use Prim.Native.Nat.{ℕ, zero, suc, _+_, _-_, _*_, _<_, min}
+use Prim.Native.Nat.{ℕ, zero, suc, _+_, _-_, _*_, _≤_, _<_, min}
 use mathlib.Core.List.{List, [], _∷_, _++_, append-assoc}
 use mathlib.Core.Bool.{Bool, true, false, cond}
 use mathlib.Core.Path.{_≡_, refl, subst, _∙_}
 use lib.ListN.{length, getD, drop, length-append}
 use lib.Seq.{getD-append-add, getD-at}
-use lib.Dec.{leb, ltb}
+use lib.Dec.{leb}
 use borrow.Author.Tests.{leb-true, leb-false}
 use native.Mathlib.Decide.{ℕ-discrete, decLt}
 use native.Mathlib.Omega.{arith}
@@ -13,21 +13,26 @@ use Rattle.value.specs.Value.{Value, finite, _≼_}
 use Rattle.value.specs.Stored.{stored}
 use Rattle.value.proofs.Values.{≼-fin}
 use Rattle.value.proofs.Stored.{meaning-stored}
-use Rattle.refusal.specs.declared.Refusal.the-variants.{Room}
+use Rattle.refusal.specs.declared.Refusal.{Refusal}
+use Rattle.refusal.proofs.Numbers.{number-above}
+use Rattle.wire.specs.Bytes.{Bytes}
 use Rattle.wire.specs.Read.{Read, good, bad}
+use Rattle.wire.proofs.Reading.{bind-good, demand-good, good-same}
 use Rattle.rules.specs.Graph.{Graph, heaviest}
 use Rattle.rules.specs.Rounds.{Assignment, rounds}
 use Rattle.rules.specs.Count.{count}
 use Rattle.rules.proofs.Order.{largest-agree}
 use Rattle.rules.proofs.Size.{Light, value-bound, heaviest-light}
 use Rattle.rules.proofs.Count.{count-first, count-le, count-largest}
+use Rattle.graph.specs.Stored.{StoredGraph}
+use Rattle.graph.specs.Message.{readGraph}
 use Rattle.graph.specs.Write.{writeGraph}
 use Rattle.graph.specs.WellFormed.{WellFormed}
+use Rattle.graph.proofs.Exact.{accepted-written}
 use Rattle.rounds.specs.declared.Outcome.the-variants.{Settled, Spent, Refused}
-use Rattle.rounds.specs.Outcome.{ended, storedValues, filled, outcomeOn, roomOn, outcomeOf, roomOf}
+use Rattle.rounds.specs.Outcome.{held, storedValues, filled, readRounds, ended, outcomeOf, roundsRoom}
 use Rattle.rounds.specs.Ready.{Storable}
-use Rattle.rounds.specs.Room.{held}
-use Rattle.rounds.specs.Promise.{Accepted, Halves, Promise}
+use Rattle.rounds.specs.Promise.{Accepted, Halves, SettledAt, SpentAt, Promise}
 
 -- the stored values one by one
 pub stored-length : (n : ℕ) (x : Assignment) → length (storedValues n x) ≡ n
@@ -80,9 +85,6 @@ module _ (g : Graph) (wf : WellFormed g) (m : ℕ) (b₀ : List ℕ) where
       rw (filled-parts, e) (getD-append-add front back v 0 ∙ stored-at n (rounds g (suc m)) (drop (n + n) b₀) v l) in
       rw behind (meaning-stored (rounds g (suc m) v) (λ k e. rounds-fit g wf (suc m) v k l e))
 
-  pub both-halves : Halves g m (filled g m b₀)
-  both-halves = record { first-half = first-half; second-half = second-half }
-
   -- no finite number in either half is above (n - 1) w
   both-small : (v : ℕ) → v < g .nodes + g .nodes → finite (held (filled g m b₀) v) ≡ true
       → held (filled g m b₀) v ≼ ((g .nodes - 1) * heaviest (g .hypers))
@@ -101,51 +103,80 @@ module _ (g : Graph) (wf : WellFormed g) (m : ℕ) (b₀ : List ℕ) where
           let e : v ≡ g .nodes + u = omega arith in
           rw (e, second-half u (omega arith)) (bound (suc m) u (omega arith))
 
--- the room's numbers of an accepted message
-pub accepted-filled : (s : List ℕ) (g : Graph) (m : ℕ) (b₀ : List ℕ) → s ≡ writeGraph g → WellFormed g → Accepted s (filled g m b₀) g
-accepted-filled s g m b₀ e wf = record { writing = e; well-formed = wf; small = both-small g wf m b₀ }
+  pub both-halves : Halves g m (filled g m b₀)
+  both-halves = record { first-half = first-half; second-half = second-half; small = both-small }
+
+-- what is promised of the rounds on a well-formed graph
+module _ (g : Graph) (wf : WellFormed g) (budget : ℕ) (b₀ : List ℕ) where
+  pub settled-at : count g ≤ budget → SettledAt g budget (filled g (count g) b₀) (count g)
+  settled-at within = record {
+    halves = both-halves g wf (count g) b₀;
+    first = count-first g (wf .closed);
+    within = within;
+    soon = count-le g;
+    largest = largest-agree g (wf .closed) (count-largest g (wf .closed)) (first-half g wf (count g) b₀);
+  }
+
+  pub spent-at : budget < count g → SpentAt g budget (filled g budget b₀) budget
+  spent-at later = record {
+    halves = both-halves g wf budget b₀;
+    spent = refl;
+    later = λ i l. count-first g (wf .closed) .before i (omega arith);
+  }
+
+-- a message that the rounds take: the graph is accepted, and the room is large enough
+pub record RoundsRead (s b : List ℕ) (g : StoredGraph) : Type 0 where
+  pub reads : readGraph s ≡ good g
+  pub room : g .nodes + g .nodes ≤ length b
+
+pub rounds-read : (s b : List ℕ) (g : StoredGraph) → readRounds s b ≡ good g → RoundsRead s b g
+unfolding readRounds
+rounds-read s b g e =
+    let x = bind-good _ _ e in
+    let d = demand-good _ _ _ (x .rest) in
+    let same = good-same (d .1) in
+    rw (← same) (record { reads = x .first; room = leb-true _ _ (d .0) })
 
 -- the outcome and the room of the definitions keep the promise
 module _ (s : List ℕ) (budget : ℕ) (b₀ : List ℕ) where
+  -- a refusal's number is above BUDGET's
+  pub kept-refused : (e : Refusal) → Promise s budget b₀ b₀ (Refused e)
+  kept-refused e =
+      let above = number-above e in
+      record { settled = λ z. absurd (omega arith); spent = λ z. absurd (omega arith); refused = λ l. (refl, refl) }
+
   kept-ended : (g : Graph) → s ≡ writeGraph g → WellFormed g → Promise s budget b₀ (filled g (min (count g) budget) b₀) (ended g budget)
   unfolding ended
   kept-ended g e wf = go (leb (count g) budget) refl
     where
+      accepted : Accepted s g
+      accepted = record { writing = e; well-formed = wf }
+
       go : (t : Bool) → leb (count g) budget ≡ t → Promise s budget b₀ (filled g (min (count g) budget) b₀) (cond t (Settled (count g)) (Spent budget))
       go true h =
           let within = leb-true (count g) budget h in
           let m : min (count g) budget ≡ count g = omega arith in
           rw m
           (record {
-            graph = g;
-            accepted = accepted-filled s g (count g) b₀ e wf;
-            halves = both-halves g wf (count g) b₀;
-            first = count-first g (wf .closed);
-            within = within;
-            soon = count-le g;
-            largest = largest-agree g (wf .closed) (count-largest g (wf .closed)) (first-half g wf (count g) b₀);
+            settled = λ z. (g, accepted, settled-at g wf budget b₀ within);
+            spent = λ z. absurd (omega arith);
+            refused = λ z. absurd (omega arith);
           })
       go false h =
           let later = leb-false (count g) budget h in
           let m : min (count g) budget ≡ budget = omega arith in
           rw m
           (record {
-            graph = g;
-            accepted = accepted-filled s g budget b₀ e wf;
-            halves = both-halves g wf budget b₀;
-            spent = refl;
-            later = later;
+            settled = λ z. absurd (omega arith);
+            spent = λ z. (g, accepted, spent-at g wf budget b₀ later);
+            refused = λ z. absurd (omega arith);
           })
 
-  kept-on : (g : Graph) → s ≡ writeGraph g → WellFormed g → Promise s budget b₀ (roomOn g budget b₀) (outcomeOn g budget b₀)
-  unfolding outcomeOn roomOn
-  kept-on g e wf = go (ltb (length b₀) (g .nodes + g .nodes))
+  -- whatever is read: the graph, then the room
+  pub kept : Bytes s → Promise s budget b₀ (roundsRoom (readRounds s b₀) budget b₀) (outcomeOf (readRounds s b₀) budget)
+  unfolding outcomeOf roundsRoom
+  kept bytes = go (readRounds s b₀) refl
     where
-      go : (t : Bool) → Promise s budget b₀ (cond t b₀ (filled g (min (count g) budget) b₀)) (cond t (Refused Room) (ended g budget))
-      go true = refl
-      go false = kept-ended g e wf
-
-  pub kept : (x : Read Graph) → ((g : Graph) → x ≡ good g → (s ≡ writeGraph g) × WellFormed g) → Promise s budget b₀ (roomOf x budget b₀) (outcomeOf x budget b₀)
-  unfolding outcomeOf roomOf
-  kept (good g) exact = let w = exact g refl in kept-on g (w .0) (w .1)
-  kept (bad e) exact = refl
+      go : (x : Read StoredGraph) → readRounds s b₀ ≡ x → Promise s budget b₀ (roundsRoom x budget b₀) (outcomeOf x budget)
+      go (good g) e = let w = accepted-written s g bytes (rounds-read s b₀ g e .reads) in kept-ended g (w .0) (w .1)
+      go (bad e) r = kept-refused e

@@ -2,22 +2,24 @@
 use Prim.Native.Nat.{ℕ, zero, suc, _+_, min}
 use mathlib.Core.List.{List, [], _∷_, _++_}
 use mathlib.Core.Bool.{cond}
-use lib.ListN.{length, drop}
-use lib.Dec.{leb, ltb}
-use Rattle.refusal.specs.Number.{ok, numberOf}
-use Rattle.refusal.specs.declared.Refusal.the-variants.{Budget, Room}
-use Rattle.value.specs.Stored.{stored}
-use Rattle.wire.specs.Read.{Read, good, bad}
+use lib.ListN.{length, drop, getD}
+use lib.Dec.{leb}
+use Rattle.refusal.specs.Number.{ok, overBudget, numberOf}
+use Rattle.refusal.specs.declared.Refusal.the-variants.{Room}
+use Rattle.value.specs.Stored.{stored, meaning}
+use Rattle.wire.specs.Read.{Read, good, bad, _>>=_, _>>_, demand}
 use Rattle.rules.specs.Graph.{Graph}
 use Rattle.rules.specs.Rounds.{Assignment, rounds}
 use Rattle.rules.specs.Count.{count}
+use Rattle.graph.specs.Stored.{StoredGraph, ruled}
+use Rattle.graph.specs.Message.{readGraph}
 use Rattle.rounds.specs.declared.Outcome.{Outcome}
 use Rattle.rounds.specs.declared.Outcome.the-variants.{Settled, Spent, Refused}
 
 -- the paper's number of an outcome
 abbrev pub outcomeNumber : Outcome → ℕ
 outcomeNumber (Settled m) = ok
-outcomeNumber (Spent m) = numberOf Budget
+outcomeNumber (Spent m) = overBudget
 outcomeNumber (Refused e) = numberOf e
 
 -- the reported count: any refusal but BUDGET has count 0
@@ -26,32 +28,36 @@ outcomeCount (Settled m) = m
 outcomeCount (Spent m) = m
 outcomeCount (Refused e) = 0
 
--- BUDGET exactly when the count is greater than the budget
-unfoldable pub ended : Graph → ℕ → Outcome
-ended g budget = cond (leb (count g) budget) (Settled (count g)) (Spent budget)
-
 -- the stored values of the nodes below n
 unfoldable pub storedValues : ℕ → Assignment → List ℕ
 storedValues zero x = []
 storedValues (suc n) x = storedValues n x ++ (stored (x n) ∷ [])
 
+-- the assignment that stored numbers mean
+abbrev pub held : List ℕ → Assignment
+held room v = meaning (getD room v 0)
+
 -- the first n numbers hold round m, the next n hold round m + 1, and the numbers beyond 2n stay
 unfoldable pub filled : Graph → ℕ → List ℕ → List ℕ
-filled g m b =
-    storedValues (g .nodes) (rounds g m) ++ storedValues (g .nodes) (rounds g (suc m)) ++ drop (g .nodes + g .nodes) b
+filled g m room =
+    storedValues (g .nodes) (rounds g m) ++ storedValues (g .nodes) (rounds g (suc m)) ++ drop (g .nodes + g .nodes) room
 
--- on a graph: room below 2n is ROOM, and leaves the room as it came; then with m the smaller of count and budget
-unfoldable pub outcomeOn : Graph → ℕ → List ℕ → Outcome
-outcomeOn g budget b = cond (ltb (length b) (g .nodes + g .nodes)) (Refused Room) (ended g budget)
+-- the graph, then the room of values: below 2n is ROOM
+unfoldable pub readRounds : (message room : List ℕ) → Read StoredGraph
+readRounds message room = do
+  g ← readGraph message
+  demand (leb (ruled g .nodes + ruled g .nodes) (length room)) Room
+  good g
 
-unfoldable pub roomOn : Graph → ℕ → List ℕ → List ℕ
-roomOn g budget b = cond (ltb (length b) (g .nodes + g .nodes)) b (filled g (min (count g) budget) b)
+-- and only then BUDGET: exactly when the count is greater than the budget
+unfoldable pub ended : Graph → (budget : ℕ) → Outcome
+ended g budget = cond (leb (count g) budget) (Settled (count g)) (Spent budget)
 
--- on a message: the graph comes first, and a refused one leaves the room as it came
-unfoldable pub outcomeOf : Read Graph → ℕ → List ℕ → Outcome
-outcomeOf (good g) budget b = outcomeOn g budget b
-outcomeOf (bad e) budget b = Refused e
+unfoldable pub outcomeOf : Read StoredGraph → (budget : ℕ) → Outcome
+outcomeOf (good g) budget = ended (ruled g) budget
+outcomeOf (bad e) budget = Refused e
 
-unfoldable pub roomOf : Read Graph → ℕ → List ℕ → List ℕ
-roomOf (good g) budget b = roomOn g budget b
-roomOf (bad e) budget b = b
+-- with m the smaller of count and budget; a refusal leaves the room as it came
+unfoldable pub roundsRoom : Read StoredGraph → (budget : ℕ) → (room : List ℕ) → List ℕ
+roundsRoom (good g) budget room = filled (ruled g) (min (count (ruled g)) budget) room
+roundsRoom (bad e) budget room = room

@@ -3,49 +3,49 @@ use Prim.Native.Nat.{ℕ, suc, _+_, _-_, _*_, _≤_, _<_}
 use mathlib.Core.List.{List}
 use mathlib.Core.Path.{_≡_}
 use mathlib.Core.Bool.{true}
+use lib.ListN.{length}
+use Rattle.refusal.specs.Number.{ok, overBudget}
 use Rattle.value.specs.Value.{finite, _≼_}
 use Rattle.rules.specs.Graph.{Graph, heaviest}
-use Rattle.rules.specs.Rounds.{rounds, Largest}
-use Rattle.rules.specs.Count.{count, enough, First}
+use Rattle.rules.specs.Rounds.{rounds, Largest, Settled}
+use Rattle.rules.specs.Count.{First}
+use Rattle.graph.specs.Stored.{StoredGraph, ruled}
 use Rattle.graph.specs.Write.{writeGraph}
 use Rattle.graph.specs.WellFormed.{WellFormed}
-use Rattle.rounds.specs.Room.{held}
+use Rattle.rounds.specs.Outcome.{outcomeNumber, outcomeCount, held}
 use Rattle.rounds.specs.declared.Outcome.{Outcome}
-use Rattle.rounds.specs.declared.Outcome.the-variants.{Settled, Spent, Refused}
 
--- the message is the writing of the well-formed graph g, and no finite number in either half of the room is above (n - 1) w
-pub record Accepted (s : List ℕ) (b : List ℕ) (g : Graph) : Type 0 where
-  pub writing : s ≡ writeGraph g
-  pub well-formed : WellFormed g
-  pub small : (v : ℕ) → v < g .nodes + g .nodes → finite (held b v) ≡ true → held b v ≼ ((g .nodes - 1) * heaviest (g .hypers))
+-- the message is the writing of the well-formed graph
+pub record Accepted (message : List ℕ) (graph : StoredGraph) : Type 0 where
+  pub writing : message ≡ writeGraph graph
+  pub well-formed : WellFormed graph
 
--- the first n numbers are round m, the next n are round m + 1
-pub record Halves (g : Graph) (m : ℕ) (b : List ℕ) : Type 0 where
-  pub first-half : (v : ℕ) → v < g .nodes → held b v ≡ rounds g m v
-  pub second-half : (v : ℕ) → v < g .nodes → held b (g .nodes + v) ≡ rounds g (suc m) v
+-- the first n numbers are round i, the next n are round i + 1, and no finite number of the two is above (n - 1) w
+pub record Halves (graph : Graph) (i : ℕ) (room : List ℕ) : Type 0 where
+  pub first-half : (v : ℕ) → v < graph .nodes → held room v ≡ rounds graph i v
+  pub second-half : (v : ℕ) → v < graph .nodes → held room (graph .nodes + v) ≡ rounds graph (suc i) v
+  pub small : (v : ℕ) → v < graph .nodes + graph .nodes → finite (held room v) ≡ true → held room v ≼ ((graph .nodes - 1) * heaviest (graph .hypers))
 
--- settled after m rounds
-pub record SettledAt (s : List ℕ) (budget : ℕ) (b : List ℕ) (m : ℕ) : Type 0 where
-  pub graph : Graph
-  pub accepted : Accepted s b graph
-  pub halves : Halves graph m b
-  -- the count is the first round that the next leaves unchanged; the budget allows it, and n (c + 1) always would
-  pub first : First graph m
-  pub within : m ≤ budget
-  pub soon : m ≤ enough graph
+-- the rounds on a graph settled
+pub record SettledAt (graph : Graph) (budget : ℕ) (room : List ℕ) (reported : ℕ) : Type 0 where
+  pub halves : Halves graph reported room
+  -- the reported count is the first round that the next leaves unchanged
+  pub first : First graph reported
+  -- the budget allows it
+  pub within : reported ≤ budget
+  -- it is at most n (c + 1)
+  pub soon : reported ≤ graph .nodes * (length (graph .covers) + 1)
   -- the first n numbers are the largest assignment that obeys the rules
-  pub largest : Largest graph (held b)
+  pub largest : Largest graph (held room)
 
--- the budget of m rounds is spent: the count, the first unchanged round (`count-first`), is greater
-pub record SpentAt (s : List ℕ) (budget : ℕ) (b : List ℕ) (m : ℕ) : Type 0 where
-  pub graph : Graph
-  pub accepted : Accepted s b graph
-  pub halves : Halves graph m b
-  pub spent : m ≡ budget
-  pub later : budget < count graph
+-- the budget is spent: it is the reported count, and the first round that the next leaves unchanged comes later
+pub record SpentAt (graph : Graph) (budget : ℕ) (room : List ℕ) (reported : ℕ) : Type 0 where
+  pub halves : Halves graph reported room
+  pub spent : reported ≡ budget
+  pub later : (i : ℕ) → i ≤ budget → ¬ Settled graph i
 
--- any refusal but BUDGET changes no lent memory
-abbrev pub Promise : (s : List ℕ) (budget : ℕ) (before after : List ℕ) → Outcome → Type 0
-Promise s budget before after (Settled m) = SettledAt s budget after m
-Promise s budget before after (Spent m) = SpentAt s budget after m
-Promise s budget before after (Refused e) = after ≡ before
+-- by the number and the count that the paper gives the outcome: OK, BUDGET, or a refusal, which has count 0 and leaves the room as it came
+pub record Promise (message : List ℕ) (budget : ℕ) (before after : List ℕ) (outcome : Outcome) : Type 0 where
+  pub settled : outcomeNumber outcome ≡ ok → (graph : StoredGraph) × Accepted message graph × SettledAt (ruled graph) budget after (outcomeCount outcome)
+  pub spent : outcomeNumber outcome ≡ overBudget → (graph : StoredGraph) × Accepted message graph × SpentAt (ruled graph) budget after (outcomeCount outcome)
+  pub refused : overBudget < outcomeNumber outcome → (outcomeCount outcome ≡ 0) × (after ≡ before)

@@ -4,7 +4,7 @@ use mathlib.Core.Path.{sym}
 use mathlib.Core.List.{Memᴰ·cast}
 use Rattle.model.specs.Model.{Model}
 use Rattle.model.specs.WellFormed.{WellFormed}
-use Rattle.runs.specs.Runs.{Leads}
+use Rattle.runs.specs.Systems.{Leads}
 
 -- transitions lead to states, and one leaves each state
 pub record Proper (M : Model) : Type 0 where

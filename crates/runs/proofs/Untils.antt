@@ -9,37 +9,37 @@ use Rattle.value.specs.declared.Bound.{Bound}
 use Rattle.value.specs.declared.Bound.the-variants.{Within}
 use Rattle.value.specs.Value.{inside}
 use Rattle.value.proofs.Values.{inside-le, inside-zero}
-use Rattle.model.specs.Model.{Model}
 use Rattle.formula.specs.declared.Quantifier.{Quantifier}
 use Rattle.formula.specs.declared.Quantifier.the-variants.{Some, Every}
-use Rattle.runs.specs.Runs.{Step, Run, total}
+use Rattle.runs.specs.Systems.{System}
+use Rattle.runs.specs.Runs.{Run, total}
 use Rattle.runs.specs.Sat.{Witness, Until}
 
 -- a sequence with one more element in front
-abbrev push : ℕ → (ℕ → ℕ) → ℕ → ℕ
+abbrev push : {A : Type 0} → A → (ℕ → A) → ℕ → A
 push a f zero = a
 push a f (suc i) = f i
 
-module _ (M : Model) where
+module _ (S : System) where
   -- a step in front of a run, and a run without its first step
-  prepend : {a w c : ℕ} → Step M a w c → Run M c → Run M a
+  prepend : {a : S .State} {w : ℕ} {c : S .State} → S .Leads a w c → Run S c → Run S a
   prepend {a} {w} {c} t ρ = record { at = push a (ρ .at); weight = push w (ρ .weight); starts = refl; steps = steps }
     where
-      steps : (i : ℕ) → Step M (push a (ρ .at) i) (push w (ρ .weight) i) (ρ .at i)
+      steps : (i : ℕ) → S .Leads (push a (ρ .at) i) (push w (ρ .weight) i) (ρ .at i)
       steps zero = rw (ρ .starts) t
       steps (suc i) = ρ .steps i
 
-  rest : {a : ℕ} (ρ : Run M a) → Run M (ρ .at 1)
+  rest : {a : S .State} (ρ : Run S a) → Run S (ρ .at 1)
   rest ρ = record { at = λ i. ρ .at (suc i); weight = λ i. ρ .weight (suc i); starts = refl; steps = λ i. ρ .steps (suc i) }
 
-  module _ (L R : ℕ → Type 0) where
+  module _ (L R : S .State → Type 0) where
     -- where right holds there is a witness at once
-    pub now : (b : Bound) {at weight : ℕ → ℕ} → R (at 0) → Witness L R b at weight
+    pub now : (b : Bound) {at : ℕ → S .State} {weight : ℕ → ℕ} → R (at 0) → Witness L R b at weight
     unfolding total
     now b r = record { position = 0; arrives = r; cost = inside-zero b; before = λ i h. absurd (not-suc-le-zero h) }
 
     -- a witness, seen from one position before
-    later : {d e : ℕ} (at weight : ℕ → ℕ) → L (at 0) → Witness L R (Within e) (λ i. at (suc i)) (λ i. weight (suc i)) → weight 0 + e ≤ d
+    later : {d e : ℕ} (at : ℕ → S .State) (weight : ℕ → ℕ) → L (at 0) → Witness L R (Within e) (λ i. at (suc i)) (λ i. weight (suc i)) → weight 0 + e ≤ d
         → Witness L R (Within d) at weight
     unfolding total
     later {d} {e} at weight l k fits = record { position = suc (k .position); arrives = k .arrives; cost = cost; before = before }
@@ -52,22 +52,22 @@ module _ (M : Model) where
         before (suc i) h = k .before i (omega arith)
 
     -- left holds, and after some step, or any, the until holds within what is left of d
-    pub E-later : {a w c d e : ℕ} → Step M a w c → L a → Until M Some L R (Within e) c → w + e ≤ d → Until M Some L R (Within d) a
+    pub E-later : {a : S .State} {w : ℕ} {c : S .State} {d e : ℕ} → S .Leads a w c → L a → Until S Some L R (Within e) c → w + e ≤ d → Until S Some L R (Within d) a
     unfolding prepend
     E-later {a} {w} t l (ρ, k) fits = (prepend t ρ, later (push a (ρ .at)) (push w (ρ .weight)) l k fits)
 
-    pub A-later : {a d : ℕ} → L a → ((w c : ℕ) → Step M a w c → (e : ℕ) × Until M Every L R (Within e) c × (w + e ≤ d))
-        → Until M Every L R (Within d) a
+    pub A-later : {a : S .State} {d : ℕ} → L a → ((w : ℕ) (c : S .State) → S .Leads a w c → (e : ℕ) × Until S Every L R (Within e) c × (w + e ≤ d))
+        → Until S Every L R (Within d) a
     unfolding rest
     A-later l next ρ =
         let n = next (ρ .weight 0) (ρ .at 1) (rw (ρ .starts) at (ρ .steps 0)) in
         later (ρ .at) (ρ .weight) (rw (ρ .starts) l) (n .1 (rest ρ)) (n .2)
 
     -- within d, and d within b
-    cheaper : (b : Bound) {d : ℕ} {at weight : ℕ → ℕ} → inside b d ≡ true → Witness L R (Within d) at weight → Witness L R b at weight
+    cheaper : (b : Bound) {d : ℕ} {at : ℕ → S .State} {weight : ℕ → ℕ} → inside b d ≡ true → Witness L R (Within d) at weight → Witness L R b at weight
     cheaper b {d} {weight = weight} e k =
         record { position = k .position; arrives = k .arrives; cost = inside-le b (leb-true (total weight (k .position)) d (k .cost)) e; before = k .before }
 
-    pub weaken : (q : Quantifier) (b : Bound) (a d : ℕ) → inside b d ≡ true → Until M q L R (Within d) a → Until M q L R b a
+    pub weaken : (q : Quantifier) (b : Bound) (a : S .State) (d : ℕ) → inside b d ≡ true → Until S q L R (Within d) a → Until S q L R b a
     weaken Some b a d e (ρ, k) = (ρ, cheaper b e k)
     weaken Every b a d e u = λ ρ. cheaper b e (u ρ)

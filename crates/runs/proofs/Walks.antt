@@ -10,7 +10,8 @@ use Rattle.value.proofs.Values.{inside-meets}
 use Rattle.model.specs.Model.{Model}
 use Rattle.formula.specs.declared.Quantifier.{Quantifier}
 use Rattle.formula.specs.declared.Quantifier.the-variants.{Some, Every}
-use Rattle.runs.specs.Runs.{Step, go, Run, total}
+use Rattle.runs.specs.Systems.{System, Leads, systemOf}
+use Rattle.runs.specs.Runs.{Run, total}
 use Rattle.runs.specs.Sat.{Witness, Until}
 use Rattle.runs.proofs.Proper.{Proper}
 use Rattle.runs.proofs.Untils.{now}
@@ -31,18 +32,21 @@ Climbs L h a w c = L a → (e : ℕ) → h c ≼ e → h a ≼ (w + e)
 pub record Move (M : Model) (a : ℕ) : Type 0 where
   pub weight : ℕ
   pub state : ℕ
-  pub step : Step M a weight state
+  pub step : Leads M a weight state
 
 -- a move for each state
 abbrev pub Strategy : Model → Type 0
 Strategy M = (a : ℕ) → a < M .states → Move M a
 
 module _ (M : Model) (ok : Proper M) where
-  -- a step leads to a state, so a run stays among the states
-  ranged : {a w c : ℕ} → a < M .states → Step M a w c → c < M .states
-  ranged l (go m) = ok .target m
+  abbrev S : System
+  S = systemOf M
 
-  among : {a : ℕ} (ρ : Run M a) → a < M .states → (i : ℕ) → ρ .at i < M .states
+  -- a step leads to a state, so a run stays among the states
+  ranged : {a w c : ℕ} → a < M .states → Leads M a w c → c < M .states
+  ranged l m = ok .target m
+
+  among : {a : ℕ} (ρ : Run S a) → a < M .states → (i : ℕ) → ρ .at i < M .states
   among ρ l zero = rw (ρ .starts) l
   among ρ l (suc i) = ranged (among ρ l i) (ρ .steps i)
 
@@ -68,26 +72,26 @@ module _ (M : Model) (ok : Proper M) where
   walked f P law c (suc i) = walked f P law (move f c) i
 
   -- the run that a strategy leads along
-  abbrev follow : Strategy M → (a : ℕ) → a < M .states → Run M a
+  abbrev follow : Strategy M → (a : ℕ) → a < M .states → Run S a
   follow f a l = record {
     at = λ i. walk f (a, l) i .0;
     weight = paid f (a, l);
     starts = refl;
-    steps = walked f (Step M) (λ a l. f a l .step) (a, l);
+    steps = walked f (Leads M) (λ a l. f a l .step) (a, l);
   }
 
   any-move : Strategy M
-  any-move a l = let (w, c, m) = ok .live a l in record { weight = w; state = c; step = go m }
+  any-move a l = let (w, c, m) = ok .live a l in record { weight = w; state = c; step = m }
 
   module _ (L R : ℕ → Type 0) where
     -- where right holds, an until does
-    pub until-now : (q : Quantifier) (b : Bound) (a : ℕ) → a < M .states → R a → Until M q L R b a
-    until-now Some b a l r = (follow any-move a l, now M L R b r)
-    until-now Every b a l r = λ ρ. now M L R b (rw (ρ .starts) r)
+    pub until-now : (q : Quantifier) (b : Bound) (a : ℕ) → a < M .states → R a → Until S q L R b a
+    until-now Some b a l r = (follow any-move a l, now S L R b r)
+    until-now Every b a l r = λ ρ. now S L R b (rw (ρ .starts) r)
 
     -- values that are 0 where R holds are within the bound where a run that they climb along has a witness
     module _ (h : ℕ → Value) (start : (a : ℕ) → a < M .states → R a → h a ≼ 0) (b : Bound) where
-      run-value : {a : ℕ} (ρ : Run M a) → a < M .states → ((i : ℕ) → Climbs L h (ρ .at i) (ρ .weight i) (ρ .at (suc i)))
+      run-value : {a : ℕ} (ρ : Run S a) → a < M .states → ((i : ℕ) → Climbs L h (ρ .at i) (ρ .weight i) (ρ .at (suc i)))
           → Witness L R b (ρ .at) (ρ .weight) → meets b (h a) ≡ true
       run-value ρ l climb k =
           rw (ρ .starts) at (inside-meets b (k .cost)
@@ -95,9 +99,9 @@ module _ (M : Model) (ok : Proper M) where
           (λ i p. climb i (k .before i p))))
 
       -- so where an E until holds, if they climb along each step; and where an A until does, if they climb along some step of each state
-      pub E-value : ((a w c : ℕ) → a < M .states → Step M a w c → Climbs L h a w c) → (a : ℕ) → a < M .states → Until M Some L R b a → meets b (h a) ≡ true
+      pub E-value : ((a w c : ℕ) → a < M .states → Leads M a w c → Climbs L h a w c) → (a : ℕ) → a < M .states → Until S Some L R b a → meets b (h a) ≡ true
       E-value climb a l (ρ, k) = run-value ρ l (λ i. climb (ρ .at i) (ρ .weight i) (ρ .at (suc i)) (among ρ l i) (ρ .steps i)) k
 
       pub A-value : (f : Strategy M) → ((a : ℕ) (l : a < M .states) → Climbs L h a (f a l .weight) (f a l .state))
-          → (a : ℕ) → a < M .states → Until M Every L R b a → meets b (h a) ≡ true
+          → (a : ℕ) → a < M .states → Until S Every L R b a → meets b (h a) ≡ true
       A-value f climb a l u = run-value (follow f a l) l (walked f (Climbs L h) climb (a, l)) (u (follow f a l))

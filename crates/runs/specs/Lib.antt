@@ -1,3 +1,4 @@
--- Definitions: runs, and when a state satisfies a formula by them.
+-- Definitions: systems, their runs, and when a state satisfies a formula by them.
+pub mod Systems
 pub mod Runs
 pub mod Sat

@@ -5,36 +5,36 @@ use mathlib.Core.Logic.{_⊎_}
 use mathlib.Core.Bool.{true, false}
 use Rattle.value.specs.declared.Bound.{Bound}
 use Rattle.value.specs.Value.{inside}
-use Rattle.model.specs.Model.{Model, holds}
 use Rattle.formula.specs.declared.Quantifier.{Quantifier}
 use Rattle.formula.specs.declared.Quantifier.the-variants.{Some, Every}
 use Rattle.formula.specs.Formula.{Formula, true′, false′, prop, not-prop, and, or, next, until}
-use Rattle.runs.specs.Runs.{Leads, Run, total}
+use Rattle.runs.specs.Systems.{System}
+use Rattle.runs.specs.Runs.{Run, total}
 
--- EX: some transition of weight within the bound leads to a state with P. AX: all such transitions do
-abbrev pub Next : Model → Quantifier → (ℕ → Type 0) → Bound → ℕ → Type 0
-Next M Some P b a = (w : ℕ) × (c : ℕ) × Leads M a w c × (inside b w ≡ true) × P c
-Next M Every P b a = (w c : ℕ) → Leads M a w c → inside b w ≡ true → P c
+-- EX: some step of weight within the bound leads to a state with P. AX: all such steps do
+abbrev pub Next : (S : System) → Quantifier → (S .State → Type 0) → Bound → S .State → Type 0
+Next S Some P b a = (w : ℕ) × (c : S .State) × S .Leads a w c × (inside b w ≡ true) × P c
+Next S Every P b a = (w : ℕ) (c : S .State) → S .Leads a w c → inside b w ≡ true → P c
 
 -- a position of a run that satisfies R, with the weights before it summing to within the bound and L holding at each earlier position
-pub record Witness (L R : ℕ → Type 0) (b : Bound) (at weight : ℕ → ℕ) : Type 0 where
+pub record Witness {A : Type 0} (L R : A → Type 0) (b : Bound) (at : ℕ → A) (weight : ℕ → ℕ) : Type 0 where
   pub position : ℕ
   pub arrives : R (at position)
   pub cost : inside b (total weight position) ≡ true
   pub before : (i : ℕ) → i < position → L (at i)
 
 -- E until: on some run from the state there is such a position. A until: on every run
-abbrev pub Until : Model → Quantifier → (L R : ℕ → Type 0) → Bound → ℕ → Type 0
-Until M Some L R b a = (ρ : Run M a) × Witness L R b (ρ .at) (ρ .weight)
-Until M Every L R b a = (ρ : Run M a) → Witness L R b (ρ .at) (ρ .weight)
+abbrev pub Until : (S : System) → Quantifier → (L R : S .State → Type 0) → Bound → S .State → Type 0
+Until S Some L R b a = (ρ : Run S a) × Witness L R b (ρ .at) (ρ .weight)
+Until S Every L R b a = (ρ : Run S a) → Witness L R b (ρ .at) (ρ .weight)
 
 -- the state a satisfies the formula
-abbrev pub Sat : Model → Formula → ℕ → Type 0
-Sat M true′ a = Unit {0}
-Sat M false′ a = ⊥
-Sat M (prop i) a = holds M i a ≡ true
-Sat M (not-prop i) a = holds M i a ≡ false
-Sat M (and φ ψ) a = Sat M φ a × Sat M ψ a
-Sat M (or φ ψ) a = Sat M φ a ⊎ Sat M ψ a
-Sat M (next q φ b) a = Next M q (λ c. Sat M φ c) b a
-Sat M (until q φ ψ b) a = Until M q (λ c. Sat M φ c) (λ c. Sat M ψ c) b a
+abbrev pub Sat : (S : System) → Formula → S .State → Type 0
+Sat S true′ a = Unit {0}
+Sat S false′ a = ⊥
+Sat S (prop i) a = S .Holds i a ≡ true
+Sat S (not-prop i) a = S .Holds i a ≡ false
+Sat S (and φ ψ) a = Sat S φ a × Sat S ψ a
+Sat S (or φ ψ) a = Sat S φ a ⊎ Sat S ψ a
+Sat S (next q φ b) a = Next S q (λ c. Sat S φ c) b a
+Sat S (until q φ ψ b) a = Until S q (λ c. Sat S φ c) (λ c. Sat S ψ c) b a

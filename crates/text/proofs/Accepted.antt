@@ -7,6 +7,7 @@ use lib.ListN.{length}
 use Rattle.wire.specs.Bytes.{Bytes}
 use Rattle.wire.specs.Read.{Read, good, bad}
 use Rattle.wire.specs.Layout.{items}
+use Rattle.formula.specs.Format.{formulaHeader}
 use Rattle.formula.specs.declared.Row.{Row}
 use Rattle.formula.specs.declared.Checked.the-variants as Checked
 use Rattle.formula.specs.Answers.{checked}
@@ -38,7 +39,7 @@ module _ (p : ℕ) (s : List ℕ) (b : Bytes s) (rows : List Row) (e : readFormu
   count-is = let h = header-good s (length rows) (formula-good p s rows e .header) in omega (arith, h .long)
 
   rows-are : rowsOf s ≡ rows
-  rows-are = ap (λ (k : ℕ). items (rowLayout s) k 7) count-is ∙ sym (holds p s rows e .are)
+  rows-are = ap (λ (k : ℕ). items (rowLayout s) k formulaHeader) count-is ∙ sym (holds p s rows e .are)
 
   last-ready : Ready s (length rows - 1)
   last-ready =

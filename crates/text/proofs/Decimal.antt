@@ -10,7 +10,7 @@ use lib.ListN.{length, getD, length-append}
 use borrow.Author.Tests.{lt-ltb, le-ltb, ltb-true, ltb-false, le-leb}
 use Rattle.lists.specs.Lists.{all}
 use Rattle.lists.proofs.Tests.{by-test, and-left, and-right}
-use Rattle.text.specs.Text.{word, digit, decimalIn, decimal}
+use Rattle.text.specs.Text.{word, digit, decimalIn, decimal, longDecimal}
 
 -- the bytes `0` to `9`
 abbrev pub isDigit : ℕ → Bool
@@ -134,31 +134,37 @@ decimal-rest n r e = after-digits (decimal n) r (decimal-digits 10 n) e
 -- ---- one digit after another
 
 -- digits beyond those that a number needs change nothing
-decimal-enough : (k n : ℕ) → n < 10 ^ suc k → decimalIn (suc (suc k)) n ≡ decimalIn (suc k) n
-decimal-enough zero n h = rw (decimal-one 1 n h, decimal-one 0 n h)
-decimal-enough (suc k) n h =
+decimal-enough : (k m n : ℕ) → n < 10 ^ suc k → k ≤ m → decimalIn (suc m) n ≡ decimalIn (suc k) n
+decimal-enough zero m n h more = rw (decimal-one m n h, decimal-one 0 n h)
+decimal-enough (suc k) zero n h more = absurd (omega arith)
+decimal-enough (suc k) (suc m) n h more =
     by-digit n
-    (λ l. rw (decimal-one (suc (suc k)) n l, decimal-one (suc k) n l))
+    (λ l. rw (decimal-one (suc m) n l, decimal-one (suc k) n l))
     (λ l. let below : n / 10 < 10 ^ suc k = omega (arith, simp pow-suc at h) in
-    rw (decimal-more (suc (suc k)) n l, decimal-more (suc k) n l, decimal-enough k (n / 10) below))
+    rw (decimal-more (suc m) n l, decimal-more (suc k) n l, decimal-enough k m (n / 10) below (omega arith)))
+
+-- so a 4-byte number is written as an 8-byte one
+pub long-short : (n : ℕ) → n < 10 ^ 10 → longDecimal n ≡ decimal n
+long-short n h = decimal-enough 9 19 n h (omega arith)
 
 -- all digits but the last: those of the tenth part
-pub front : ℕ → List ℕ
-front n = cond (ltb n 10) [] (decimal (n / 10))
+pub front : (k n : ℕ) → List ℕ
+front k n = cond (ltb n 10) [] (decimalIn k (n / 10))
 
-pub front-none : (n : ℕ) → n < 10 → front n ≡ []
+pub front-none : (k n : ℕ) → n < 10 → front k n ≡ []
 unfolding front
-front-none n h = rw (lt-ltb n 10 h)
+front-none k n h = rw (lt-ltb n 10 h)
 
-pub front-some : (n : ℕ) → 10 ≤ n → front n ≡ decimal (n / 10)
+pub front-some : (k n : ℕ) → 10 ≤ n → front k n ≡ decimalIn k (n / 10)
 unfolding front
-front-some n h = rw (le-ltb n 10 h)
+front-some k n h = rw (le-ltb n 10 h)
 
-pub decimal-last : (n : ℕ) → n < 10 ^ 10 → decimal n ≡ front n ++ (digit (n % 10) ∷ [])
-decimal-last n h =
+pub decimal-last : (k n : ℕ) → n < 10 ^ suc (suc k) → decimalIn (suc (suc k)) n ≡ front (suc (suc k)) n ++ (digit (n % 10) ∷ [])
+decimal-last k n h =
     by-digit n
-    (λ l. let last : n % 10 ≡ n = omega arith in rw (decimal-one 9 n l, front-none n l, last))
-    (λ l. rw (decimal-more 9 n l, front-some n l, decimal-enough 8 (n / 10) (omega arith)))
+    (λ l. let last : n % 10 ≡ n = omega arith in rw (decimal-one (suc k) n l, front-none (suc (suc k)) n l, last))
+    (λ l. let below : n / 10 < 10 ^ suc k = omega (arith, simp pow-suc at h) in
+    rw (decimal-more (suc k) n l, front-some (suc (suc k)) n l, decimal-enough k (suc k) (n / 10) below (omega arith)))
 
-pub front-length : (n : ℕ) → n < 10 ^ 10 → length (decimal n) ≡ length (front n) + 1
-front-length n h = ap length (decimal-last n h) ∙ length-append (front n) _
+pub front-length : (k n : ℕ) → n < 10 ^ suc (suc k) → length (decimalIn (suc (suc k)) n) ≡ length (front (suc (suc k)) n) + 1
+front-length k n h = ap length (decimal-last k n h) ∙ length-append (front (suc (suc k)) n) _

@@ -8,6 +8,7 @@ use lib.ListN.{length, length-append}
 use Rattle.lists.specs.Lists.{_∈_}
 use Rattle.wire.proofs.Stride.{items-get}
 use Rattle.value.specs.declared.Bound.{Bound}
+use Rattle.formula.specs.Format.{formulaHeader, rowWidth, placeOf}
 use Rattle.formula.specs.declared.Quantifier.{Quantifier}
 use Rattle.formula.specs.declared.Quantifier.the-variants.{Some, Every}
 use Rattle.formula.specs.declared.Row.{Row}
@@ -97,9 +98,9 @@ pub record Operand (s : List ℕ) (i l : ℕ) : Type 0 where
   pub shorter : length (rowText s l) ≤ length (rowText s i)
 
 module _ {s : List ℕ} {i : ℕ} (ready : Ready s i) where
-  module _ {row : Row} (e : rowAt s (7 + i * 8) ≡ row) where
+  module _ {row : Row} (e : rowAt s (placeOf i) ≡ row) where
     row-there : RowAt (rowsOf s) i row
-    row-there = items-get (rowLayout s) 8 (λ at. refl) (countOf s) 7 i (ready .there) ∙ ap some e
+    row-there = items-get (rowLayout s) rowWidth (λ at. refl) (countOf s) formulaHeader i (ready .there) ∙ ap some e
 
     pub row-made : rowText s i ≡ made row (λ l. rowText s l)
     unfolding rowText

@@ -4,6 +4,7 @@ use mathlib.Core.List.{List}
 use lib.ListN.{length}
 use Rattle.lists.specs.Lists.{_∈_}
 use Rattle.wire.specs.Layout.{items}
+use Rattle.formula.specs.Format.{formulaHeader, rowWidth}
 use Rattle.formula.specs.declared.Row.{Row}
 use Rattle.formula.specs.Formula.{formulaOf}
 use Rattle.formula.specs.Rows.{operands}
@@ -13,10 +14,10 @@ use Rattle.text.specs.Text.{text}
 
 -- how many rows a message has, by its length, and the rows
 abbrev pub countOf : List ℕ → ℕ
-countOf s = (length s - 7) / 8
+countOf s = (length s - formulaHeader) / rowWidth
 
 abbrev pub rowsOf : List ℕ → List Row
-rowsOf s = items (rowLayout s) (countOf s) 7
+rowsOf s = items (rowLayout s) (countOf s) formulaHeader
 
 -- the text of row i
 unfoldable pub rowText : List ℕ → ℕ → List ℕ

@@ -29,6 +29,10 @@ decimalIn (suc k) n = cond (ltb n 10) (digit n ∷ []) (decimalIn k (n / 10) ++ 
 abbrev pub decimal : ℕ → List ℕ
 decimal n = decimalIn 10 n
 
+-- an 8-byte number has at most twenty
+abbrev pub longDecimal : ℕ → List ℕ
+longDecimal n = decimalIn 20 n
+
 -- no bound, no `<=`
 abbrev pub boundText : Bound → List ℕ
 boundText (Within k) = word "<=" ++ decimal k

@@ -6,7 +6,7 @@ ghost use lib.ListN.{length};
 ghost use Rattle.text.specs.Text as t;
 ghost use Rattle.wire.specs.Laid.{Laid};
 ghost use Rattle.text.specs.Rows.{rowText, Ready};
-ghost use Rattle.text.specs.Written.{writtenNumber, writtenLength, writtenOf, roomOf};
+ghost use Rattle.text.specs.Written.{writtenNumber, writtenLength, writtenOf, textRoom};
 ghost use Rattle.formula.specs.Message.{readFormula};
 use formula::Checked;
 use formula::Quantifier;
@@ -55,18 +55,26 @@ pub fn put_word(room: &mut [u8], at: usize, word: &[u8]) -> usize
     at + i
 }
 
+// Stores a number of 64 bits in decimal at a position; returns the position past it.
+pub fn put_long(room: &mut [u8], at: usize, n: u64) -> usize
+    requires { ⌜ at + length (t.longDecimal n) ≤ length (now room) ⌝ }
+    ensures { λ r. ⌜ Laid (now (room .entry)) at (t.longDecimal n) (now (room .exit)) r ⌝ }
+{
+    let last = if n < 10 {
+        at
+    } else {
+        put_long(room, at, n / 10)
+    };
+    room[last] = 48 + ((n % 10) as u8);
+    last + 1
+}
+
 // Stores a number in decimal at a position; returns the position past it.
 pub fn put_decimal(room: &mut [u8], at: usize, n: u32) -> usize
     requires { ⌜ at + length (t.decimal n) ≤ length (now room) ⌝ }
     ensures { λ r. ⌜ Laid (now (room .entry)) at (t.decimal n) (now (room .exit)) r ⌝ }
 {
-    let last = if n < 10 {
-        at
-    } else {
-        put_decimal(room, at, n / 10)
-    };
-    room[last] = 48 + ((n % 10) as u8);
-    last + 1
+    put_long(room, at, n as u64)
 }
 
 // How many digits a number has in decimal.
@@ -137,7 +145,7 @@ fn row_length(s: &[u8], i: u32) -> usize
     requires { ⌜ length (rowText (now s) i) ≤ 2048 ⌝ }
     ensures { λ r. ⌜ r ≡ length (rowText (now (s .entry)) i) ⌝ }
 {
-    let at = 7 + (i as usize) * 8;
+    let at = formula::HEADER + (i as usize) * formula::ROW;
     let row = formula::row_at(s, at);
     match row {
         Row::True => 4,
@@ -156,7 +164,7 @@ fn put_row(s: &[u8], i: u32, room: &mut [u8], at: usize) -> usize
     requires { ⌜ at + length (rowText (now s) i) ≤ length (now room) ⌝ }
     ensures { λ r. ⌜ Laid (now (room .entry)) at (rowText (now (s .entry)) i) (now (room .exit)) r ⌝ }
 {
-    let row = formula::row_at(s, 7 + (i as usize) * 8);
+    let row = formula::row_at(s, formula::HEADER + (i as usize) * formula::ROW);
     match row {
         Row::True => put_word(room, at, b"true"),
         Row::False => put_word(room, at, b"false"),
@@ -195,7 +203,7 @@ fn put_row(s: &[u8], i: u32, room: &mut [u8], at: usize) -> usize
 // Writes the text of a formula message, checked with the number of propositions it may name, where it fits.
 pub fn text(s: &[u8], p: u32, room: &mut [u8]) -> Written
     ensures answer { λ r. ⌜ r ≡ writtenOf (readFormula p (now (s .entry))) (now (room .entry)) ⌝ }
-    ensures room { λ _. ⌜ now (room .exit) ≡ roomOf (readFormula p (now (s .entry))) (now (room .entry)) ⌝ }
+    ensures room { λ _. ⌜ now (room .exit) ≡ textRoom (readFormula p (now (s .entry))) (now (room .entry)) ⌝ }
 {
     match formula::check(s, p) {
         Checked::Refused(e) => Written::Refused(e),

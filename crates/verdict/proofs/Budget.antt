@@ -1,102 +1,57 @@
--- BUDGET has its number to itself: no reading of a message gives it, so it is answered exactly where the count is greater than the budget.
--- Assumes nothing.
+-- BUDGET has its number to itself: it is answered exactly where all that is asked for before it is good and the count is greater than the
+-- budget. Assumes nothing.
 use Prim.Native.Nat.{ℕ, _<_}
 use mathlib.Core.List.{List}
 use mathlib.Core.Bool.{Bool, true, false, cond}
 use mathlib.Core.Logic.{_↔_}
-use mathlib.Core.Path.{_≡_, refl, sym, _∙_}
+use mathlib.Core.Path.{_≡_, refl}
 use native.Mathlib.Omega.{arith}
 use lib.ListN.{length}
 use lib.Dec.{leb}
 use borrow.Author.Tests.{leb-false, lt-leb}
-use Rattle.refusal.specs.declared.Refusal.{Refusal}
-use Rattle.refusal.specs.declared.Refusal.the-variants.{Budget, Room, Size}
-use Rattle.refusal.specs.Number.{numberOf}
-use Rattle.refusal.proofs.Numbers.{number-tells}
+use Rattle.refusal.specs.Number.{overBudget}
+use Rattle.refusal.proofs.Numbers.{number-above}
+use Rattle.value.specs.Value.{atMost}
 use Rattle.wire.specs.Read.{Read, good, bad}
-use Rattle.wire.proofs.Spares.{Spares, fine, then, asked, other-fault}
+use Rattle.rules.specs.Rounds.{rounds}
 use Rattle.rules.specs.Count.{count}
 use Rattle.graph.specs.Write.{writeGraph}
-use Rattle.model.proofs.Faults.{model-spares}
-use Rattle.formula.proofs.Faults.{formula-spares}
-use Rattle.build.specs.Built.{fits, roomy}
-use Rattle.verdict.specs.declared.Settled.{Settled}
-use Rattle.verdict.specs.declared.Settled.the-variants as Settled
-use Rattle.verdict.specs.Question.{Question, readQuestion, readAsked, graphFor, rootNode}
-use Rattle.verdict.specs.Answer.{answerNumber, settledNumber, settledFor, settledOf, decided, answerOf}
+use Rattle.verdict.specs.declared.Answer.the-variants as Answer
+use Rattle.verdict.specs.declared.AllStates.the-variants as AllStates
+use Rattle.verdict.specs.Question.{Question, graphFor, ruledFor, rootNode}
+use Rattle.verdict.specs.Answer.{answerNumber, allNumber, readSettled, readAsked, verdictOf, allOf, answerOf}
 
-question-spares : (m f : List ℕ) → Spares (readQuestion m f)
-unfolding readQuestion
-question-spares m f = then (model-spares m) (λ M. then (formula-spares f (M .propositions)) (λ rows. fine))
-
-asked-spares : (m f : List ℕ) (state : ℕ) → Spares (readAsked m f state)
-unfolding readAsked
-asked-spares m f state = then (question-spares m f) (λ q. asked _ _ refl fine)
-
--- so the fault of a reading is another
-pub question-fault : (m f : List ℕ) {e : Refusal} → readQuestion m f ≡ bad e → ¬ (e ≡ Budget)
-question-fault m f = other-fault (question-spares m f)
-
-pub asked-fault : (m f : List ℕ) (state : ℕ) {e : Refusal} → readAsked m f state ≡ bad e → ¬ (e ≡ Budget)
-asked-fault m f state = other-fault (asked-spares m f state)
-
--- a question that stands: it passes no limit, both rooms are large enough, and the count is greater than the budget
-abbrev pub Exceeds : Question → (budget : ℕ) → (b v : List ℕ) → Type 0
-Exceeds q budget b v = (fits (graphFor q) ≡ true) × (roomy (graphFor q) b (length v) ≡ true) × (budget < count (graphFor q))
-
-module _ (q : Question) (budget : ℕ) (b v : List ℕ) where
-  number-exceeds : settledNumber (settledFor q budget b v) ≡ numberOf Budget → Exceeds q budget b v
-  unfolding settledFor
-  number-exceeds e = go _ _ _ refl refl refl e
-    where
-      go : (t u w : Bool) → fits (graphFor q) ≡ t → roomy (graphFor q) b (length v) ≡ u → leb (count (graphFor q)) budget ≡ w
-          → settledNumber
-          (cond t
-          (cond u
-          (cond w (Settled.Done (count (graphFor q)) (length (writeGraph (graphFor q))) (rootNode q 0) (q .model .states))
-          (Settled.Spent budget (length (writeGraph (graphFor q)))))
-          (Settled.Refused Room))
-          (Settled.Refused Size))
-          ≡ numberOf Budget → Exceeds q budget b v
-      go true true true p r s e = absurd (omega arith)
-      go true true false p r s e = (p, r, leb-false _ _ s)
-      go true false w p r s e = absurd (omega arith)
-      go false u w p r s e = absurd (omega arith)
-
-  exceeds-number : Exceeds q budget b v → settledNumber (settledFor q budget b v) ≡ numberOf Budget
-  unfolding settledFor
-  exceeds-number x = rw (x .0, x .1, lt-leb (count (graphFor q)) budget (x .2)) refl
-
-  -- the verdict on a state passes the number on
-  decided-number : (state : ℕ) (s : Settled) → answerNumber (decided q state s) ≡ settledNumber s
-  unfolding decided
-  decided-number state (Settled.Done m n first states) = refl
-  decided-number state (Settled.Spent m n) = refl
-  decided-number state (Settled.Refused e) = refl
+-- the question is good, and its count is greater than the budget
+abbrev pub Exceeds : Read Question → (budget : ℕ) → Type 0
+Exceeds x budget = (q : Question) × (x ≡ good q) × (budget < count (ruledFor q))
 
 -- all states at once
-pub settle-budget : (m f : List ℕ) (budget : ℕ) (b v : List ℕ)
-    → (settledNumber (settledOf (readQuestion m f) budget b v) ≡ numberOf Budget)
-    ↔ ((q : Question) × (readQuestion m f ≡ good q) × Exceeds q budget b v)
-unfolding settledOf
-settle-budget m f budget b v = (λ e. read (readQuestion m f) refl e, λ (q, is, x). rw is (exceeds-number q budget b v x))
+pub settle-budget : (m f : List ℕ) (budget : ℕ) (b v : List ℕ) → let x = readSettled m f b v in (allNumber (allOf x budget) ≡ overBudget) ↔ Exceeds x budget
+unfolding allOf
+settle-budget m f budget b v = (λ e. read (readSettled m f b v) e, λ (q, is, l). rw (is, lt-leb (count (graphFor q)) budget l) refl)
   where
-    read : (x : Read Question) → readQuestion m f ≡ x → settledNumber (settledOf x budget b v) ≡ numberOf Budget
-        → (q : Question) × (readQuestion m f ≡ good q) × Exceeds q budget b v
-    read (good q) is e = (q, is, number-exceeds q budget b v e)
-    read (bad r) is e = absurd (question-fault m f is (number-tells e))
+    tested : (q : Question) (t : Bool) → leb (count (graphFor q)) budget ≡ t → let n = length (writeGraph (graphFor q)) in
+        allNumber (cond t (AllStates.Settled (count (graphFor q)) n (rootNode q 0) (q .model .states)) (AllStates.Spent budget n)) ≡ overBudget
+        → budget < count (graphFor q)
+    tested q true p e = absurd (omega arith)
+    tested q false p e = leb-false _ _ p
+
+    read : (x : Read Question) → allNumber (allOf x budget) ≡ overBudget → Exceeds x budget
+    read (good q) e = (q, refl, tested q _ refl e)
+    read (bad r) e = absurd (omega (arith, number-above r))
 
 -- and one
-pub answer-budget : (m f : List ℕ) (state budget : ℕ) (b v : List ℕ)
-    → (answerNumber (answerOf (readAsked m f state) state budget b v) ≡ numberOf Budget)
-    ↔ ((q : Question) × (readAsked m f state ≡ good q) × Exceeds q budget b v)
+pub answer-budget : (m f : List ℕ) (state budget : ℕ) (b v : List ℕ) → let x = readAsked m f state b v in
+    (answerNumber (answerOf x state budget) ≡ overBudget) ↔ Exceeds x budget
 unfolding answerOf
-answer-budget m f state budget b v = (
-  λ e. read (readAsked m f state) refl e,
-  λ (q, is, x). rw is (decided-number q budget b v state _ ∙ exceeds-number q budget b v x),
-)
+answer-budget m f state budget b v = (λ e. read (readAsked m f state b v) e, λ (q, is, l). rw (is, lt-leb (count (graphFor q)) budget l) refl)
   where
-    read : (x : Read Question) → readAsked m f state ≡ x → answerNumber (answerOf x state budget b v) ≡ numberOf Budget
-        → (q : Question) × (readAsked m f state ≡ good q) × Exceeds q budget b v
-    read (good q) is e = (q, is, number-exceeds q budget b v (sym (decided-number q budget b v state _) ∙ e))
-    read (bad r) is e = absurd (asked-fault m f state is (number-tells e))
+    tested : (q : Question) (t : Bool) → leb (count (graphFor q)) budget ≡ t → let n = length (writeGraph (graphFor q)) in
+        answerNumber (cond t (Answer.Decided (verdictOf (atMost (rounds (graphFor q) (count (graphFor q)) (rootNode q state)) 0)) (count (graphFor q)) n) (Answer.Spent budget n))
+        ≡ overBudget → budget < count (graphFor q)
+    tested q true p e = absurd (omega arith)
+    tested q false p e = leb-false _ _ p
+
+    read : (x : Read Question) → answerNumber (answerOf x state budget) ≡ overBudget → Exceeds x budget
+    read (good q) e = (q, refl, tested q _ refl e)
+    read (bad r) e = absurd (omega (arith, number-above r))

@@ -11,8 +11,10 @@ use native.Mathlib.Omega.{arith}
 use Rattle.lists.proofs.Tests.{by-test}
 use Rattle.refusal.specs.declared.Refusal.{Refusal}
 use Rattle.refusal.specs.declared.Refusal.the-variants.{Room, Size}
+use Rattle.refusal.proofs.Numbers.{number-above}
 use Rattle.wire.specs.Bytes.{Bytes}
-use Rattle.wire.specs.Read.{Read, good, bad}
+use Rattle.wire.specs.Read.{Read, good, bad, _>>=_, _>>_, demand}
+use Rattle.wire.proofs.Reading.{good-then, bad-then}
 use Rattle.rules.specs.Graph.{Graph}
 use Rattle.graph.specs.Write.{writeGraph}
 use Rattle.build.specs.declared.Built.{Built}
@@ -21,8 +23,8 @@ use Rattle.build.specs.Built.{fits, roomy, builtOf, roomOf}
 use Rattle.build.proofs.Writing.{fits-each}
 use Rattle.verdict.specs.Question.{Question, readQuestion, graphFor}
 use Rattle.verdict.specs.Asking.{heldQuestion, Held}
-use Rattle.verdict.specs.Answer.{graphBuilt, graphRoom}
-use Rattle.verdict.specs.Promise.{PromiseGraph}
+use Rattle.verdict.specs.Answer.{sized, readBuilt, builtAlone, bytesOf}
+use Rattle.verdict.specs.Promise.{Asks, PromiseGraph}
 use Rattle.verdict.proofs.Fitting.{stands}
 use Rattle.verdict.proofs.Promised.{asks}
 
@@ -31,51 +33,66 @@ enough-values : (g : Graph) (b : List ℕ) → fits g ≡ true → roomy g b 819
 unfolding roomy
 enough-values g b e = rw (le-leb (g .nodes + g .nodes) 8192 (omega (arith, fits-each g e .nodes-fit))) (and-true _)
 
+-- a refusal's number is not OK's
+refused : (m f b : List ℕ) (e : Refusal) → PromiseGraph m f b b (Built.Refused e)
+refused m f b e = let above = number-above e in record { builds = λ z. absurd (omega arith); refuses = λ z. (refl, refl) }
+
 module _ (q : Question) (b : List ℕ) where
   abbrev g : Graph
   g = graphFor q
 
-  built-is : builtOf g b 8192 ≡ graphBuilt (good q) b
-  unfolding builtOf graphBuilt
-  built-is = by-test (fits g) (λ e. rw (enough-values g b e)) (λ e. rw e)
+  abbrev w : List ℕ
+  w = writeGraph g
 
-  room-is : roomOf g b 8192 ≡ graphRoom (good q) b
-  unfolding roomOf graphRoom
-  room-is = by-test (fits g) (λ e. rw (enough-values g b e)) (λ e. rw e)
+  built-is : (builtOf g b 8192 ≡ builtAlone (sized q b)) × (roomOf g b 8192 ≡ bytesOf (sized q b) b)
+  unfolding builtOf roomOf builtAlone bytesOf sized _>>_ demand
+  built-is = by-test (fits g) (λ e. rw (e, enough-values g b e) (fitting (leb (length w) (length b)))) (λ e. rw e (refl, refl))
+    where
+      fitting : (u : Bool) → (cond u (Built.Graph (length w)) (Built.Refused Room) ≡ builtAlone (demand u Room >> good q))
+          × (cond u (w ++ drop (length w) b) b ≡ bytesOf (demand u Room >> good q) b)
+      fitting true = (refl, refl)
+      fitting false = (refl, refl)
+
+  -- what is promised of it
+  kept-sized : (m f : List ℕ) → Asks m f q → PromiseGraph m f b (bytesOf (sized q b) b) (builtAlone (sized q b))
+  unfolding builtAlone bytesOf sized _>>_ demand
+  kept-sized m f asked = go (fits g) (leb (length w) (length b)) refl
+    where
+      go : (t u : Bool) → fits g ≡ t → let x = demand t Size >> (demand u Room >> good q) in PromiseGraph m f b (bytesOf x b) (builtAlone x)
+      go true true e = record {
+        builds = λ z. record { question = q; asked = asked; graph = stands q (asked .model-fits) (asked .formula-fits) e b refl refl };
+        refuses = λ z. absurd (omega arith);
+      }
+      go true false e = refused m f b Room
+      go false u e = refused m f b Size
 
 -- whatever is read
 module _ (m f : List ℕ) (mb : Bytes m) (fb : Bytes f) (b : List ℕ) where
-  kept-graph : let x = readQuestion m f in PromiseGraph m f b (graphRoom x b) (graphBuilt x b)
-  unfolding graphRoom graphBuilt
+  kept-graph : let x = readBuilt m f b in PromiseGraph m f b (bytesOf x b) (builtAlone x)
+  unfolding builtAlone bytesOf readBuilt
   kept-graph = read (readQuestion m f) refl
     where
-      built : (q : Question) → readQuestion m f ≡ good q → (t u : Bool) → fits (graphFor q) ≡ t
-          → PromiseGraph m f b (cond t (cond u (writeGraph (graphFor q) ++ drop (length (writeGraph (graphFor q))) b) b) b)
-          (cond t (cond u (Built.Graph (length (writeGraph (graphFor q)))) (Built.Refused Room)) (Built.Refused Size))
-      built q e true true fitting =
-          let asked = asks m f q mb fb e in
-          record { question = q; asked = asked; graph = stands q (asked .model-fits) (asked .formula-fits) fitting b refl refl }
-      built q e true false fitting = refl
-      built q e false u fitting = refl
-
-      read : (x : Read Question) → readQuestion m f ≡ x → PromiseGraph m f b (graphRoom x b) (graphBuilt x b)
-      read (good q) e = built q e (fits (graphFor q)) (leb (length (writeGraph (graphFor q))) (length b)) refl
-      read (bad r) e = refl
+      read : (x : Read Question) → readQuestion m f ≡ x → let y = x >>= λ q. sized q b in PromiseGraph m f b (bytesOf y b) (builtAlone y)
+      read (good q) e = rw (good-then q (λ q. sized q b)) (kept-sized q b m f (asks m f q mb fb e))
+      read (bad r) e = rw (bad-then r (λ q. sized q b)) (refused m f b r)
 
   -- what is shown of a call
   abbrev pub ShownGraph : Built → List ℕ → Type 0
-  ShownGraph r b′ = (r ≡ graphBuilt (readQuestion m f) b) × ((b′ ≡ graphRoom (readQuestion m f) b) × PromiseGraph m f b b′ r)
+  ShownGraph r b′ = let x = readBuilt m f b in (r ≡ builtAlone x) × ((b′ ≡ bytesOf x b) × PromiseGraph m f b b′ r)
 
-  shown : (r : Built) (b′ : List ℕ) → r ≡ graphBuilt (readQuestion m f) b → b′ ≡ graphRoom (readQuestion m f) b → ShownGraph r b′
+  shown : (r : Built) (b′ : List ℕ) → r ≡ builtAlone (readBuilt m f b) → b′ ≡ bytesOf (readBuilt m f b) b → ShownGraph r b′
   shown r b′ p s = (p, (s, rw (p, s) kept-graph))
 
   -- the model or the formula is refused
   pub graph-refused : {e : Refusal} → readQuestion m f ≡ bad e → ShownGraph (Built.Refused e) b
-  unfolding graphRoom graphBuilt
-  graph-refused h = shown _ _ (rw h) (rw h)
+  unfolding builtAlone bytesOf readBuilt
+  graph-refused {e} h = let is : readBuilt m f b ≡ bad e = rw h (bad-then _ _) in shown _ _ (rw is) (rw is)
 
   -- both are accepted
   pub graph-built : {n p t k : ℕ} {r : Built} {b′ : List ℕ} → Held m f n p t k
       → let g = graphFor (heldQuestion m n p t f k) in (r ≡ builtOf g b 8192) × (b′ ≡ roomOf g b 8192) → ShownGraph r b′
+  unfolding readBuilt
   graph-built {n} {p} {t} {k} held s =
-      let q = heldQuestion m n p t f k in shown _ _ (rw (held .reads) (s .0 ∙ built-is q b)) (rw (held .reads) (s .1 ∙ room-is q b))
+      let q = heldQuestion m n p t f k in
+      let is : readBuilt m f b ≡ sized q b = rw (held .reads) (good-then _ _) in
+      shown _ _ (rw is (s .0 ∙ built-is q b .0)) (rw is (s .1 ∙ built-is q b .1))

@@ -45,6 +45,14 @@ test-zero x = (
   λ e. zero-test x ∙ eq-eqb (stored x) 0 (stored-zero x .1 e),
 )
 
+-- a verdict is yes exactly where the value is 0
+pub yes-zero : (x : Value) → (verdictOf (atMost x 0) ≡ Verdict.Yes) ↔ (x ≡ fin 0)
+yes-zero x = (λ e. test-zero x .0 (is-yes _ e), λ e. ap verdictOf (test-zero x .1 e))
+  where
+    is-yes : (b : Bool) → verdictOf b ≡ Verdict.Yes → b ≡ true
+    is-yes true e = refl
+    is-yes false e = let k : _≡_ {A = ℕ} 0 1 = cc in absurd (omega arith)
+
 -- the root row's node of a state is a node
 pub root-inside : (q : Question) → 1 ≤ length (q .rows) → (a : ℕ) → a < q .model .states → rootNode q a < graphFor q .nodes
 root-inside q some a l = node-lt (q .model) (q .rows) l (omega arith)
@@ -66,11 +74,10 @@ module _ (q : Question) (m : model.WellFormed (q .model)) (f : formula.WellForme
   -- the verdict's yes and no
   pub yes-when : (i : ℕ) → Settled (graphFor q) i → (a : ℕ) → a < q .model .states
       → (verdictOf (atMost (rounds (graphFor q) i (rootNode q a)) 0) ≡ Verdict.Yes) ↔ Satisfies q a
-  yes-when i settled a l = let t = test-when i settled a l in (λ e. t .0 (is-yes _ e), λ s. ap verdictOf (t .1 s))
-    where
-      is-yes : (b : Bool) → verdictOf b ≡ Verdict.Yes → b ≡ true
-      is-yes true e = refl
-      is-yes false e = let k : _≡_ {A = ℕ} 0 1 = cc in absurd (omega arith)
+  yes-when i settled a l =
+      let r = at-root i settled a l in
+      let y = yes-zero (rounds (graphFor q) i (rootNode q a)) in
+      (λ e. r .0 (y .0 e), λ s. y .1 (r .1 s))
 
   pub no-when : (i : ℕ) → Settled (graphFor q) i → (a : ℕ) → a < q .model .states
       → (verdictOf (atMost (rounds (graphFor q) i (rootNode q a)) 0) ≡ Verdict.No) ↔ (¬ Satisfies q a)

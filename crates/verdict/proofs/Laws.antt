@@ -1,59 +1,37 @@
--- Laws of the whole question: there is one answer and one content of both rooms, a budget that always settles, budgets that settle agree,
--- and there is one question that the messages write. Assumes nothing.
-use Prim.Native.Nat.{ℕ, _≤_}
+-- Laws of the whole question: a budget that always settles, budgets that settle agree, and there is one question that the messages write.
+-- Assumes nothing.
+use Prim.Native.Nat.{ℕ, _+_, _*_, _≤_}
 use mathlib.Core.List.{List}
-use mathlib.Core.Bool.{true}
 use mathlib.Core.Path.{_≡_, refl, sym, _∙_}
 use lib.ListN.{length}
 use borrow.Author.Tests.{le-leb}
 use native.Mathlib.Omega.{arith}
 use Rattle.lists.proofs.Tests.{by}
-use Rattle.wire.specs.Read.{Read}
-use Rattle.rules.specs.Count.{count, enough}
+use Rattle.wire.specs.Read.{good}
+use Rattle.rules.specs.Count.{count}
 use Rattle.rules.proofs.Count.{count-le}
 use Rattle.graph.specs.Write.{writeGraph}
 use Rattle.rounds.specs.Outcome.{filled}
 use Rattle.model.proofs.Exact as model
 use Rattle.formula.proofs.Exact as formula
-use Rattle.build.specs.declared.Built.{Built}
-use Rattle.build.specs.Built.{fits, roomy}
-use Rattle.verdict.specs.declared.Answer.{Answer}
-use Rattle.verdict.specs.declared.Settled.{Settled}
-use Rattle.verdict.specs.declared.Settled.the-variants.{Done}
-use Rattle.verdict.specs.Question.{Question, graphFor, rootNode}
-use Rattle.verdict.specs.Answer.{settledFor, valuesFor, settledOf, answerOf, bytesOf, valuesOf, graphBuilt, graphRoom}
+use Rattle.verdict.specs.declared.AllStates.{AllStates}
+use Rattle.verdict.specs.declared.AllStates.the-variants as AllStates
+use Rattle.verdict.specs.Question.{Question, graphFor, ruledFor, rootNode}
+use Rattle.verdict.specs.Answer.{roomed, allOf, valuesOf}
 use Rattle.verdict.specs.Promise.{Asks}
 use Rattle.verdict.proofs.Finished.{ended-as}
 
--- two that satisfy the contract of `decide` are equal
-pub one-answer : (x : Read Question) (state budget : ℕ) (b v : List ℕ) {r r′ : Answer} {a a′ w w′ : List ℕ}
-    → r ≡ answerOf x state budget b v → r′ ≡ answerOf x state budget b v → a ≡ bytesOf x b v → a′ ≡ bytesOf x b v → w ≡ valuesOf x budget b v
-    → w′ ≡ valuesOf x budget b v → (r ≡ r′) × (a ≡ a′) × (w ≡ w′)
-one-answer x state budget b v p p′ q q′ s s′ = (p ∙ sym p′, q ∙ sym q′, s ∙ sym s′)
-
--- and two that satisfy that of `settle`
-pub one-settling : (x : Read Question) (budget : ℕ) (b v : List ℕ) {r r′ : Settled} {a a′ w w′ : List ℕ}
-    → r ≡ settledOf x budget b v → r′ ≡ settledOf x budget b v → a ≡ bytesOf x b v → a′ ≡ bytesOf x b v → w ≡ valuesOf x budget b v
-    → w′ ≡ valuesOf x budget b v → (r ≡ r′) × (a ≡ a′) × (w ≡ w′)
-one-settling x budget b v p p′ q q′ s s′ = (p ∙ sym p′, q ∙ sym q′, s ∙ sym s′)
-
--- and two that satisfy that of `graph`
-pub one-graph : (x : Read Question) (b : List ℕ) {r r′ : Built} {a a′ : List ℕ}
-    → r ≡ graphBuilt x b → r′ ≡ graphBuilt x b → a ≡ graphRoom x b → a′ ≡ graphRoom x b → (r ≡ r′) × (a ≡ a′)
-one-graph x b p p′ q q′ = (p ∙ sym p′, q ∙ sym q′)
-
 -- a budget of n (c + 1) rounds is never spent: where the graph passes no limit and both rooms are large enough, the question settles
-pub always-settles : (q : Question) (budget : ℕ) (b v : List ℕ) → fits (graphFor q) ≡ true → roomy (graphFor q) b (length v) ≡ true
-    → enough (graphFor q) ≤ budget
-    → settledFor q budget b v ≡ Done (count (graphFor q)) (length (writeGraph (graphFor q))) (rootNode q 0) (q .model .states)
-unfolding settledFor
-always-settles q budget b v fitting room h =
-    rw (fitting, room, le-leb (count (graphFor q)) budget (omega (arith, count-le (graphFor q))))
+pub always-settles : (q : Question) (budget : ℕ) → let g = ruledFor q in g .nodes * (length (g .covers) + 1) ≤ budget
+    → allOf (good q) budget ≡ AllStates.Settled (count g) (length (writeGraph (graphFor q))) (rootNode q 0) (q .model .states)
+unfolding allOf
+always-settles q budget h = rw (le-leb (count (graphFor q)) budget (omega (arith, count-le (graphFor q))))
 
 -- two budgets that settle a question give the same answer, whatever the rooms, and so the same verdicts; and the same two rounds
 pub two-budgets : (q : Question) (c d : ℕ) (b v b′ v′ : List ℕ) {m n first states m′ n′ first′ states′ : ℕ}
-    → Done m n first states ≡ settledFor q c b v → Done m′ n′ first′ states′ ≡ settledFor q d b′ v′
-    → (Done m n first states ≡ Done m′ n′ first′ states′) × (valuesFor q c b v ≡ filled (graphFor q) m v) × (valuesFor q d b′ v′ ≡ filled (graphFor q) m v′)
+    → AllStates.Settled m n first states ≡ allOf (roomed q b v) c → AllStates.Settled m′ n′ first′ states′ ≡ allOf (roomed q b′ v′) d
+    → (AllStates.Settled m n first states ≡ AllStates.Settled m′ n′ first′ states′)
+    × (valuesOf (roomed q b v) c v ≡ filled (graphFor q) m v) × (valuesOf (roomed q b′ v′) d v′ ≡ filled (graphFor q) m v′)
 two-budgets q c d b v b′ v′ {m} {n} {first} {states} {m′} {n′} {first′} {states′} e e′ =
     let done = ended-as q c b v e in
     let done′ = ended-as q d b′ v′ e′ in

@@ -3,30 +3,32 @@ use Prim.Native.Nat.{ℕ, _+_, _-_, _≤_, _<_}
 use mathlib.Core.List.{List}
 use mathlib.Core.Path.{_≡_, refl, ap, _∙_}
 use lib.ListN.{length}
-use borrow.Author.Tests.{ltb-true}
+use borrow.Author.Tests.{lt-ltb, le-ltb}
+use native.Mathlib.Decide.{decLt}
 use native.Mathlib.Omega.{arith}
+use Rattle.refusal.specs.declared.Refusal.{Refusal}
+use Rattle.refusal.specs.declared.Refusal.the-variants.{Name}
+use Rattle.refusal.proofs.Numbers.{number-above}
 use Rattle.wire.specs.Bytes.{Bytes}
-use Rattle.wire.specs.Read.{Read, good, bad}
-use Rattle.wire.proofs.Reading.{bind-good, demand-good, good-same}
+use Rattle.wire.specs.Read.{Read, good, bad, _>>=_}
+use Rattle.wire.proofs.Reading.{reading, good-then, bad-then}
 use Rattle.rules.specs.Graph.{Graph}
-use Rattle.rules.specs.Count.{count}
-use Rattle.rules.proofs.Order.{largest-agree}
-use Rattle.rules.proofs.Count.{count-first, count-le, count-largest}
 use Rattle.graph.specs.WellFormed.{WellFormed}
-use Rattle.graph.specs.Write.{writeGraph}
 use Rattle.rounds.specs.Outcome.{filled}
-use Rattle.rounds.proofs.Promised.{both-halves, accepted-filled}
+use Rattle.rounds.specs.Promise.{SettledAt}
+use Rattle.rounds.proofs.Promised.{settled-at, spent-at}
 use Rattle.model.proofs.Exact as model
 use Rattle.formula.proofs.Exact as formula
-use Rattle.verdict.specs.declared.Settled.{Settled}
-use Rattle.verdict.specs.declared.Settled.the-variants as Settled
-use Rattle.verdict.specs.Question.{Question, readQuestion, readAsked, graphFor, rootNode}
-use Rattle.verdict.specs.Answer.{settledFor, bytesFor, valuesFor, decided, settledOf, answerOf, bytesOf, valuesOf}
-use Rattle.verdict.specs.Promise.{Asks, Leaves, Settles, Spends, Promise, PromiseAll}
+use Rattle.verdict.specs.declared.Answer.the-variants as Answer
+use Rattle.verdict.specs.declared.AllStates.{AllStates}
+use Rattle.verdict.specs.declared.AllStates.the-variants as AllStates
+use Rattle.verdict.specs.Question.{Question, readQuestion, graphFor, rootNode}
+use Rattle.verdict.specs.Answer.{roomed, readSettled, readAsked, answerOf, allOf, bytesOf, valuesOf}
+use Rattle.verdict.specs.Promise.{Asks, Leaves, Spends, Refuses, Promise, PromiseAll}
 use Rattle.verdict.proofs.Reading.{question-parts}
 use Rattle.verdict.proofs.Fitting.{fits-well, stands}
 use Rattle.verdict.proofs.Deciding.{root-inside, yes-when, no-when, all-when}
-use Rattle.verdict.proofs.Finished.{Ran, Finished, Stopped, Ended, ended, filled-inside}
+use Rattle.verdict.proofs.Finished.{Ran, Finished, Stopped, Ended, ended, decided, answer-decided, filled-inside}
 
 -- the messages of a question that is read are its writings
 pub asks : (m f : List ℕ) (q : Question) → Bytes m → Bytes f → readQuestion m f ≡ good q → Asks m f q
@@ -36,40 +38,52 @@ asks m f q mb fb e =
     let rows = formula.accepted-written (q .model .propositions) f (q .rows) fb (parts .1) in
     record { model-written = model .0; model-fits = model .1; formula-written = rows .0; formula-fits = rows .1 }
 
+-- a refusal's number is above BUDGET's
+module _ (m f : List ℕ) (budget : ℕ) (b v : List ℕ) (e : Refusal) (b′ v′ : List ℕ) (same : (b′ ≡ b) × (v′ ≡ v)) where
+  abbrev stays : Refuses b v b′ v′ 0 0
+  stays = record { no-count = refl; no-length = refl; bytes-stay = same .0; values-stay = same .1 }
+
+  refused-all : PromiseAll m f budget b v b′ v′ (AllStates.Refused e)
+  refused-all =
+      let above = number-above e in
+      record { decides = λ z. absurd (omega arith); spends = λ z. absurd (omega arith); refuses = λ z. stays }
+
+  refused-one : (state : ℕ) → Promise m f state budget b v b′ v′ (Answer.Refused e)
+  refused-one state =
+      let above = number-above e in
+      record { decides = λ z. absurd (omega arith); spends = λ z. absurd (omega arith); refuses = λ z. (refl, stays) }
+
 -- a question that stands
 module _ (m f : List ℕ) (budget : ℕ) (b v : List ℕ) (q : Question) (asked : Asks m f q) where
   abbrev g : Graph
   g = graphFor q
 
+  -- the rooms after the call
+  abbrev b′ : List ℕ
+  b′ = bytesOf (roomed q b v) b
+
+  abbrev v′ : List ℕ
+  v′ = valuesOf (roomed q b v) budget v
+
   -- its graph, where it was built
   well : {k n : ℕ} → Ran q budget b v k n → WellFormed g
   well ran = fits-well q (asked .model-fits) (asked .formula-fits) (ran .fitting)
 
-  leaves : {k n : ℕ} → Ran q budget b v k n → Leaves q k b v (bytesFor q b v) (valuesFor q budget b v) n
-  leaves {k} {n} ran = record {
+  leaves : {k n : ℕ} → Ran q budget b v k n → Leaves q b v b′ v′ k n
+  leaves ran = record {
     graph = stands q (asked .model-fits) (asked .formula-fits) (ran .fitting) b (ran .long-is) (ran .bytes-are);
-    values = ran .values-are;
-    halves = rw (ran .values-are) (both-halves g (well ran) k v);
-    small = rw (ran .values-are) (accepted-filled (writeGraph g) g k v refl (well ran) .small);
+    two-rounds = ran .values-are;
   }
 
-  settles : {k n first states : ℕ} → Finished q budget b v k n first states → Settles q budget k (valuesFor q budget b v)
-  settles done =
-      let wf = well (done .ran) in
-      record {
-        first = rw (done .count-is) (count-first g (wf .closed));
-        within = done .within;
-        soon = rw (done .count-is) (count-le g);
-        largest = rw (done .ran .values-are, done .count-is) (largest-agree g (wf .closed) (count-largest g (wf .closed)) (both-halves g wf (count g) v .first-half));
-      }
+  settled : {k n first states : ℕ} → Finished q budget b v k n first states → SettledAt g budget v′ k
+  settled done = rw (done .ran .values-are, done .count-is) (settled-at g (well (done .ran)) budget v (rw (done .count-is) at (done .within)))
 
-  spends : {k n : ℕ} → Stopped q budget b v k n → Spends m f budget b v (bytesFor q b v) (valuesFor q budget b v) k n
+  spends : {k n : ℕ} → Stopped q budget b v k n → Spends m f budget b v b′ v′ k n
   spends stop = record {
     question = q;
     asked = asked;
-    spent = stop .spent;
-    later = stop .later;
-    leaves = leaves (rw (stop .spent) at (stop .ran));
+    spent = rw (stop .ran .values-are, stop .spent) (spent-at g (well (stop .ran)) budget v (stop .later));
+    leaves = leaves (stop .ran);
   }
 
   -- the last state's node is one
@@ -79,67 +93,82 @@ module _ (m f : List ℕ) (budget : ℕ) (b v : List ℕ) (q : Question) (asked 
       let last = root-inside q (asked .formula-fits .some-row) (q .model .states - 1) (omega arith) in
       omega (arith, filled-inside g i v)
 
-  kept-for : PromiseAll m f budget b v (bytesFor q b v) (valuesFor q budget b v) (settledFor q budget b v)
-  kept-for = go (settledFor q budget b v) (ended q budget b v)
+  kept-for : PromiseAll m f budget b v b′ v′ (allOf (roomed q b v) budget)
+  kept-for = go (allOf (roomed q b v) budget) (ended q budget b v)
     where
-      go : (s : Settled) → Ended q budget b v s → PromiseAll m f budget b v (bytesFor q b v) (valuesFor q budget b v) s
-      go (Settled.Done k n first states) done =
-          record {
-            question = q;
-            asked = asked;
-            all = done .states-are;
-            inside = rw (done .first-is, done .states-are, done .ran .values-are) (all-inside k);
-            yes = rw (done .first-is, done .states-are, done .ran .values-are) (all-when q (asked .model-fits) (asked .formula-fits) k v (settles done .first .settled));
-            settles = settles done;
-            leaves = leaves (done .ran);
-          }
-      go (Settled.Spent k n) stop = spends stop
-      go (Settled.Refused e) same = same
+      go : (s : AllStates) → Ended q budget b v s → PromiseAll m f budget b v b′ v′ s
+      go (AllStates.Settled k n first states) done = record {
+        decides =
+            λ z. record {
+              question = q;
+              asked = asked;
+              says = ap (λ (x : ℕ). AllStates.Settled k n x states) (done .first-is) ∙ ap (λ (x : ℕ). AllStates.Settled k n (rootNode q 0) x) (done .states-are);
+              inside = rw (done .ran .values-are) (all-inside k);
+              yes = rw (done .ran .values-are) (all-when q (asked .model-fits) (asked .formula-fits) k v (settled done .first .settled));
+              settled = settled done;
+              leaves = leaves (done .ran);
+            };
+        spends = λ z. absurd (omega arith);
+        refuses = λ z. absurd (omega arith);
+      }
+      go (AllStates.Spent k n) stop = record { decides = λ z. absurd (omega arith); spends = λ z. spends stop; refuses = λ z. absurd (omega arith) }
+      go (AllStates.Refused e) same = refused-all m f budget b v e _ _ same
 
   -- and one of its states
-  kept-state : (state : ℕ) → state < q .model .states
-      → Promise m f state budget b v (bytesFor q b v) (valuesFor q budget b v) (decided q state (settledFor q budget b v))
-  unfolding decided spends
-  kept-state state named = go (settledFor q budget b v) (ended q budget b v)
+  kept-state : (state : ℕ) → state < q .model .states → Promise m f state budget b v b′ v′ (decided q state (allOf (roomed q b v) budget))
+  unfolding spends
+  kept-state state named = go (allOf (roomed q b v) budget) (ended q budget b v)
     where
-      go : (s : Settled) → Ended q budget b v s → Promise m f state budget b v (bytesFor q b v) (valuesFor q budget b v) (decided q state s)
-      go (Settled.Done k n first states) done =
-          let settled = settles done .first .settled in
+      go : (s : AllStates) → Ended q budget b v s → Promise m f state budget b v b′ v′ (decided q state s)
+      go (AllStates.Settled k n first states) done =
+          let unchanged = settled done .first .settled in
           record {
-            question = q;
-            asked = asked;
-            named = named;
-            yes = yes-when q (asked .model-fits) (asked .formula-fits) k settled state named;
-            otherwise = no-when q (asked .model-fits) (asked .formula-fits) k settled state named;
-            settles = settles done;
-            leaves = leaves (done .ran);
+            decides =
+                λ z. record {
+                  question = q;
+                  asked = asked;
+                  named = named;
+                  yes = yes-when q (asked .model-fits) (asked .formula-fits) k unchanged state named;
+                  otherwise = no-when q (asked .model-fits) (asked .formula-fits) k unchanged state named;
+                  settled = settled done;
+                  leaves = leaves (done .ran);
+                };
+            spends = λ z. absurd (omega arith);
+            refuses = λ z. absurd (omega arith);
           }
-      go (Settled.Spent k n) stop = record { spends = spends stop; named = named }
-      go (Settled.Refused e) same = same
+      go (AllStates.Spent k n) stop = record {
+        decides = λ z. absurd (omega arith);
+        spends = λ z. record { none = refl; spends = spends stop; named = named };
+        refuses = λ z. absurd (omega arith);
+      }
+      go (AllStates.Refused e) same = refused-one m f budget b v e _ _ same state
 
--- the state that is asked for exists
-asked-state : (m f : List ℕ) (state : ℕ) (q : Question) → readAsked m f state ≡ good q → (readQuestion m f ≡ good q) × (state < q .model .states)
+-- the state that is asked for exists, and the question is the one that is read
+pub asked-is : (m f b v : List ℕ) (q : Question) (state : ℕ) → readQuestion m f ≡ good q → state < q .model .states → readAsked m f state b v ≡ roomed q b v
 unfolding readAsked
-asked-state m f state q e =
-    let x = bind-good _ _ e in
-    let d = demand-good _ _ _ (x .rest) in
-    let same : x .value ≡ q = good-same (d .1) in
-    (x .first ∙ ap good same, rw (← same) (ltb-true _ _ (d .0)))
+asked-is m f b v q state e l = rw e (simp reading (rw (lt-ltb state (q .model .states) l) (simp reading)))
 
 -- whatever is read
 module _ (m f : List ℕ) (mb : Bytes m) (fb : Bytes f) (budget : ℕ) (b v : List ℕ) where
-  pub kept-all : let x = readQuestion m f in PromiseAll m f budget b v (bytesOf x b v) (valuesOf x budget b v) (settledOf x budget b v)
-  unfolding bytesOf valuesOf settledOf
+  pub kept-all : let x = readSettled m f b v in PromiseAll m f budget b v (bytesOf x b) (valuesOf x budget v) (allOf x budget)
+  unfolding bytesOf valuesOf allOf readSettled
   kept-all = go (readQuestion m f) refl
     where
-      go : (x : Read Question) → readQuestion m f ≡ x → PromiseAll m f budget b v (bytesOf x b v) (valuesOf x budget b v) (settledOf x budget b v)
-      go (good q) e = kept-for m f budget b v q (asks m f q mb fb e)
-      go (bad r) e = (refl, refl)
+      go : (x : Read Question) → readQuestion m f ≡ x → let y = x >>= λ q. roomed q b v in PromiseAll m f budget b v (bytesOf y b) (valuesOf y budget v) (allOf y budget)
+      go (good q) e = rw (good-then q (λ q. roomed q b v)) (kept-for m f budget b v q (asks m f q mb fb e))
+      go (bad r) e = rw (bad-then r (λ q. roomed q b v)) (refused-all m f budget b v r b v (refl, refl))
 
-  pub kept-one : (state : ℕ) → let x = readAsked m f state in Promise m f state budget b v (bytesOf x b v) (valuesOf x budget b v) (answerOf x state budget b v)
-  unfolding bytesOf valuesOf answerOf
-  kept-one state = go (readAsked m f state) refl
+  pub kept-one : (state : ℕ) → let x = readAsked m f state b v in Promise m f state budget b v (bytesOf x b) (valuesOf x budget v) (answerOf x state budget)
+  unfolding bytesOf valuesOf answerOf readAsked
+  kept-one state = go (readQuestion m f) refl
     where
-      go : (x : Read Question) → readAsked m f state ≡ x → Promise m f state budget b v (bytesOf x b v) (valuesOf x budget b v) (answerOf x state budget b v)
-      go (good q) e = let stands = asked-state m f state q e in kept-state m f budget b v q (asks m f q mb fb (stands .0)) state (stands .1)
-      go (bad r) e = (refl, refl)
+      refused : (r : Refusal) → readAsked m f state b v ≡ bad r → let x = readAsked m f state b v in
+          Promise m f state budget b v (bytesOf x b) (valuesOf x budget v) (answerOf x state budget)
+      refused r h = rw h (refused-one m f budget b v r b v (refl, refl) state)
+
+      go : (x : Read Question) → readQuestion m f ≡ x → let y = readAsked m f state b v in Promise m f state budget b v (bytesOf y b) (valuesOf y budget v) (answerOf y state budget)
+      go (good q) e = elim (decLt state (q .model .states)) [
+        | yes l ↦ rw (asked-is m f b v q state e l, answer-decided q b v state budget) (kept-state m f budget b v q (asks m f q mb fb e) state l)
+        | no l ↦ refused Name (rw e (simp reading (rw (le-ltb state (q .model .states) (omega arith)) (simp reading))))
+      ]
+      go (bad r) e = refused r (rw e (simp reading))

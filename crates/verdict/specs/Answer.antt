@@ -1,32 +1,32 @@
 -- What the whole question answers, and what it leaves in the two rooms.
-use Prim.Native.Nat.{ℕ, min}
+use Prim.Native.Nat.{ℕ, _+_, min}
 use mathlib.Core.List.{List, _++_}
 use mathlib.Core.Bool.{Bool, true, false, cond}
 use lib.ListN.{length, drop}
-use lib.Dec.{leb}
-use Rattle.refusal.specs.Number.{ok, numberOf}
-use Rattle.refusal.specs.declared.Refusal.the-variants.{Budget, Room, Size}
+use lib.Dec.{leb, ltb}
+use Rattle.refusal.specs.Number.{ok, overBudget, numberOf}
+use Rattle.refusal.specs.declared.Refusal.the-variants.{Name, Room, Size}
 use Rattle.value.specs.Value.{atMost}
-use Rattle.wire.specs.Read.{Read, good, bad}
+use Rattle.wire.specs.Read.{Read, good, bad, _>>=_, _>>_, demand}
 use Rattle.rules.specs.Rounds.{rounds}
 use Rattle.rules.specs.Count.{count}
 use Rattle.graph.specs.Write.{writeGraph}
 use Rattle.rounds.specs.Outcome.{filled}
 use Rattle.build.specs.declared.Built.{Built}
 use Rattle.build.specs.declared.Built.the-variants as Built
-use Rattle.build.specs.Built.{fits, roomy, roomOf}
+use Rattle.build.specs.Built.{fits}
 use Rattle.verdict.specs.declared.Verdict.{Verdict}
 use Rattle.verdict.specs.declared.Verdict.the-variants as Verdict
 use Rattle.verdict.specs.declared.Answer.{Answer}
 use Rattle.verdict.specs.declared.Answer.the-variants as Answer
-use Rattle.verdict.specs.declared.Settled.{Settled}
-use Rattle.verdict.specs.declared.Settled.the-variants as Settled
-use Rattle.verdict.specs.Question.{Question, graphFor, rootNode}
+use Rattle.verdict.specs.declared.AllStates.{AllStates}
+use Rattle.verdict.specs.declared.AllStates.the-variants as AllStates
+use Rattle.verdict.specs.Question.{Question, readQuestion, graphFor, ruledFor, rootNode}
 
 -- the paper's number, verdict, count and returned length of an answer: every refusal has verdict none, and any but BUDGET count 0 and length 0
 abbrev pub answerNumber : Answer → ℕ
 answerNumber (Answer.Decided v m n) = ok
-answerNumber (Answer.Spent m n) = numberOf Budget
+answerNumber (Answer.Spent m n) = overBudget
 answerNumber (Answer.Refused e) = numberOf e
 
 abbrev pub answerVerdict : Answer → Verdict
@@ -45,79 +45,78 @@ answerLength (Answer.Spent m n) = n
 answerLength (Answer.Refused e) = 0
 
 -- and of all states at once
-abbrev pub settledNumber : Settled → ℕ
-settledNumber (Settled.Done m n first states) = ok
-settledNumber (Settled.Spent m n) = numberOf Budget
-settledNumber (Settled.Refused e) = numberOf e
+abbrev pub allNumber : AllStates → ℕ
+allNumber (AllStates.Settled m n first states) = ok
+allNumber (AllStates.Spent m n) = overBudget
+allNumber (AllStates.Refused e) = numberOf e
 
-abbrev pub settledCount : Settled → ℕ
-settledCount (Settled.Done m n first states) = m
-settledCount (Settled.Spent m n) = m
-settledCount (Settled.Refused e) = 0
+abbrev pub allCount : AllStates → ℕ
+allCount (AllStates.Settled m n first states) = m
+allCount (AllStates.Spent m n) = m
+allCount (AllStates.Refused e) = 0
 
-abbrev pub settledLength : Settled → ℕ
-settledLength (Settled.Done m n first states) = n
-settledLength (Settled.Spent m n) = n
-settledLength (Settled.Refused e) = 0
+abbrev pub allLength : AllStates → ℕ
+allLength (AllStates.Settled m n first states) = n
+allLength (AllStates.Spent m n) = n
+allLength (AllStates.Refused e) = 0
 
--- a question that stands: SIZE, then the two rooms, and only then BUDGET
-unfoldable pub settledFor : Question → (budget : ℕ) → (bytes values : List ℕ) → Settled
-settledFor q budget b v =
-    cond (fits (graphFor q))
-    (cond (roomy (graphFor q) b (length v))
-    (cond (leb (count (graphFor q)) budget)
-    (Settled.Done (count (graphFor q)) (length (writeGraph (graphFor q))) (rootNode q 0) (q .model .states))
-    (Settled.Spent budget (length (writeGraph (graphFor q)))))
-    (Settled.Refused Room))
-    (Settled.Refused Size)
+-- a question that is read: SIZE where its graph would pass a limit, then graph room
+unfoldable pub sized : Question → (bytes : List ℕ) → Read Question
+sized question bytes = do
+  demand (fits (graphFor question)) Size
+  demand (leb (length (writeGraph (graphFor question))) (length bytes)) Room
+  good question
 
--- after a verdict or BUDGET the graph stands at the front of its room, and the values are round m and round m + 1; the rest stays
-unfoldable pub bytesFor : Question → (bytes values : List ℕ) → List ℕ
-bytesFor q b v = roomOf (graphFor q) b (length v)
+-- then value room, for two rounds
+unfoldable pub roomed : Question → (bytes values : List ℕ) → Read Question
+roomed question bytes values = do
+  sized question bytes
+  demand (leb (ruledFor question .nodes + ruledFor question .nodes) (length values)) Room
+  good question
 
-unfoldable pub valuesFor : Question → (budget : ℕ) → (bytes values : List ℕ) → List ℕ
-valuesFor q budget b v =
-    cond (fits (graphFor q)) (cond (roomy (graphFor q) b (length v)) (filled (graphFor q) (min (count (graphFor q)) budget) v) v) v
+-- what a call asks for before BUDGET: for the graph alone, for all states, and for one state, which must exist
+unfoldable pub readBuilt : (model formula bytes : List ℕ) → Read Question
+readBuilt model formula bytes = readQuestion model formula >>= λ question. sized question bytes
+
+unfoldable pub readSettled : (model formula bytes values : List ℕ) → Read Question
+readSettled model formula bytes values = readQuestion model formula >>= λ question. roomed question bytes values
+
+unfoldable pub readAsked : (model formula : List ℕ) (state : ℕ) (bytes values : List ℕ) → Read Question
+readAsked model formula state bytes values = do
+  question ← readQuestion model formula
+  demand (ltb state (question .model .states)) Name
+  roomed question bytes values
 
 -- the verdict is yes when the root row's node of the state has value 0
 abbrev pub verdictOf : Bool → Verdict
 verdictOf true = Verdict.Yes
 verdictOf false = Verdict.No
 
-unfoldable pub decided : Question → ℕ → Settled → Answer
-decided q state (Settled.Done m n first states) = Answer.Decided (verdictOf (atMost (rounds (graphFor q) m (rootNode q state)) 0)) m n
-decided q state (Settled.Spent m n) = Answer.Spent m n
-decided q state (Settled.Refused e) = Answer.Refused e
+-- and only then BUDGET: exactly when the count of the graph is greater than the budget
+unfoldable pub answerOf : Read Question → (state budget : ℕ) → Answer
+answerOf (good question) state budget =
+    let m = count (ruledFor question) in
+    let n = length (writeGraph (graphFor question)) in
+    cond (leb m budget) (Answer.Decided (verdictOf (atMost (rounds (ruledFor question) m (rootNode question state)) 0)) m n) (Answer.Spent budget n)
+answerOf (bad e) state budget = Answer.Refused e
 
--- of all states at once, and of one
-unfoldable pub settledOf : Read Question → (budget : ℕ) → (bytes values : List ℕ) → Settled
-settledOf (good q) budget b v = settledFor q budget b v
-settledOf (bad e) budget b v = Settled.Refused e
+unfoldable pub allOf : Read Question → (budget : ℕ) → AllStates
+allOf (good question) budget =
+    let m = count (ruledFor question) in
+    let n = length (writeGraph (graphFor question)) in
+    cond (leb m budget) (AllStates.Settled m n (rootNode question 0) (question .model .states)) (AllStates.Spent budget n)
+allOf (bad e) budget = AllStates.Refused e
 
-unfoldable pub answerOf : Read Question → (state budget : ℕ) → (bytes values : List ℕ) → Answer
-answerOf (good q) state budget b v = decided q state (settledFor q budget b v)
-answerOf (bad e) state budget b v = Answer.Refused e
+unfoldable pub builtAlone : Read Question → Built
+builtAlone (good question) = Built.Graph (length (writeGraph (graphFor question)))
+builtAlone (bad e) = Built.Refused e
 
--- any refusal but BUDGET leaves all lent memory as it came
-unfoldable pub bytesOf : Read Question → (bytes values : List ℕ) → List ℕ
-bytesOf (good q) b v = bytesFor q b v
-bytesOf (bad e) b v = b
+-- after a verdict or BUDGET the graph stands at the front of its room, the rest untouched; a refusal leaves the room as it came
+unfoldable pub bytesOf : Read Question → (bytes : List ℕ) → List ℕ
+bytesOf (good question) bytes = writeGraph (graphFor question) ++ drop (length (writeGraph (graphFor question))) bytes
+bytesOf (bad e) bytes = bytes
 
-unfoldable pub valuesOf : Read Question → (budget : ℕ) → (bytes values : List ℕ) → List ℕ
-valuesOf (good q) budget b v = valuesFor q budget b v
-valuesOf (bad e) budget b v = v
-
--- the graph alone: SIZE, then ROOM where its message is longer than its room
-unfoldable pub graphBuilt : Read Question → (bytes : List ℕ) → Built
-graphBuilt (good q) b =
-    cond (fits (graphFor q))
-    (cond (leb (length (writeGraph (graphFor q))) (length b)) (Built.Graph (length (writeGraph (graphFor q)))) (Built.Refused Room))
-    (Built.Refused Size)
-graphBuilt (bad e) b = Built.Refused e
-
-unfoldable pub graphRoom : Read Question → (bytes : List ℕ) → List ℕ
-graphRoom (good q) b =
-    cond (fits (graphFor q))
-    (cond (leb (length (writeGraph (graphFor q))) (length b)) (writeGraph (graphFor q) ++ drop (length (writeGraph (graphFor q))) b) b)
-    b
-graphRoom (bad e) b = b
+-- and the values are round m and round m + 1, with m the smaller of count and budget
+unfoldable pub valuesOf : Read Question → (budget : ℕ) → (values : List ℕ) → List ℕ
+valuesOf (good question) budget values = filled (ruledFor question) (min (count (ruledFor question)) budget) values
+valuesOf (bad e) budget values = values

@@ -1,152 +1,146 @@
--- What the customer is promised of a verdict, in the words of the demands.
-use Prim.Native.Nat.{ℕ, _+_, _-_, _*_, _≤_, _<_}
+-- What the customer is promised of a verdict, in the words of the demands. A name with a stroke is a room after the call; `reported` is
+-- the count and `returned` the length that are given back.
+use Prim.Native.Nat.{ℕ, _+_, _≤_, _<_}
 use mathlib.Core.List.{List, _++_}
-use mathlib.Core.Bool.{true}
 use mathlib.Core.Path.{_≡_}
 use mathlib.Core.Logic.{_↔_}
 use lib.ListN.{length, getD, take, drop}
-use Rattle.value.specs.Value.{finite, _≼_}
+use Rattle.refusal.specs.Number.{ok, overBudget}
 use Rattle.wire.specs.Read.{good}
-use Rattle.rules.specs.Graph.{heaviest}
-use Rattle.rules.specs.Rounds.{Largest}
-use Rattle.rules.specs.Count.{count, enough, First}
 use Rattle.graph.specs.Message.{readGraph}
 use Rattle.graph.specs.Write.{writeGraph}
 use Rattle.rounds.specs.Outcome.{filled}
-use Rattle.rounds.specs.Room.{held}
-use Rattle.rounds.specs.Promise.{Halves}
+use Rattle.rounds.specs.Promise.{SettledAt, SpentAt}
 use Rattle.model.specs.Write.{writeModel}
-use Rattle.model.specs.WellFormed as model
+use Rattle.model.specs.WellFormed as models
 use Rattle.formula.specs.Formula.{rootOf}
 use Rattle.formula.specs.Write.{writeFormula}
-use Rattle.formula.specs.WellFormed as formula
+use Rattle.formula.specs.WellFormed as formulas
+use Rattle.runs.specs.Systems.{systemOf}
 use Rattle.runs.specs.Sat.{Sat}
+use Rattle.build.specs.Built.{builtNumber, builtLength}
 use Rattle.build.specs.declared.Built.{Built}
-use Rattle.build.specs.declared.Built.the-variants as Built
 use Rattle.verdict.specs.declared.Verdict.{Verdict}
 use Rattle.verdict.specs.declared.Verdict.the-variants as Verdict
 use Rattle.verdict.specs.declared.Answer.{Answer}
-use Rattle.verdict.specs.declared.Answer.the-variants as Answer
-use Rattle.verdict.specs.declared.Settled.{Settled}
-use Rattle.verdict.specs.declared.Settled.the-variants as Settled
-use Rattle.verdict.specs.Question.{Question, graphFor}
+use Rattle.verdict.specs.declared.AllStates.{AllStates}
+use Rattle.verdict.specs.declared.AllStates.the-variants as AllStates
+use Rattle.verdict.specs.Question.{Question, graphFor, ruledFor, rootNode}
+use Rattle.verdict.specs.Answer.{answerNumber, answerVerdict, answerCount, answerLength, allNumber, allCount, allLength}
 
 -- the messages are the writings of a well-formed model and of rows that are well-formed with its p
-pub record Asks (m f : List ℕ) (q : Question) : Type 0 where
-  pub model-written : m ≡ writeModel (q .model)
-  pub model-fits : model.WellFormed (q .model)
-  pub formula-written : f ≡ writeFormula (q .rows)
-  pub formula-fits : formula.WellFormed (q .model .propositions) (q .rows)
+pub record Asks (model formula : List ℕ) (question : Question) : Type 0 where
+  pub model-written : model ≡ writeModel (question .model)
+  pub model-fits : models.WellFormed (question .model)
+  pub formula-written : formula ≡ writeFormula (question .rows)
+  pub formula-fits : formulas.WellFormed (question .model .propositions) (question .rows)
 
 -- the state satisfies the formula by its runs
-abbrev pub Satisfies : Question → ℕ → Type 0
-Satisfies q state = Sat (q .model) (rootOf (q .rows)) state
+abbrev pub Satisfies : Question → (state : ℕ) → Type 0
+Satisfies question state = Sat (systemOf (question .model)) (rootOf (question .rows)) state
 
--- the graph of the question stands in its room, with n the returned length
-pub record Stands (q : Question) (b b′ : List ℕ) (n : ℕ) : Type 0 where
-  -- the length is that of the graph
-  pub long : n ≡ length (writeGraph (graphFor q))
+-- the graph of the question stands in its room
+pub record Stands (question : Question) (bytes bytes′ : List ℕ) (returned : ℕ) : Type 0 where
+  -- the returned length is that of the graph
+  pub long : returned ≡ length (writeGraph (graphFor question))
   -- it stands at the front, the rest untouched
-  pub front : b′ ≡ writeGraph (graphFor q) ++ drop n b
+  pub front : bytes′ ≡ writeGraph (graphFor question) ++ drop returned bytes
   -- these bytes are accepted as a graph, and are read as this one
-  pub reads : readGraph (take n b′) ≡ good (graphFor q)
+  pub reads : readGraph (take returned bytes′) ≡ good (graphFor question)
 
--- what a verdict or a spent budget leaves in the two rooms after m rounds, with n the returned length
-pub record Leaves (q : Question) (m : ℕ) (b v b′ v′ : List ℕ) (n : ℕ) : Type 0 where
+-- what a verdict or a spent budget leaves in the two rooms
+pub record Leaves (question : Question) (bytes values bytes′ values′ : List ℕ) (reported returned : ℕ) : Type 0 where
   -- the graph stands at the front of its room
-  pub graph : Stands q b b′ n
-  -- the values are round m and round m + 1, the rest as it came
-  pub values : v′ ≡ filled (graphFor q) m v
-  pub halves : Halves (graphFor q) m v′
-  -- no finite value of the two is above the heaviest weight times one less than the nodes
-  pub small : (x : ℕ) → x < graphFor q .nodes + graphFor q .nodes → finite (held v′ x) ≡ true
-      → held v′ x ≼ ((graphFor q .nodes - 1) * heaviest (graphFor q .hypers))
+  pub graph : Stands question bytes bytes′ returned
+  -- the values are the reported round and the next, the rest as it came
+  pub two-rounds : values′ ≡ filled (ruledFor question) reported values
 
--- the graph of the question settled after k rounds
-pub record Settles (q : Question) (budget k : ℕ) (v′ : List ℕ) : Type 0 where
-  -- the count is the first round that the next leaves unchanged
-  pub first : First (graphFor q) k
-  -- the budget allows it
-  pub within : k ≤ budget
-  -- it is at most n (c + 1)
-  pub soon : k ≤ enough (graphFor q)
-  -- the settled values are the largest assignment that obeys the rules
-  pub largest : Largest (graphFor q) (held v′)
-
--- the verdict w on a state after k rounds, with n the returned length: yes exactly when the state satisfies the formula by its runs, else no
-pub record Decides (m f : List ℕ) (state budget : ℕ) (b v b′ v′ : List ℕ) (w : Verdict) (k n : ℕ) : Type 0 where
+-- a verdict: yes exactly when the state satisfies the formula by its runs, else no
+pub record Decides (model formula : List ℕ) (state budget : ℕ) (bytes values bytes′ values′ : List ℕ) (verdict : Verdict) (reported returned : ℕ) : Type 0 where
   -- the model and the formula
   pub question : Question
   -- the messages are their writings
-  pub asked : Asks m f question
+  pub asked : Asks model formula question
   -- the state exists
   pub named : state < question .model .states
   -- yes exactly when it satisfies the formula
-  pub yes : (w ≡ Verdict.Yes) ↔ Satisfies question state
+  pub yes : (verdict ≡ Verdict.Yes) ↔ Satisfies question state
   -- no exactly when it does not
-  pub otherwise : (w ≡ Verdict.No) ↔ (¬ Satisfies question state)
-  -- the count is the first unchanged round, and the values are settled
-  pub settles : Settles question budget k v′
+  pub otherwise : (verdict ≡ Verdict.No) ↔ (¬ Satisfies question state)
+  -- the count is the first unchanged round, and the values are settled, as for rounds on the graph
+  pub settled : SettledAt (ruledFor question) budget values′ reported
   -- the graph and the last two rounds stand in the rooms
-  pub leaves : Leaves question k b v b′ v′ n
+  pub leaves : Leaves question bytes values bytes′ values′ reported returned
 
--- all states' answers stand in one settled room, one after another from `first` on
-pub record DecidesAll (m f : List ℕ) (budget : ℕ) (b v b′ v′ : List ℕ) (k n first states : ℕ) : Type 0 where
+-- all states' answers stand in one settled room, one after another from the root row's node of state 0 on
+pub record DecidesAll (model formula : List ℕ) (budget : ℕ) (bytes values bytes′ values′ : List ℕ) (answer : AllStates) : Type 0 where
   -- the model and the formula
   pub question : Question
   -- the messages are their writings
-  pub asked : Asks m f question
-  -- these are all states
-  pub all : states ≡ question .model .states
+  pub asked : Asks model formula question
+  -- the answer says where, and how many states there are
+  pub says : answer ≡ AllStates.Settled (allCount answer) (allLength answer) (rootNode question 0) (question .model .states)
   -- each has a number in the room
-  pub inside : first + states ≤ length v′
+  pub inside : rootNode question 0 + question .model .states ≤ length values′
   -- it is 0 exactly for a state that satisfies the formula
-  pub yes : (state : ℕ) → state < states → (getD v′ (first + state) 0 ≡ 0) ↔ Satisfies question state
-  -- the count is the first unchanged round, and the values are settled
-  pub settles : Settles question budget k v′
+  pub yes : (state : ℕ) → state < question .model .states → (getD values′ (rootNode question 0 + state) 0 ≡ 0) ↔ Satisfies question state
+  -- the count is the first unchanged round, and the values are settled, as for rounds on the graph
+  pub settled : SettledAt (ruledFor question) budget values′ (allCount answer)
   -- the graph and the last two rounds stand in the rooms
-  pub leaves : Leaves question k b v b′ v′ n
+  pub leaves : Leaves question bytes values bytes′ values′ (allCount answer) (allLength answer)
 
--- the budget is spent, and the first unchanged round comes later
-pub record Spends (m f : List ℕ) (budget : ℕ) (b v b′ v′ : List ℕ) (k n : ℕ) : Type 0 where
+-- the budget is spent
+pub record Spends (model formula : List ℕ) (budget : ℕ) (bytes values bytes′ values′ : List ℕ) (reported returned : ℕ) : Type 0 where
   -- the model and the formula
   pub question : Question
   -- the messages are their writings
-  pub asked : Asks m f question
-  -- the budget is the reported count
-  pub spent : k ≡ budget
-  -- the count of the graph, its first unchanged round (`count-first`), is above it
-  pub later : budget < count (graphFor question)
+  pub asked : Asks model formula question
+  -- the budget is the reported count, and the first unchanged round comes later, as for rounds on the graph
+  pub spent : SpentAt (ruledFor question) budget values′ reported
   -- the graph and the last two rounds stand in the rooms
-  pub leaves : Leaves question budget b v b′ v′ n
+  pub leaves : Leaves question bytes values bytes′ values′ reported returned
 
 -- the budget is spent on a question about a state
-pub record SpendsOn (m f : List ℕ) (state budget : ℕ) (b v b′ v′ : List ℕ) (k n : ℕ) : Type 0 where
+pub record SpendsOn (model formula : List ℕ) (state budget : ℕ) (bytes values bytes′ values′ : List ℕ) (verdict : Verdict) (reported returned : ℕ) : Type 0 where
+  -- there is no verdict
+  pub none : verdict ≡ Verdict.None
   -- the budget is spent, as for all states
-  pub spends : Spends m f budget b v b′ v′ k n
+  pub spends : Spends model formula budget bytes values bytes′ values′ reported returned
   -- the state exists
   pub named : state < spends .question .model .states
 
+-- a refusal has count 0 and returned length 0, and leaves both rooms as they came
+pub record Refuses (bytes values bytes′ values′ : List ℕ) (reported returned : ℕ) : Type 0 where
+  pub no-count : reported ≡ 0
+  pub no-length : returned ≡ 0
+  pub bytes-stay : bytes′ ≡ bytes
+  pub values-stay : values′ ≡ values
+
 -- the graph alone was built
-pub record Builds (m f : List ℕ) (b b′ : List ℕ) (n : ℕ) : Type 0 where
+pub record Builds (model formula bytes bytes′ : List ℕ) (returned : ℕ) : Type 0 where
   -- the model and the formula
   pub question : Question
   -- the messages are their writings
-  pub asked : Asks m f question
+  pub asked : Asks model formula question
   -- the graph stands at the front of its room
-  pub graph : Stands question b b′ n
+  pub graph : Stands question bytes bytes′ returned
 
--- a refusal but BUDGET leaves both rooms as they came
-abbrev pub Promise : (m f : List ℕ) (state budget : ℕ) (bytes values bytes′ values′ : List ℕ) → Answer → Type 0
-Promise m f state budget b v b′ v′ (Answer.Decided w k n) = Decides m f state budget b v b′ v′ w k n
-Promise m f state budget b v b′ v′ (Answer.Spent k n) = SpendsOn m f state budget b v b′ v′ k n
-Promise m f state budget b v b′ v′ (Answer.Refused e) = (b′ ≡ b) × (v′ ≡ v)
+-- by the number, verdict, count and length that the paper gives the answer: OK, BUDGET, or a refusal, which has verdict none
+pub record Promise (model formula : List ℕ) (state budget : ℕ) (bytes values bytes′ values′ : List ℕ) (answer : Answer) : Type 0 where
+  pub decides : answerNumber answer ≡ ok
+      → Decides model formula state budget bytes values bytes′ values′ (answerVerdict answer) (answerCount answer) (answerLength answer)
+  pub spends : answerNumber answer ≡ overBudget
+      → SpendsOn model formula state budget bytes values bytes′ values′ (answerVerdict answer) (answerCount answer) (answerLength answer)
+  pub refuses : overBudget < answerNumber answer
+      → (answerVerdict answer ≡ Verdict.None) × Refuses bytes values bytes′ values′ (answerCount answer) (answerLength answer)
 
-abbrev pub PromiseAll : (m f : List ℕ) (budget : ℕ) (bytes values bytes′ values′ : List ℕ) → Settled → Type 0
-PromiseAll m f budget b v b′ v′ (Settled.Done k n first states) = DecidesAll m f budget b v b′ v′ k n first states
-PromiseAll m f budget b v b′ v′ (Settled.Spent k n) = Spends m f budget b v b′ v′ k n
-PromiseAll m f budget b v b′ v′ (Settled.Refused e) = (b′ ≡ b) × (v′ ≡ v)
+-- of all states at once
+pub record PromiseAll (model formula : List ℕ) (budget : ℕ) (bytes values bytes′ values′ : List ℕ) (answer : AllStates) : Type 0 where
+  pub decides : allNumber answer ≡ ok → DecidesAll model formula budget bytes values bytes′ values′ answer
+  pub spends : allNumber answer ≡ overBudget → Spends model formula budget bytes values bytes′ values′ (allCount answer) (allLength answer)
+  pub refuses : overBudget < allNumber answer → Refuses bytes values bytes′ values′ (allCount answer) (allLength answer)
 
-abbrev pub PromiseGraph : (m f : List ℕ) (bytes bytes′ : List ℕ) → Built → Type 0
-PromiseGraph m f b b′ (Built.Graph n) = Builds m f b b′ n
-PromiseGraph m f b b′ (Built.Refused e) = b′ ≡ b
+-- of the graph alone
+pub record PromiseGraph (model formula bytes bytes′ : List ℕ) (answer : Built) : Type 0 where
+  pub builds : builtNumber answer ≡ ok → Builds model formula bytes bytes′ (builtLength answer)
+  pub refuses : ok < builtNumber answer → (builtLength answer ≡ 0) × (bytes′ ≡ bytes)

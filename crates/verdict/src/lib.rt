@@ -1,10 +1,9 @@
 // The whole question: a model, a formula, a state and a budget; yes, no, or a refusal.
 ghost use mathlib.Core.Path.{_≡_};
 ghost use Rattle.build.specs.Held.{HoldsModel, HoldsRows};
-ghost use Rattle.verdict.specs.Answer.{answerNumber, answerVerdict, answerCount, answerLength, settledNumber, settledCount, settledLength, settledFor, bytesFor, valuesFor, settledOf, answerOf, bytesOf, valuesOf, graphBuilt, graphRoom};
+ghost use Rattle.verdict.specs.Answer.{answerNumber, answerVerdict, answerCount, answerLength, allNumber, allCount, allLength, roomed, readBuilt, readSettled, readAsked, answerOf, allOf, builtAlone, bytesOf, valuesOf};
 ghost use Rattle.verdict.specs.Asking.{Asking, heldQuestion};
 ghost use Rattle.verdict.specs.Promise.{Promise, PromiseAll, PromiseGraph};
-ghost use Rattle.verdict.specs.Question.{readQuestion, readAsked};
 use build::Built;
 use refusal::Refusal;
 use rounds::Outcome;
@@ -26,8 +25,8 @@ pub enum Answer {
 
 // All states at once: settled, with the count of rounds, the length of the graph, the node of state 0, and how many states;
 // the budget spent; or refused.
-pub enum Settled {
-    Done(u32, usize, u32, u32),
+pub enum AllStates {
+    Settled(u32, usize, u32, u32),
     Spent(u32, usize),
     Refused(Refusal),
 }
@@ -38,37 +37,37 @@ pub enum Asked {
     Refused(Refusal),
 }
 
-impl Settled {
+impl AllStates {
     // The number that the paper gives the answer.
     pub fn number(self) -> u8
-        ensures { λ r. ⌜ r ≡ settledNumber self ⌝ }
+        ensures { λ r. ⌜ r ≡ allNumber self ⌝ }
     {
         match self {
-            Settled::Done(_, _, _, _) => 0,
-            Settled::Spent(_, _) => 1,
-            Settled::Refused(e) => e.number(),
+            AllStates::Settled(_, _, _, _) => 0,
+            AllStates::Spent(_, _) => 1,
+            AllStates::Refused(e) => e.number(),
         }
     }
 
     // The reported count of rounds.
     pub fn count(self) -> u32
-        ensures { λ r. ⌜ r ≡ settledCount self ⌝ }
+        ensures { λ r. ⌜ r ≡ allCount self ⌝ }
     {
         match self {
-            Settled::Done(m, _, _, _) => m,
-            Settled::Spent(m, _) => m,
-            Settled::Refused(_) => 0,
+            AllStates::Settled(m, _, _, _) => m,
+            AllStates::Spent(m, _) => m,
+            AllStates::Refused(_) => 0,
         }
     }
 
     // The returned length of the graph.
     pub fn length(self) -> usize
-        ensures { λ r. ⌜ r ≡ settledLength self ⌝ }
+        ensures { λ r. ⌜ r ≡ allLength self ⌝ }
     {
         match self {
-            Settled::Done(_, n, _, _) => n,
-            Settled::Spent(_, n) => n,
-            Settled::Refused(_) => 0,
+            AllStates::Settled(_, n, _, _) => n,
+            AllStates::Spent(_, n) => n,
+            AllStates::Refused(_) => 0,
         }
     }
 }
@@ -135,8 +134,8 @@ fn question(m: &[u8], f: &[u8]) -> Asked
 // The graph of a question alone: model, formula with the model's p, SIZE, then ROOM. No graph has more than 4,096 nodes, so 8,192 values
 // are always enough for two rounds.
 pub fn graph(m: &[u8], f: &[u8], room: &mut [u8]) -> Built
-    ensures { λ r. ⌜ r ≡ graphBuilt (readQuestion (now (m .entry)) (now (f .entry))) (now (room .entry)) ⌝ }
-    ensures { λ _. ⌜ now (room .exit) ≡ graphRoom (readQuestion (now (m .entry)) (now (f .entry))) (now (room .entry)) ⌝ }
+    ensures { λ r. ⌜ r ≡ builtAlone (readBuilt (now (m .entry)) (now (f .entry)) (now (room .entry))) ⌝ }
+    ensures { λ _. ⌜ now (room .exit) ≡ bytesOf (readBuilt (now (m .entry)) (now (f .entry)) (now (room .entry))) (now (room .entry)) ⌝ }
     ensures { λ r. ⌜ PromiseGraph (now (m .entry)) (now (f .entry)) (now (room .entry)) (now (room .exit)) r ⌝ }
 {
     match question(m, f) {
@@ -157,40 +156,39 @@ fn settle_question(
     budget: u32,
     bytes: &mut [u8],
     values: &mut [u64],
-) -> Settled
+) -> AllStates
     requires { ⌜ HoldsModel (now m) n p t ⌝ }
     requires { ⌜ HoldsRows (now f) k p ⌝ }
-    ensures { λ r. ⌜ r ≡ settledFor (heldQuestion (now (m .entry)) n p t (now (f .entry)) k) budget (now (bytes .entry)) (now (values .entry)) ⌝ }
-    ensures { λ _. ⌜ now (bytes .exit) ≡ bytesFor (heldQuestion (now (m .entry)) n p t (now (f .entry)) k) (now (bytes .entry)) (now (values .entry)) ⌝ }
-    ensures { λ _. ⌜ now (values .exit) ≡ valuesFor (heldQuestion (now (m .entry)) n p t (now (f .entry)) k) budget (now (bytes .entry))
-        (now (values .entry)) ⌝ }
+    ensures { λ r. ⌜ r ≡ allOf (roomed (heldQuestion (now (m .entry)) n p t (now (f .entry)) k) (now (bytes .entry)) (now (values .entry))) budget ⌝ }
+    ensures { λ _. ⌜ now (bytes .exit) ≡ bytesOf (roomed (heldQuestion (now (m .entry)) n p t (now (f .entry)) k) (now (bytes .entry)) (now (values .entry))) (now (bytes .entry)) ⌝ }
+    ensures { λ _. ⌜ now (values .exit) ≡ valuesOf (roomed (heldQuestion (now (m .entry)) n p t (now (f .entry)) k) (now (bytes .entry)) (now (values .entry))) budget (now (values .entry)) ⌝ }
 {
     let room = values.len();
     let long = match build::build(m, n, p, t, f, k, room, bytes) {
         Built::Graph(long) => long,
-        Built::Refused(e) => return Settled::Refused(e),
+        Built::Refused(e) => return AllStates::Refused(e),
     };
     let first = n * (k - 1);
     let message = &bytes[..long];
-    let nodes = wire::number_at(message, 6, Width::Two) as usize;
-    let hypers = wire::number_at(message, 8, Width::Four);
-    let covers = wire::number_at(message, 12, Width::Two);
+    let nodes = wire::number_at(message, graph::NODES_AT, Width::Two) as usize;
+    let hypers = wire::number_at(message, graph::HYPERS_AT, Width::Four);
+    let covers = wire::number_at(message, graph::COVERS_AT, Width::Two);
     match rounds::run(message, nodes, hypers, covers, budget, values) {
-        Outcome::Settled(count) => Settled::Done(count, long, first, n),
-        Outcome::Spent(count) => Settled::Spent(count, long),
-        Outcome::Refused(e) => Settled::Refused(e),
+        Outcome::Settled(count) => AllStates::Settled(count, long, first, n),
+        Outcome::Spent(count) => AllStates::Spent(count, long),
+        Outcome::Refused(e) => AllStates::Refused(e),
     }
 }
 
 // All states' answers from one settled room: the number of state a's node is 0 exactly when a satisfies the formula.
-pub fn settle(m: &[u8], f: &[u8], budget: u32, bytes: &mut [u8], values: &mut [u64]) -> Settled
-    ensures { λ r. ⌜ r ≡ settledOf (readQuestion (now (m .entry)) (now (f .entry))) budget (now (bytes .entry)) (now (values .entry)) ⌝ }
-    ensures { λ _. ⌜ now (bytes .exit) ≡ bytesOf (readQuestion (now (m .entry)) (now (f .entry))) (now (bytes .entry)) (now (values .entry)) ⌝ }
-    ensures { λ _. ⌜ now (values .exit) ≡ valuesOf (readQuestion (now (m .entry)) (now (f .entry))) budget (now (bytes .entry)) (now (values .entry)) ⌝ }
+pub fn settle(m: &[u8], f: &[u8], budget: u32, bytes: &mut [u8], values: &mut [u64]) -> AllStates
+    ensures { λ r. ⌜ r ≡ allOf (readSettled (now (m .entry)) (now (f .entry)) (now (bytes .entry)) (now (values .entry))) budget ⌝ }
+    ensures { λ _. ⌜ now (bytes .exit) ≡ bytesOf (readSettled (now (m .entry)) (now (f .entry)) (now (bytes .entry)) (now (values .entry))) (now (bytes .entry)) ⌝ }
+    ensures { λ _. ⌜ now (values .exit) ≡ valuesOf (readSettled (now (m .entry)) (now (f .entry)) (now (bytes .entry)) (now (values .entry))) budget (now (values .entry)) ⌝ }
     ensures { λ r. ⌜ PromiseAll (now (m .entry)) (now (f .entry)) budget (now (bytes .entry)) (now (values .entry)) (now (bytes .exit)) (now (values .exit)) r ⌝ }
 {
     match question(m, f) {
-        Asked::Refused(e) => Settled::Refused(e),
+        Asked::Refused(e) => AllStates::Refused(e),
         Asked::Question(n, p, t, k) => settle_question(m, n, p, t, f, k, budget, bytes, values),
     }
 }
@@ -204,10 +202,9 @@ pub fn decide(
     bytes: &mut [u8],
     values: &mut [u64],
 ) -> Answer
-    ensures { λ r. ⌜ r ≡ answerOf (readAsked (now (m .entry)) (now (f .entry)) state) state budget (now (bytes .entry)) (now (values .entry)) ⌝ }
-    ensures { λ _. ⌜ now (bytes .exit) ≡ bytesOf (readAsked (now (m .entry)) (now (f .entry)) state) (now (bytes .entry)) (now (values .entry)) ⌝ }
-    ensures { λ _. ⌜ now (values .exit) ≡ valuesOf (readAsked (now (m .entry)) (now (f .entry)) state) budget (now (bytes .entry))
-        (now (values .entry)) ⌝ }
+    ensures { λ r. ⌜ r ≡ answerOf (readAsked (now (m .entry)) (now (f .entry)) state (now (bytes .entry)) (now (values .entry))) state budget ⌝ }
+    ensures { λ _. ⌜ now (bytes .exit) ≡ bytesOf (readAsked (now (m .entry)) (now (f .entry)) state (now (bytes .entry)) (now (values .entry))) (now (bytes .entry)) ⌝ }
+    ensures { λ _. ⌜ now (values .exit) ≡ valuesOf (readAsked (now (m .entry)) (now (f .entry)) state (now (bytes .entry)) (now (values .entry))) budget (now (values .entry)) ⌝ }
     ensures { λ r. ⌜ Promise (now (m .entry)) (now (f .entry)) state budget (now (bytes .entry)) (now (values .entry)) (now (bytes .exit))
         (now (values .exit)) r ⌝ }
 {
@@ -218,15 +215,15 @@ pub fn decide(
                 return Answer::Refused(Refusal::Name);
             }
             match settle_question(m, n, p, t, f, k, budget, bytes, values) {
-                Settled::Done(count, long, first, _) => {
+                AllStates::Settled(count, long, first, _) => {
                     let node = (first + state) as usize;
                     if values[node] == 0 {
                         return Answer::Decided(Verdict::Yes, count, long);
                     }
                     Answer::Decided(Verdict::No, count, long)
                 }
-                Settled::Spent(count, long) => Answer::Spent(count, long),
-                Settled::Refused(e) => Answer::Refused(e),
+                AllStates::Spent(count, long) => Answer::Spent(count, long),
+                AllStates::Refused(e) => Answer::Refused(e),
             }
         }
     }

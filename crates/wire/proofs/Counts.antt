@@ -4,44 +4,45 @@ use mathlib.Core.List.{List}
 use mathlib.Core.Path.{_≡_, refl, ap, _∙_}
 use borrow.Author.Tests.{leb-true, le-leb}
 use Rattle.refusal.specs.declared.Refusal.{Refusal}
-use Rattle.wire.specs.Counts.{countAt, countedOf}
-use Rattle.wire.specs.Field.{fieldAt}
+use Rattle.wire.specs.Counts.{readCount, countedOf}
+use Rattle.wire.specs.Field.{widthOf, fieldAt}
 use Rattle.wire.specs.Read.{Read, good, bad, field}
-use Rattle.wire.specs.declared.Counted.the-variants.{Count, Refused}
+use Rattle.wire.specs.declared.Count.{Count}
+use Rattle.wire.specs.declared.Counted.the-variants as Counted
 use Rattle.wire.specs.declared.Field.the-variants.{Number}
 use Rattle.wire.proofs.Reading.{bind-good, demand-good, field-good, good-same}
 use Rattle.wire.proofs.Exact.{good-bind, good-demand}
 
-pub counted-good : (x : Read ℕ) {n : ℕ} → countedOf x ≡ Count n → x ≡ good n
+pub counted-good : (x : Read ℕ) {n : ℕ} → countedOf x ≡ Counted.Count n → x ≡ good n
 unfolding countedOf
 counted-good (good m) e = cc
 counted-good (bad f) e = cc
 
-pub counted-refused : (x : Read ℕ) {f : Refusal} → countedOf x ≡ Refused f → x ≡ bad f
+pub counted-refused : (x : Read ℕ) {f : Refusal} → countedOf x ≡ Counted.Refused f → x ≡ bad f
 unfolding countedOf
 counted-refused (good m) e = cc
 counted-refused (bad g) e = cc
 
 -- what a good count says
-pub record CountAt (k : ℕ) (s : List ℕ) (at least most n : ℕ) : Type 0 where
-  pub there : fieldAt k s at ≡ Number n
-  pub no-less : least ≤ n
-  pub no-more : n ≤ most
+pub record CountAt (s : List ℕ) (count : Count) (n : ℕ) : Type 0 where
+  pub there : fieldAt (widthOf (count .width)) s (count .at) ≡ Number n
+  pub no-less : count .least ≤ n
+  pub no-more : n ≤ count .most
 
-module _ (k : ℕ) (s : List ℕ) (at least most : ℕ) {n : ℕ} where
-  pub count-good : countAt k s at least most ≡ good n → CountAt k s at least most n
-  unfolding countAt
+module _ (s : List ℕ) (count : Count) {n : ℕ} where
+  pub count-good : readCount s count ≡ good n → CountAt s count n
+  unfolding readCount
   count-good e =
       let n = bind-good _ _ e in
       let low = demand-good _ _ _ (n .rest) in
       let high = demand-good _ _ _ (low .1) in
       let same = good-same (high .1) in
       record {
-        there = field-good k s at (n .first) ∙ ap Number same;
+        there = field-good (widthOf (count .width)) s (count .at) (n .first) ∙ ap Number same;
         no-less = rw (← same) (leb-true _ _ (low .0));
         no-more = rw (← same) (leb-true _ _ (high .0));
       }
 
-  pub good-count : field k s at ≡ good n → least ≤ n → n ≤ most → countAt k s at least most ≡ good n
-  unfolding countAt
+  pub good-count : field (widthOf (count .width)) s (count .at) ≡ good n → count .least ≤ n → n ≤ count .most → readCount s count ≡ good n
+  unfolding readCount
   good-count e low high = good-bind _ e (good-demand _ (le-leb _ _ low) (good-demand _ (le-leb _ _ high) refl))

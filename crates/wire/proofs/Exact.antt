@@ -13,8 +13,9 @@ use Rattle.refusal.specs.declared.Refusal.{Refusal}
 use Rattle.wire.specs.Bytes.{bytes, Bytes}
 use Rattle.wire.specs.Read.{Read, good, _>>=_, _>>_, demand, field}
 use Rattle.wire.specs.Reader.{Reader, readAll, past}
-use Rattle.wire.specs.Start.{readStart}
-use Rattle.wire.specs.Write.{writeAll, message}
+use Rattle.wire.specs.Start.{readStart, versionAt, kindAt, startWidth}
+use Rattle.wire.specs.declared.Head.{Head}
+use Rattle.wire.specs.Write.{writeAll, writeStart, message}
 use Rattle.wire.proofs.Bytes.{length-bytes}
 use Rattle.wire.proofs.Reading.{bind-good, demand-good, good-same, good-then, good-and, met, never}
 use Rattle.wire.proofs.Readers.{all-length}
@@ -122,43 +123,32 @@ unfolding demand
 demand-met true e h = refl
 demand-met false e h = absurd (never h)
 
-pub message-length : (v k : ℕ) (rest : List ℕ) → length (message v k rest) ≡ 6 + length rest
+pub message-length : (head : Head) (rest : List ℕ) → length (message head rest) ≡ startWidth + length rest
 unfolding message
-message-length v k rest = simp (length-append, length-bytes) (omega arith)
+message-length head rest = simp (length-append, length-bytes) (omega arith)
 
--- the start, as fields
-abbrev startOf : (total v k : ℕ) → List ℕ
-startOf total v k = bytes 4 total ++ bytes 1 v ++ bytes 1 k
-
-start-length : (total v k : ℕ) → length (startOf total v k) ≡ 6
-start-length total v k = simp (length-append, length-bytes)
-
-message-fields : (v k : ℕ) (rest : List ℕ) → v < 256 → k < 256 → message v k rest ≡ startOf (6 + length rest) v k ++ rest
-unfolding message bytes
-message-fields v k rest v-byte k-byte =
-    let v-is : v % 256 ≡ v = omega arith in
-    let k-is : k % 256 ≡ k = omega arith in
-    rw (v-is, k-is) (simp append-assoc)
+start-length : (head : Head) (long : ℕ) → length (writeStart head long) ≡ startWidth
+start-length head long = simp (length-append, length-bytes)
 
 -- behind the start stands the rest
-pub message-rest : (v k : ℕ) (rest : List ℕ) → Stands (message v k rest) 6 rest
+pub message-rest : (head : Head) (rest : List ℕ) → Stands (message head rest) startWidth rest
 unfolding message
-message-rest v k rest =
-    let start : List ℕ = bytes 4 (6 + length rest) ++ v ∷ k ∷ [] in
-    let parts : message v k rest ≡ start ++ rest = simp append-assoc in
-    let whole : Stands (message v k rest) 0 (start ++ rest) = rw parts (stands-self (start ++ rest)) in
-    stands-second start rest (simp (length-append, length-bytes)) whole
+message-rest head rest =
+    let start = writeStart head (startWidth + length rest) in
+    stands-second start rest (simp (length-append, length-bytes)) (stands-self (start ++ rest))
 
 -- what a good start says of a message
-pub record Started (s : List ℕ) (header v k : ℕ) : Type 0 where
-  pub whole : s ≡ message v k (drop 6 s)
-  pub header-fits : header ≤ length s
-  pub start-fits : 6 ≤ length s
+pub record Started (s : List ℕ) (head : Head) : Type 0 where
+  pub whole : s ≡ message head (drop startWidth s)
+  pub header-fits : head .length ≤ length s
+  pub start-fits : startWidth ≤ length s
   pub length-fits : length s < 2 ^ 32
 
-pub start-reads : {s : List ℕ} (header v k : ℕ) → Bytes s → readStart s header v k ≡ good tt → Started s header v k
-unfolding readStart
-start-reads {s} header v k b e =
+pub start-reads : {s : List ℕ} (head : Head) → Bytes s → readStart s head ≡ good tt → Started s head
+unfolding readStart message
+start-reads {s} head b e =
+    let v = head .version in
+    let k = head .kind in
     let long = demand-good _ _ _ e in
     let total = bind-good _ _ (long .1) in
     let is-total = demand-good _ _ _ (total .rest) in
@@ -168,31 +158,34 @@ start-reads {s} header v k b e =
     let total-there = rw (eqb-true (total .value) (length s) (is-total .0)) at (field-stands 4 b (total .first)) in
     let version-there = rw (eqb-true (version .value) v (is-version .0)) at (field-stands 1 b (version .first)) in
     let kind-there = rw (eqb-true (kind .value) k (demand-met _ _ (kind .rest))) at (field-stands 1 b (kind .first)) in
-    let stands : Stands s 0 (startOf (length s) v k) =
+    let stands : Stands s 0 (writeStart head (length s)) =
     stands-both (simp (length-append, length-bytes)) (stands-both (simp length-bytes) (total-there .0) (version-there .0)) (kind-there .0) in
-    let inside : 6 ≤ length s = rw start-length at (stands-inside stands (rw start-length (omega arith))) in
-    let parts : s ≡ startOf (length s) v k ++ drop 6 s = rw start-length at (stands-parts (omega arith) stands) in
-    let rest : 6 + length (drop 6 s) ≡ length s = rw length-drop (omega arith) in
+    let inside : startWidth ≤ length s = rw start-length at (stands-inside stands (rw start-length (omega arith))) in
+    let parts : s ≡ writeStart head (length s) ++ drop startWidth s = rw start-length at (stands-parts (omega arith) stands) in
+    let rest : startWidth + length (drop startWidth s) ≡ length s = rw length-drop (omega arith) in
     record {
-      whole = parts ∙ sym (message-fields v k (drop 6 s) (version-there .1) (kind-there .1) ∙ ap (λ (n : ℕ). startOf n v k ++ drop 6 s) rest);
+      whole = parts ∙ sym (ap (λ (n : ℕ). writeStart head n ++ drop startWidth s) rest);
       header-fits = leb-true _ _ (long .0);
       start-fits = inside;
       length-fits = total-there .1;
     }
 
-pub start-written : (rest : List ℕ) (header v k : ℕ) → v < 256 → k < 256 → header ≤ 6 + length rest → 6 + length rest < 2 ^ 32 → readStart (message v k rest) header v k ≡ good tt
-unfolding readStart
-start-written rest header v k v-byte k-byte header-fits length-fits =
-    let n : ℕ = 6 + length rest in
-    let s : List ℕ = message v k rest in
-    let long : length s ≡ n = message-length v k rest in
-    let stands : Stands s 0 (startOf n v k) = stands-first (startOf n v k) rest (rw (message-fields v k rest v-byte k-byte) (stands-self _)) in
+pub start-written : (rest : List ℕ) (head : Head) → head .version < 256 → head .kind < 256 → head .length ≤ startWidth + length rest
+    → startWidth + length rest < 2 ^ 32 → readStart (message head rest) head ≡ good tt
+unfolding readStart message
+start-written rest head v-byte k-byte header-fits length-fits =
+    let v = head .version in
+    let k = head .kind in
+    let n : ℕ = startWidth + length rest in
+    let s : List ℕ = message head rest in
+    let long : length s ≡ n = message-length head rest in
+    let stands : Stands s 0 (writeStart head n) = stands-first (writeStart head n) rest (stands-self _) in
     let front = stands-first (bytes 4 n ++ bytes 1 v) (bytes 1 k) stands in
     let total-there : field 4 s 0 ≡ good n = stands-field 4 (omega arith) (stands-first (bytes 4 n) (bytes 1 v) front) length-fits in
-    let version-there : field 1 s 4 ≡ good v = stands-field 1 (omega arith) (stands-second (bytes 4 n) (bytes 1 v) (simp length-bytes) front) v-byte in
-    let kind-there : field 1 s 5 ≡ good k =
+    let version-there : field 1 s versionAt ≡ good v = stands-field 1 (omega arith) (stands-second (bytes 4 n) (bytes 1 v) (simp length-bytes) front) v-byte in
+    let kind-there : field 1 s kindAt ≡ good k =
     stands-field 1 (omega arith) (stands-second (bytes 4 n ++ bytes 1 v) (bytes 1 k) (simp (length-append, length-bytes)) stands) k-byte in
-    good-demand _ (le-leb header (length s) (omega arith))
+    good-demand _ (le-leb (head .length) (length s) (omega arith))
     (good-bind _ total-there
     (good-demand _ (eq-eqb _ _ (sym long))
     (good-bind _ version-there

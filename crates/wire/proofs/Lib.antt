@@ -2,7 +2,6 @@
 --     Bytes      big-endian numbers, over the width
 --     Fields     what a field that is there, or too short, says of the bytes
 --     Reading    how a reading goes on, and what a good one says
---     Spares     no reading of a message gives BUDGET
 --     Readers    the turns of a loop over records, and what a good reading of them says
 --     Layouts    records by position
 --     Stride     records of one width by position
@@ -15,10 +14,10 @@
 --     Written    records that are written one behind the other
 --     Laid       bytes laid into a room one after another are laid in at once; what a loop has still to lay in
 --     Spans      a loop over numbers that lays in the bytes of each
+--     One        one answer of each public function
 pub mod Bytes
 pub mod Fields
 pub mod Reading
-pub mod Spares
 pub mod Readers
 pub mod Layouts
 pub mod Stride
@@ -31,3 +30,4 @@ pub mod Counts
 pub mod Written
 pub mod Laid
 pub mod Spans
+pub mod One

@@ -4,18 +4,20 @@ use mathlib.Core.List.{List}
 use lib.Dec.{leb}
 use Rattle.refusal.specs.declared.Refusal.the-variants.{Limit}
 use Rattle.wire.specs.Read.{Read, good, bad, _>>=_, _>>_, demand, field}
+use Rattle.wire.specs.Field.{widthOf}
+use Rattle.wire.specs.declared.Count.{Count}
 use Rattle.wire.specs.declared.Counted.{Counted}
-use Rattle.wire.specs.declared.Counted.the-variants.{Count, Refused}
+use Rattle.wire.specs.declared.Counted.the-variants as Counted
 
--- the count of k bytes at a position, from `least` to `most`
-unfoldable pub countAt : (k : ℕ) → List ℕ → (at least most : ℕ) → Read ℕ
-countAt k s at least most = do
-  n ← field k s at
-  demand (leb least n) Limit
-  demand (leb n most) Limit
+-- the number where the count stands, from its least to its most
+unfoldable pub readCount : List ℕ → Count → Read ℕ
+readCount s count = do
+  n ← field (widthOf (count .width)) s (count .at)
+  demand (leb (count .least) n) Limit
+  demand (leb n (count .most)) Limit
   good n
 
 -- what the function that reads a count answers
 unfoldable pub countedOf : Read ℕ → Counted
-countedOf (good n) = Count n
-countedOf (bad e) = Refused e
+countedOf (good n) = Counted.Count n
+countedOf (bad e) = Counted.Refused e

@@ -16,6 +16,10 @@ widthOf One = 1
 widthOf Two = 2
 widthOf Four = 4
 
+-- how many bytes a number of 64 bits has
+abbrev pub longWidth : ℕ
+longWidth = 8
+
 -- the number that the k bytes at the position make, or Short where they run past the end
 unfoldable pub fieldAt : ℕ → List ℕ → ℕ → Field
 fieldAt k s at = cond (leb (at + k) (length s)) (Number (number k s at)) Short

@@ -1,23 +1,34 @@
 -- The start that all messages share: the total length, itself included (4 bytes), the version and the kind (a byte each).
-use Prim.Native.Nat.{ℕ}
+use Prim.Native.Nat.{ℕ, _+_}
 use mathlib.Core.List.{List}
 use lib.ListN.{length}
 use lib.Dec.{leb, eqb}
 use Rattle.refusal.specs.declared.Refusal.the-variants.{Length, Version}
 use Rattle.wire.specs.Read.{Read, good, bad, _>>=_, _>>_, demand, field}
+use Rattle.wire.specs.declared.Head.{Head}
 use Rattle.wire.specs.declared.Opened.{Opened}
 use Rattle.wire.specs.declared.Opened.the-variants.{Open, Refused}
 
+-- where the version and the kind stand, and where a header goes on behind them
+abbrev pub versionAt : ℕ
+versionAt = 4
+
+abbrev pub kindAt : ℕ
+kindAt = versionAt + 1
+
+abbrev pub startWidth : ℕ
+startWidth = kindAt + 1
+
 -- in this order: the bytes of the header, the length field, the version, the kind
-unfoldable pub readStart : List ℕ → (header version kind : ℕ) → Read Unit
-readStart s header version kind = do
-  demand (leb header (length s)) Length
+unfoldable pub readStart : List ℕ → Head → Read Unit
+readStart s head = do
+  demand (leb (head .length) (length s)) Length
   total ← field 4 s 0
   demand (eqb total (length s)) Length
-  v ← field 1 s 4
-  demand (eqb v version) Version
-  k ← field 1 s 5
-  demand (eqb k kind) Version
+  v ← field 1 s versionAt
+  demand (eqb v (head .version)) Version
+  k ← field 1 s kindAt
+  demand (eqb k (head .kind)) Version
 
 -- what the function that reads the start answers
 unfoldable pub openedOf : Read Unit → Opened

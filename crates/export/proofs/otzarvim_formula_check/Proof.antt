@@ -5,7 +5,7 @@ use borrow.Author.Needs.{needs}
 use Rattle.lists.proofs.Tests.{by}
 use Rattle.formula.specs.Answers.{checkedNumber}
 use Rattle.formula.specs.declared.Checked.{Checked}
-use Rattle.export.specs.Counts.{formulaCount}
+use Rattle.export.specs.Results.{formulaCount}
 use Rattle.export.proofs.otzarvim_formula_check.Statement.{statement}
 use Rattle.export.proofs.otzarvim_formula_check.Tie as tie
 

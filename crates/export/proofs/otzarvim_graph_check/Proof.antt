@@ -5,7 +5,7 @@ use borrow.Author.Needs.{needs}
 use Rattle.lists.proofs.Tests.{by}
 use Rattle.graph.specs.Answers.{checkedNumber}
 use Rattle.graph.specs.declared.Checked.{Checked}
-use Rattle.export.specs.Counts.{graphCounts}
+use Rattle.export.specs.Results.{graphCounts}
 use Rattle.export.proofs.otzarvim_graph_check.Statement.{statement}
 use Rattle.export.proofs.otzarvim_graph_check.Tie as tie
 

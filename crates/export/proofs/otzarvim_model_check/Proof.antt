@@ -5,7 +5,7 @@ use borrow.Author.Needs.{needs}
 use Rattle.lists.proofs.Tests.{by}
 use Rattle.model.specs.Answers.{checkedNumber}
 use Rattle.model.specs.declared.Checked.{Checked}
-use Rattle.export.specs.Counts.{modelCounts}
+use Rattle.export.specs.Results.{modelCounts}
 use Rattle.export.proofs.otzarvim_model_check.Statement.{statement}
 use Rattle.export.proofs.otzarvim_model_check.Tie as tie
 

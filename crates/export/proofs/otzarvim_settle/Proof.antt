@@ -3,10 +3,10 @@ use mathlib.Core.Path.{_≡_, sym, ap, subst, _∙_}
 use denote.Ref.{now}
 use borrow.Author.Needs.{needs}
 use Rattle.lists.proofs.Tests.{by}
-use Rattle.verdict.specs.Answer.{settledNumber, settledCount, settledLength}
+use Rattle.verdict.specs.Answer.{allNumber, allCount, allLength}
 use Rattle.verdict.specs.Promise.{PromiseAll}
-use Rattle.verdict.specs.declared.Settled.{Settled}
-use Rattle.export.specs.Verdicts.{settled, settledStates}
+use Rattle.verdict.specs.declared.AllStates.{AllStates}
+use Rattle.export.specs.Results.{askedAll, statesLent}
 use Rattle.export.proofs.otzarvim_settle.Statement.{statement}
 use Rattle.export.proofs.otzarvim_settle.Tie as tie
 
@@ -17,25 +17,25 @@ abbrev start : tie.After-number → tie.Start
 start n = call n .before .before .before .before .before .before .before
 
 -- the definition's answer
-abbrev answer : tie.After-number → Settled
-answer n = let a = start n .args in settled (now (a .model)) (now (a .formula)) (a .budget) (now (a .bytes)) (now (a .values))
+abbrev answer : tie.After-number → AllStates
+answer n = let a = start n .args in askedAll (now (a .model)) (now (a .formula)) (a .budget) (now (a .bytes)) (now (a .values))
 
 is : (n : tie.After-number) → call n .settle .result ≡ answer n
 is n = call n .settle .ensures .0
 
-number-is : (n : tie.After-number) → n .number .result ≡ settledNumber (answer n)
-number-is n = n .number .ensures ∙ ap settledNumber (is n)
+number-is : (n : tie.After-number) → n .number .result ≡ allNumber (answer n)
+number-is n = n .number .ensures ∙ ap allNumber (is n)
 
-count-is : (n : tie.After-number) → n .before .before .count .result ≡ settledCount (answer n)
-count-is n = n .before .before .count .ensures ∙ ap settledCount (is n)
+count-is : (n : tie.After-number) → n .before .before .count .result ≡ allCount (answer n)
+count-is n = n .before .before .count .ensures ∙ ap allCount (is n)
 
-length-is : (n : tie.After-number) → n .before .length .result ≡ settledLength (answer n)
-length-is n = n .before .length .ensures ∙ ap settledLength (is n)
+length-is : (n : tie.After-number) → n .before .length .result ≡ allLength (answer n)
+length-is n = n .before .length .ensures ∙ ap allLength (is n)
 
 -- what an answer says of the lent states
-states-are : (n : tie.After-number) {x : Settled} → call n .settle .result ≡ x
-    → settledStates x (now (start n .args .states)) ≡ settledStates (answer n) (now (start n .args .states))
-states-are n e = sym (ap (λ (x : Settled). settledStates x (now (start n .args .states))) (by (is n) e))
+states-are : (n : tie.After-number) {x : AllStates} → call n .settle .result ≡ x
+    → statesLent x (now (start n .args .states)) ≡ statesLent (answer n) (now (start n .args .states))
+states-are n e = sym (ap (λ (x : AllStates). statesLent x (now (start n .args .states))) (by (is n) e))
 
 settle-requires : tie.Need-settle-requires
 settle-requires c κs = search needs

@@ -1,7 +1,7 @@
 -- `formula::all_rows` meets its contract: the run of the i rows that are left, up to the end, is the whole run, and the uses counted and those that they make are all uses.
 use Prim.Native.Nat.{ℕ, _+_, _*_, _-_, _≤_}
 use mathlib.Core.List.{List}
-use mathlib.Core.Path.{_≡_, refl}
+use mathlib.Core.Path.{_≡_, refl, ap}
 use denote.Ref.{now}
 use lib.ListN.{length, getD}
 use borrow.Author.Needs.{needs}
@@ -13,6 +13,7 @@ use Rattle.wire.specs.Reader.{run}
 use Rattle.wire.specs.Step.{step}
 use Rattle.wire.proofs.Fields.{value-inside, short-past}
 use Rattle.wire.proofs.Turns.{step-next, not-next, turn-next, turn-refused, turn-none}
+use Rattle.formula.specs.Format.{rowWidth}
 use Rattle.formula.specs.Rows.{uses}
 use Rattle.formula.specs.Message as m
 use Rattle.formula.specs.Layouts.{rowAt, rowLayout}
@@ -24,17 +25,24 @@ use Rattle.formula.proofs.all_rows.Tie as tie
 -- the i rows that are left, of k rows that start at st₀
 record Left (s counts : List ℕ) (p k : ℕ) (st₀ st : State) : Type 0 where
   i : ℕ
-  long : st .at + i * 8 ≡ length s
+  long : st .at + i * rowWidth ≡ length s
   same : step (run (m.rows s p) i st) ≡ step (run (m.rows s p) k st₀)
   all-uses : (j : ℕ) → getD counts j 0 + uses j (items (rowLayout s) i (st .at)) ≡ uses j (items (rowLayout s) k (st₀ .at))
 
 abbrev Inv-loop : tie.InvT-loop
 Inv-loop s p counts₀ st₀ counts st =
-    (st .at ≤ length s) × (length s + st .tally * 8 ≤ st .at + 512) × (length counts ≡ 64) × ((j : ℕ) → getD counts j 0 ≤ 2 * st .tally)
-    × ((k : ℕ) → st₀ .at + k * 8 ≡ length s → Left s counts p k st₀ st)
+    (st .at ≤ length s) × (length s + st .tally * rowWidth ≤ st .at + 64 * rowWidth) × (length counts ≡ 64) × ((j : ℕ) → getD counts j 0 ≤ 2 * st .tally)
+    × ((k : ℕ) → st₀ .at + k * rowWidth ≡ length s → Left s counts p k st₀ st)
 
 abbrev μ-loop : tie.MeasureT-loop
 μ-loop s p counts₀ st₀ counts st = length s - st .at
+
+-- the places that the facts below look back to
+abbrev at-loop : tie.After-one-row Inv-loop μ-loop → tie.At-loop Inv-loop μ-loop
+at-loop c = c .before .before .before .before .before .before .before
+
+abbrev after-one-row : tie.After-known-told2 Inv-loop μ-loop → tie.After-one-row Inv-loop μ-loop
+after-one-row c = c .before .before .before .before .before
 
 loop-holds : tie.Need-loop-holds Inv-loop μ-loop
 loop-holds c =
@@ -105,14 +113,14 @@ returns-2 c =
 
 loop-less : tie.Need-loop-less Inv-loop μ-loop
 loop-less c =
-    let t = c .before .before .before .before .before in
+    let t = after-one-row c in
     let stay = rows-stay _ _ _ _ (step-next _ (by (t .one-row .ensures .0) (c .before .read2 .given .1))) in
     omega (arith, stay .0, stay .1)
 
 loop-again : tie.Need-loop-again Inv-loop μ-loop
 loop-again c =
-    let t = c .before .before .before .before .before in
-    let l = t .before .before .before .before .before .before .before in
+    let t = after-one-row c in
+    let l = at-loop t in
     let inv = l .loop .inv in
     let s = now (l .before .before .before .args .s) in
     let at = l .loop .st .at in
@@ -129,7 +137,9 @@ loop-again c =
             i = left .i - 1;
             long = omega (arith, left .long, stay .0, stay .1);
             same = turn-next _ _ (left .i) _ (left .same) (omega (arith, left .long, stay .0, stay .1)) (t .one-row .ensures .0) is;
-            all-uses = λ j. rw (stay .0) (omega (arith, left .all-uses j, more j, uses-more s j (left .i) at (omega (arith, left .long, stay .0, stay .1))));
+            all-uses = λ j.
+                let moved = ap (λ (p : ℕ). uses j (items (rowLayout s) (left .i - 1) p)) (stay .0) in
+                omega (arith, moved, left .all-uses j, more j, uses-more s j (left .i) at (omega (arith, left .long, stay .0, stay .1)));
           },
     )
 

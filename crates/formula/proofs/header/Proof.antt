@@ -4,23 +4,28 @@ use denote.Ref.{now}
 use borrow.Author.Needs.{needs}
 use borrow.Author.Tests.{eq-eqb, ne-eqb}
 use Rattle.lists.proofs.Tests.{by}
-use Rattle.wire.specs.Counts.{countAt}
+use Rattle.wire.specs.Counts.{readCount}
 use Rattle.wire.specs.Read.{good}
 use Rattle.wire.specs.Start.{readStart}
 use Rattle.wire.proofs.Counts.{counted-good, counted-refused}
 use Rattle.wire.proofs.Reading.{reading}
 use Rattle.wire.proofs.Start.{opened-good, opened-refused}
+use Rattle.formula.specs.Format.{formulaHead, rowsCount}
 use Rattle.formula.specs.Message.{readHeader}
 use Rattle.formula.specs.Answers.{counted}
 use Rattle.formula.proofs.header.Statement.{statement}
 use Rattle.formula.proofs.header.Tie as tie
 
+-- the places that the facts below look back to
+abbrev start : tie.After-known-told2 → tie.Start
+start c = c .before .before .before .before .before .before .before .before
+
 -- the start is good, and the count
-opened : (c : tie.After-enum-told) → readStart (now (c .before .before .before .before .args .s)) 7 1 3 ≡ good tt
+opened : (c : tie.After-enum-told) → readStart (now (c .before .before .before .before .args .s)) formulaHead ≡ good tt
 opened c = opened-good _ (by (c .before .before .«open» .ensures) (c .enum-told .given .1))
 
-f-read : (c : tie.After-known-told2) → countAt 1 (now (c .before .before .before .before .before .before .before .before .args .s)) 6 1 64 ≡ good (c .before .f .given .0 .0)
-f-read c = counted-good _ (by (c .before .before .before .count-at .ensures) (c .before .f .given .1))
+f-read : (c : tie.After-known-told2) → readCount (now (start c .args .s)) rowsCount ≡ good (c .before .f .given .0 .0)
+f-read c = counted-good _ (by (c .before .before .before .read-count .ensures) (c .before .f .given .1))
 
 open-requires : tie.Need-open-requires
 open-requires c κs = search needs
@@ -35,8 +40,8 @@ returns c = simp (reading, opened-refused _ (by (c .before .before .before .«op
 enum-told : tie.Need-enum-told
 enum-told c = search needs
 
-count-at-requires : tie.Need-count-at-requires
-count-at-requires c κs = search needs
+read-count-requires : tie.Need-read-count-requires
+read-count-requires c κs = search needs
 
 enum-known-f : tie.Need-enum-known-f
 enum-known-f c = search needs
@@ -46,7 +51,7 @@ enum-known-e-2 c = search needs
 
 returns-2 : tie.Need-returns-2
 unfolding readHeader counted
-returns-2 c = simp (reading, opened (c .before .before .before .before), counted-refused _ (by (c .before .before .before .count-at .ensures) (c .before .e2 .given .1)))
+returns-2 c = simp (reading, opened (c .before .before .before .before), counted-refused _ (by (c .before .before .before .read-count .ensures) (c .before .e2 .given .1)))
 
 cast-if1 : tie.Need-cast-if1
 cast-if1 c = search needs
@@ -73,7 +78,7 @@ header-spec =
     enum-known-e
     returns
     enum-told
-    count-at-requires
+    read-count-requires
     enum-known-f
     enum-known-e-2
     returns-2

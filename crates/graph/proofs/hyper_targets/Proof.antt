@@ -9,6 +9,7 @@ use native.Mathlib.Omega.{arith}
 use Rattle.lists.proofs.Tests.{by}
 use Rattle.wire.proofs.Reading.{reading}
 use Rattle.wire.proofs.Readers.{run-good, run-bad, all-length}
+use Rattle.graph.specs.Format.{mostTargets}
 use Rattle.graph.specs.Message.{readTargets}
 use Rattle.wire.specs.Step.{step}
 use Rattle.wire.proofs.Turns.{step-next, step-refused}
@@ -16,15 +17,15 @@ use Rattle.graph.proofs.hyper_targets.Statement.{statement}
 use Rattle.graph.proofs.hyper_targets.Tie as tie
 
 -- the running total is within its limit
-few : (c : tie.Else1) → let a = c .before .before .args in leb (a .st .tally + a .count) 262144 ≡ true
-few c = let a = c .before .before .args in le-leb (a .st .tally + a .count) 262144 (omega arith)
+few : (c : tie.Else1) → let a = c .before .before .args in leb (a .st .tally + a .count) mostTargets ≡ true
+few c = let a = c .before .before .args in le-leb (a .st .tally + a .count) mostTargets (omega arith)
 
 sub-if1 : tie.Need-sub-if1
 sub-if1 c = search needs
 
 returns : tie.Need-returns
 unfolding readTargets step
-returns c = let a = c .before .before .args in simp (reading, lt-leb (a .st .tally + a .count) 262144 (omega arith))
+returns c = let a = c .before .before .args in simp (reading, lt-leb (a .st .tally + a .count) mostTargets (omega arith))
 
 add-first : tie.Need-add-first
 add-first c = search needs

@@ -6,6 +6,7 @@ use borrow.Author.Needs.{needs}
 use native.Mathlib.Omega.{arith}
 use Rattle.lists.proofs.Tests.{by}
 use Rattle.wire.specs.Reader.{run}
+use Rattle.graph.specs.Format.{mostTargets}
 use Rattle.graph.specs.Message as m
 use Rattle.wire.specs.Step.{step}
 use Rattle.wire.proofs.Turns.{step-next, turn-next, turn-refused, turn-none}
@@ -14,7 +15,7 @@ use Rattle.graph.proofs.hypers.Statement.{statement}
 use Rattle.graph.proofs.hypers.Tie as tie
 
 abbrev Inv-loop : tie.InvT-loop
-Inv-loop s n k st₀ i₀ st i = (st .at ≤ length s) × (st .tally ≤ 262144) × (step (run (m.hypers s n) i st) ≡ step (run (m.hypers s n) k st₀))
+Inv-loop s n k st₀ i₀ st i = (st .at ≤ length s) × (st .tally ≤ mostTargets) × (step (run (m.hypers s n) i st) ≡ step (run (m.hypers s n) k st₀))
 
 abbrev μ-loop : tie.MeasureT-loop
 μ-loop s n k st₀ i₀ st i = i

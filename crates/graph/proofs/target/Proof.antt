@@ -10,6 +10,7 @@ use Rattle.wire.specs.declared.Field.the-variants.{Number}
 use Rattle.wire.specs.Field.{fieldAt}
 use Rattle.wire.proofs.Fields.{field-value}
 use Rattle.wire.proofs.Reading.{reading}
+use Rattle.graph.specs.Format.{nodeAt}
 use Rattle.graph.specs.Message.{readTarget}
 use Rattle.wire.specs.Step.{step}
 use Rattle.wire.proofs.Fields.{fits-there}
@@ -20,7 +21,7 @@ use Rattle.graph.proofs.target.Tie as tie
 weight-there : (c : tie.After-number-at) → let a = c .before .before .args in fieldAt 4 (now (a .s)) (a .st .at) ≡ Number (number 4 (now (a .s)) (a .st .at))
 weight-there c = field-value 4 _ _ (omega arith)
 
-node-there : (c : tie.After-number-at) → let a = c .before .before .args in fieldAt 2 (now (a .s)) (a .st .at + 4) ≡ Number (c .number-at .result)
+node-there : (c : tie.After-number-at) → let a = c .before .before .args in fieldAt 2 (now (a .s)) (a .st .at + nodeAt) ≡ Number (c .number-at .result)
 node-there c = fits-there 2 _ _ (omega arith) (c .number-at .ensures)
 
 add-node-at : tie.Need-add-node-at

@@ -14,6 +14,7 @@ use Rattle.wire.proofs.Readers.{run-good, run-bad, all-length}
 use Rattle.wire.proofs.Turns.{step-next, step-refused}
 use Rattle.model.specs.Model.{noneDead}
 use Rattle.wire.specs.Step.{start}
+use Rattle.model.specs.Format.{modelHeader, labelAt}
 use Rattle.model.specs.Message.{readHeader, readModel}
 use Rattle.model.specs.Message as m
 use Rattle.model.specs.Answers.{checked}
@@ -23,26 +24,36 @@ use Rattle.model.proofs.Exact.{dead-known}
 use Rattle.model.proofs.check.Statement.{statement}
 use Rattle.model.proofs.check.Tie as tie
 
+-- the places that the facts below look back to
+abbrev entered : tie.After-known-told → tie.Start
+entered c = c .before .before .before .before .before
+
+abbrev after-head : tie.After-enum-told2 → tie.After-head
+after-head c = c .before .before .before .before
+
+abbrev after-known-told : tie.After-known-told3 → tie.After-known-told
+after-known-told c = c .before .before .before .before .before .before .before
+
 -- the header is good, and so are the labels and the transitions
 head-good : (c : tie.After-known-told) → let k = c .before .head .given .0 in
-    readHeader (now (c .before .before .before .before .before .args .s)) ≡ good (record { states = k .0; propositions = k .1 .0; transitions = k .1 .1 .0 })
+    readHeader (now (entered c .args .s)) ≡ good (record { states = k .0; propositions = k .1 .0; transitions = k .1 .1 .0 })
 head-good c = counted-model _ (by (c .before .before .before .header .ensures) (c .before .head .given .1))
 
 labels-next : (c : tie.After-enum-told2) → let k = c .before .before .before .before .head .given .0 in
-    run (m.labels (now (c .before .before .before .before .before .before .before .before .args .s)) (k .1 .0)) (k .0) (start 13) ≡ good (c .enum-told2 .given .0 .0)
+    run (m.labels (now (after-head c .before .before .before .before .args .s)) (k .1 .0)) (k .0) (start modelHeader) ≡ good (c .enum-told2 .given .0 .0)
 labels-next c = step-next _ (by (c .before .before .labels .ensures) (c .enum-told2 .given .1))
 
-transitions-next : (c : tie.After-known-told3) → let k = c .before .before .before .before .before .before .before .before .head .given .0 in
-    run (m.transitions (now (c .before .before .before .before .before .before .before .before .before .before .before .before .args .s)) (k .0)) (k .1 .1 .0) (start (13 + k .0 * 4)) ≡ good (c .before .st .given .0 .0)
+transitions-next : (c : tie.After-known-told3) → let k = after-head (c .before .before .before .before) .head .given .0 in
+    run (m.transitions (now (after-head (c .before .before .before .before) .before .before .before .before .args .s)) (k .0)) (k .1 .1 .0) (start (labelAt (k .0))) ≡ good (c .before .st .given .0 .0)
 transitions-next c =
-    let h = c .before .before .before .before .before .before .before in
+    let h = after-known-told c in
     step-next _ (by (c .before .before .before .transitions .ensures _ (sym (header-good _ _ (head-good h) .long))) (c .before .st .given .1))
 
 -- the first state that none leaves tells whether one is dead
-dead-is : (c : tie.After-known-told3) → let k = c .before .before .before .before .before .before .before .before .head .given .0 in
+dead-is : (c : tie.After-known-told3) → let k = after-head (c .before .before .before .before) .head .given .0 in
     noneDead (k .0) (run-good _ _ _ _ (transitions-next c) .got) ≡ leb (k .0) (c .before .st .given .0 .0 .tally)
 dead-is c =
-    let h = c .before .before .before .before .before .before .before in
+    let h = after-known-told c in
     let small = header-good _ _ (head-good h) .states-counted .no-more in
     dead-known _ (λ i. omega (arith, h .before .before .before .before .shared-slice-known .given i)) _ _ _ _ (omega arith) (run-good _ _ _ _ (transitions-next c))
 

@@ -4,29 +4,37 @@ use denote.Ref.{now}
 use borrow.Author.Needs.{needs}
 use borrow.Author.Tests.{eq-eqb, ne-eqb}
 use Rattle.lists.proofs.Tests.{by}
-use Rattle.wire.specs.Counts.{countAt}
+use Rattle.wire.specs.Counts.{readCount}
 use Rattle.wire.specs.Read.{good}
 use Rattle.wire.specs.Start.{readStart}
 use Rattle.wire.proofs.Counts.{counted-good, counted-refused}
 use Rattle.wire.proofs.Reading.{reading}
 use Rattle.wire.proofs.Start.{opened-good, opened-refused}
+use Rattle.model.specs.Format.{modelHead, statesCount, propositionsCount, transitionsCount}
 use Rattle.model.specs.Message.{readHeader}
 use Rattle.model.specs.Answers.{counted}
 use Rattle.model.proofs.header.Statement.{statement}
 use Rattle.model.proofs.header.Tie as tie
 
+-- the places that the facts below look back to
+abbrev start-of-known-told2 : tie.After-known-told2 → tie.Start
+start-of-known-told2 c = c .before .before .before .before .before .before .before .before
+
+abbrev start : tie.After-known-told4 → tie.Start
+start c = start-of-known-told2 (c .before .before .before .before)
+
 -- the start is good, and each count
-opened : (c : tie.After-enum-told) → readStart (now (c .before .before .before .before .args .s)) 13 1 2 ≡ good tt
+opened : (c : tie.After-enum-told) → readStart (now (c .before .before .before .before .args .s)) modelHead ≡ good tt
 opened c = opened-good _ (by (c .before .before .«open» .ensures) (c .enum-told .given .1))
 
-n-read : (c : tie.After-known-told2) → countAt 2 (now (c .before .before .before .before .before .before .before .before .args .s)) 6 1 256 ≡ good (c .before .n .given .0 .0)
-n-read c = counted-good _ (by (c .before .before .before .count-at .ensures) (c .before .n .given .1))
+n-read : (c : tie.After-known-told2) → readCount (now (start-of-known-told2 c .args .s)) statesCount ≡ good (c .before .n .given .0 .0)
+n-read c = counted-good _ (by (c .before .before .before .read-count .ensures) (c .before .n .given .1))
 
-p-read : (c : tie.After-known-told4) → countAt 1 (now (c .before .before .before .before .before .before .before .before .before .before .before .before .args .s)) 8 0 32 ≡ good (c .before .p .given .0 .0)
-p-read c = counted-good _ (by (c .before .before .before .count-at2 .ensures) (c .before .p .given .1))
+p-read : (c : tie.After-known-told4) → readCount (now (start c .args .s)) propositionsCount ≡ good (c .before .p .given .0 .0)
+p-read c = counted-good _ (by (c .before .before .before .read-count2 .ensures) (c .before .p .given .1))
 
-t-read : (c : tie.After-known-told6) → countAt 4 (now (c .before .before .before .before .before .before .before .before .before .before .before .before .before .before .before .before .args .s)) 9 0 65535 ≡ good (c .before .t .given .0 .0)
-t-read c = counted-good _ (by (c .before .before .before .count-at3 .ensures) (c .before .t .given .1))
+t-read : (c : tie.After-known-told6) → readCount (now (start (c .before .before .before .before) .args .s)) transitionsCount ≡ good (c .before .t .given .0 .0)
+t-read c = counted-good _ (by (c .before .before .before .read-count3 .ensures) (c .before .t .given .1))
 
 open-requires : tie.Need-open-requires
 open-requires c κs = search needs
@@ -41,8 +49,8 @@ returns c = simp (reading, opened-refused _ (by (c .before .before .before .«op
 enum-told : tie.Need-enum-told
 enum-told c = search needs
 
-count-at-requires : tie.Need-count-at-requires
-count-at-requires c κs = search needs
+read-count-requires : tie.Need-read-count-requires
+read-count-requires c κs = search needs
 
 enum-known-n : tie.Need-enum-known-n
 enum-known-n c = search needs
@@ -53,10 +61,10 @@ enum-known-e-2 c = search needs
 returns-2 : tie.Need-returns-2
 unfolding readHeader counted
 returns-2 c =
-    simp (reading, opened (c .before .before .before .before), counted-refused _ (by (c .before .before .before .count-at .ensures) (c .before .e2 .given .1)))
+    simp (reading, opened (c .before .before .before .before), counted-refused _ (by (c .before .before .before .read-count .ensures) (c .before .e2 .given .1)))
 
-count-at-requires-2 : tie.Need-count-at-requires-2
-count-at-requires-2 c κs = search needs
+read-count-requires-2 : tie.Need-read-count-requires-2
+read-count-requires-2 c κs = search needs
 
 enum-known-p : tie.Need-enum-known-p
 enum-known-p c = search needs
@@ -68,10 +76,10 @@ returns-3 : tie.Need-returns-3
 unfolding readHeader counted
 returns-3 c =
     let n = c .before .before .before .before in
-    simp (reading, opened (n .before .before .before .before), n-read n, counted-refused _ (by (c .before .before .before .count-at2 .ensures) (c .before .e3 .given .1)))
+    simp (reading, opened (n .before .before .before .before), n-read n, counted-refused _ (by (c .before .before .before .read-count2 .ensures) (c .before .e3 .given .1)))
 
-count-at-requires-3 : tie.Need-count-at-requires-3
-count-at-requires-3 c κs = search needs
+read-count-requires-3 : tie.Need-read-count-requires-3
+read-count-requires-3 c κs = search needs
 
 enum-known-t : tie.Need-enum-known-t
 enum-known-t c = search needs
@@ -84,7 +92,7 @@ unfolding readHeader counted
 returns-4 c =
     let p = c .before .before .before .before in
     let n = p .before .before .before .before in
-    simp (reading, opened (n .before .before .before .before), n-read n, p-read p, counted-refused _ (by (c .before .before .before .count-at3 .ensures) (c .before .e4 .given .1)))
+    simp (reading, opened (n .before .before .before .before), n-read n, p-read p, counted-refused _ (by (c .before .before .before .read-count3 .ensures) (c .before .e4 .given .1)))
 
 cast-end : tie.Need-cast-end
 cast-end c = search needs
@@ -128,15 +136,15 @@ header-spec =
     enum-known-e
     returns
     enum-told
-    count-at-requires
+    read-count-requires
     enum-known-n
     enum-known-e-2
     returns-2
-    count-at-requires-2
+    read-count-requires-2
     enum-known-p
     enum-known-e-3
     returns-3
-    count-at-requires-3
+    read-count-requires-3
     enum-known-t
     enum-known-e-4
     returns-4

@@ -12,16 +12,17 @@ use Rattle.wire.specs.Field.{fieldAt}
 use Rattle.wire.specs.Step.{step}
 use Rattle.wire.proofs.Fields.{field-value, value-inside}
 use Rattle.wire.proofs.Reading.{reading}
+use Rattle.model.specs.Format.{weightAt, toAt, transitionWidth}
 use Rattle.model.specs.Message.{readTransition}
 use Rattle.model.proofs.Good.{transition-goes-on}
 use Rattle.model.proofs.transition.Statement.{statement}
 use Rattle.model.proofs.transition.Tie as tie
 
 -- `to` is there, so all of the transition is
-inside : (c : tie.Start) → let a = c .args in a .st .at + 8 ≤ length (now (a .s))
-inside c = let a = c .args in omega (arith, value-inside 2 (now (a .s)) (a .st .at + 6) (c .pre .0))
+inside : (c : tie.Start) → let a = c .args in a .st .at + transitionWidth ≤ length (now (a .s))
+inside c = let a = c .args in omega (arith, value-inside 2 (now (a .s)) (a .st .at + toAt) (c .pre .0))
 
-weight-there : (c : tie.Start) → let a = c .args in fieldAt 4 (now (a .s)) (a .st .at + 2) ≡ Number (number 4 (now (a .s)) (a .st .at + 2))
+weight-there : (c : tie.Start) → let a = c .args in fieldAt 4 (now (a .s)) (a .st .at + weightAt) ≡ Number (number 4 (now (a .s)) (a .st .at + weightAt))
 weight-there c = field-value 4 _ _ (omega (arith, inside c))
 
 from-there : (c : tie.After-number-at) → let a = c .before .before .args in fieldAt 2 (now (a .s)) (a .st .at) ≡ Number (c .number-at .result)

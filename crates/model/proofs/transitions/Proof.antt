@@ -9,6 +9,7 @@ use Rattle.wire.specs.Reader.{run}
 use Rattle.wire.specs.Step.{step}
 use Rattle.wire.proofs.Fields.{value-inside, short-past}
 use Rattle.wire.proofs.Turns.{step-next, turn-next, turn-refused, turn-none}
+use Rattle.model.specs.Format.{transitionWidth}
 use Rattle.model.specs.Message as m
 use Rattle.model.proofs.Good.{transitions-stay}
 use Rattle.model.proofs.transitions.Statement.{statement}
@@ -17,7 +18,7 @@ use Rattle.model.proofs.transitions.Tie as tie
 abbrev Inv-loop : tie.InvT-loop
 Inv-loop s n st₀ st =
     (st .at ≤ length s) × (st .tally ≤ n)
-    × ((k : ℕ) → st₀ .at + k * 8 ≡ length s → (i : ℕ) × (st .at + i * 8 ≡ length s) × (step (run (m.transitions s n) i st) ≡ step (run (m.transitions s n) k st₀)))
+    × ((k : ℕ) → st₀ .at + k * transitionWidth ≡ length s → (i : ℕ) × (st .at + i * transitionWidth ≡ length s) × (step (run (m.transitions s n) i st) ≡ step (run (m.transitions s n) k st₀)))
 
 abbrev μ-loop : tie.MeasureT-loop
 μ-loop s n st₀ st = length s - st .at

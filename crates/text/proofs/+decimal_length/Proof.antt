@@ -30,10 +30,10 @@ module _ (t : ℕ) where
   add-result c = omega (arith, decimal-length 10 (c .before .before .args .n / 10))
 
   returns : lts.Need-returns (below, f.Post) given f.Post
-  returns c = let n = c .before .args .n in omega (arith, front-length n (omega arith), ap length (front-none n (omega arith)))
+  returns c = let n = c .before .args .n in omega (arith, front-length 8 n (omega arith), ap length (front-none 10 n (omega arith)))
 
   returns-2 : lts.Need-returns-2 (below, f.Post) given f.Post
-  returns-2 c = let n = c .before .before .args .n in omega (arith, front-length n (omega arith), ap length (front-some n (omega arith)))
+  returns-2 c = let n = c .before .before .args .n in omega (arith, front-length 8 n (omega arith), ap length (front-some 10 n (omega arith)))
 
 pub +decimal-length-spec : {M : Type 1} → statement M
 +decimal-length-spec =

@@ -1,0 +1,49 @@
+-- What the library gives back beside the paper's number.
+use Prim.Native.Nat.{ℕ}
+use mathlib.Core.List.{List, [], _∷_}
+use Rattle.graph.specs.declared.Checked as graph
+use Rattle.graph.specs.declared.Checked.the-variants as Graph
+use Rattle.model.specs.declared.Checked as model
+use Rattle.model.specs.declared.Checked.the-variants as Model
+use Rattle.formula.specs.declared.Checked as formula
+use Rattle.formula.specs.declared.Checked.the-variants as Formula
+use Rattle.verdict.specs.Answer.{readSettled, readAsked, answerOf, allOf}
+use Rattle.verdict.specs.declared.Verdict.{Verdict}
+use Rattle.verdict.specs.declared.Verdict.the-variants as Verdict
+use Rattle.verdict.specs.declared.Answer.{Answer}
+use Rattle.verdict.specs.declared.AllStates.{AllStates}
+use Rattle.verdict.specs.declared.AllStates.the-variants as AllStates
+
+-- the counts of an accepted message's header; a refusal leaves what is lent for them as it came. Nodes, hyperedges and cover edges
+abbrev pub graphCounts : graph.Checked → (came : List ℕ) → List ℕ
+graphCounts (Graph.Graph n h c t) came = n ∷ h ∷ c ∷ []
+graphCounts (Graph.Refused e) came = came
+
+-- states, propositions and transitions
+abbrev pub modelCounts : model.Checked → (came : List ℕ) → List ℕ
+modelCounts (Model.Model s p t) came = s ∷ p ∷ t ∷ []
+modelCounts (Model.Refused e) came = came
+
+-- rows
+abbrev pub formulaCount : formula.Checked → (came : ℕ) → ℕ
+formulaCount (Formula.Formula f) came = f
+formulaCount (Formula.Refused e) came = came
+
+-- 0 none, 1 yes, 2 no
+abbrev pub verdictNumber : Verdict → ℕ
+verdictNumber Verdict.None = 0
+verdictNumber Verdict.Yes = 1
+verdictNumber Verdict.No = 2
+
+-- the answer on a state, and on all states
+abbrev pub askedOne : (model formula : List ℕ) (state budget : ℕ) (bytes values : List ℕ) → Answer
+askedOne model formula state budget bytes values = answerOf (readAsked model formula state bytes values) state budget
+
+abbrev pub askedAll : (model formula : List ℕ) (budget : ℕ) (bytes values : List ℕ) → AllStates
+askedAll model formula budget bytes values = allOf (readSettled model formula bytes values) budget
+
+-- where state 0's number stands in the room of values, and how many states there are; as it came where nothing settled
+abbrev pub statesLent : AllStates → (came : List ℕ) → List ℕ
+statesLent (AllStates.Settled m n first states) came = first ∷ states ∷ []
+statesLent (AllStates.Spent m n) came = came
+statesLent (AllStates.Refused e) came = came
