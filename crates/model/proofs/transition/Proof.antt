@@ -14,13 +14,12 @@ use Rattle.wire.proofs.Fields.{field-value, value-inside}
 use Rattle.wire.proofs.Reading.{reading}
 use Rattle.model.specs.Format.{weightAt, toAt, transitionWidth}
 use Rattle.model.specs.Message.{readTransition}
-use Rattle.model.proofs.Good.{transition-goes-on}
 use Rattle.model.proofs.transition.Statement.{statement}
 use Rattle.model.proofs.transition.Tie as tie
 
 -- `to` is there, so all of the transition is
 inside : (c : tie.Start) → let a = c .args in a .st .at + transitionWidth ≤ length (now (a .s))
-inside c = let a = c .args in omega (arith, value-inside 2 (now (a .s)) (a .st .at + toAt) (c .pre .0))
+inside c = let a = c .args in omega (arith, value-inside 2 (now (a .s)) (a .st .at + toAt) (c .pre))
 
 weight-there : (c : tie.Start) → let a = c .args in fieldAt 4 (now (a .s)) (a .st .at + weightAt) ≡ Number (number 4 (now (a .s)) (a .st .at + weightAt))
 weight-there c = field-value 4 _ _ (omega (arith, inside c))
@@ -34,61 +33,36 @@ number-at-requires c κs = omega (arith, inside (c .before))
 add-end : tie.Need-add-end
 add-end c = omega (arith, inside (c .before .before))
 
-goes-on-requires : tie.Need-goes-on-requires
-goes-on-requires c κs = search needs
-
 returns : tie.Need-returns
-unfolding step
+unfolding readTransition step
 returns c =
-    let f = c .before .before in
+    let f = c .before in
     let a = f .before .before in
-    ap step (sym (transition-goes-on _ _ _ (omega arith) (from-there f) (weight-there a) (a .pre .0) (c .before .goes-on .ensures) (c .if1 .taken)))
+    simp (reading, from-there f, weight-there a, a .pre, le-ltb _ _ (c .if1 .taken))
 
 returns-2 : tie.Need-returns-2
 unfolding readTransition step
 returns-2 c =
-    let f = c .before .before .before in
+    let t = c .before .before in
+    let f = t .before in
     let a = f .before .before in
-    simp (reading, from-there f, weight-there a, a .pre .0, le-ltb _ _ (c .if2 .taken))
+    simp (reading, from-there f, weight-there a, a .pre, lt-ltb _ _ (t .if1 .left), lt-leb _ _ (c .if2 .taken))
 
 returns-3 : tie.Need-returns-3
 unfolding readTransition step
 returns-3 c =
-    let t = c .before .before in
-    let f = t .before .before .before in
+    let t = c .before .before .before in
+    let f = t .before in
     let a = f .before .before in
-    simp (reading, from-there f, weight-there a, a .pre .0, lt-ltb _ _ (t .if2 .left), lt-leb _ _ (c .if3 .taken))
+    simp (reading, from-there f, weight-there a, a .pre, lt-ltb _ _ (t .if1 .left), le-leb _ _ (c .before .if2 .left), le-ltb _ _ (c .if3 .taken))
 
 returns-4 : tie.Need-returns-4
 unfolding readTransition step
 returns-4 c =
     let t = c .before .before .before in
-    let f = t .before .before .before in
+    let f = t .before in
     let a = f .before .before in
-    simp (reading, from-there f, weight-there a, a .pre .0, lt-ltb _ _ (t .if2 .left), le-leb _ _ (c .before .if3 .left), le-ltb _ _ (c .if4 .taken))
-
-after-from-requires : tie.Need-after-from-requires
-after-from-requires c κs = search needs
-
-returns-5 : tie.Need-returns-5
-unfolding readTransition step
-returns-5 c =
-    let e = c .before in
-    let t = e .before .before .before in
-    let f = t .before .before .before in
-    let a = f .before .before in
-    simp (reading, from-there f, weight-there a, a .pre .0, lt-ltb _ _ (t .if2 .left), le-leb _ _ (e .before .if3 .left), lt-ltb _ _ (e .if4 .left), c .after-from .ensures)
+    simp (reading, from-there f, weight-there a, a .pre, lt-ltb _ _ (t .if1 .left), le-leb _ _ (c .before .if2 .left), lt-ltb _ _ (c .if3 .left))
 
 pub transition-spec : {M : Type 1} → statement M
-transition-spec =
-    tie.close
-    (tie.spec
-    number-at-requires
-    add-end
-    goes-on-requires
-    returns
-    returns-2
-    returns-3
-    returns-4
-    after-from-requires
-    returns-5)
+transition-spec = tie.close (tie.spec number-at-requires add-end returns returns-2 returns-3 returns-4)
