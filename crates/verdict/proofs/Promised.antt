@@ -1,7 +1,7 @@
 -- What the customer is promised follows from the definitions of the answer and the rooms. Assumes nothing.
 use Prim.Native.Nat.{ℕ, _+_, _-_, _≤_, _<_}
 use mathlib.Core.List.{List}
-use mathlib.Core.Path.{_≡_, refl}
+use mathlib.Core.Path.{_≡_, refl, ap, _∙_}
 use lib.ListN.{length}
 use borrow.Author.Tests.{lt-ltb, le-ltb}
 use native.Mathlib.Decide.{decLt}
@@ -115,9 +115,9 @@ module _ (m f : List ℕ) (budget : ℕ) (b v : List ℕ) (q : Question) (asked 
             λ z. record {
               question = q;
               asked = asked;
-              all = done .states-are;
-              inside = rw (done .first-is, done .states-are, done .ran .values-are) (all-inside k);
-              yes = rw (done .first-is, done .states-are, done .ran .values-are) (all-when q (asked .model-fits) (asked .formula-fits) k v (settles done .first .settled));
+              says = ap (λ (x : ℕ). AllStates.Settled k n x states) (done .first-is) ∙ ap (λ (x : ℕ). AllStates.Settled k n (rootNode q 0) x) (done .states-are);
+              inside = rw (done .ran .values-are) (all-inside k);
+              yes = rw (done .ran .values-are) (all-when q (asked .model-fits) (asked .formula-fits) k v (settles done .first .settled));
               settles = settles done;
               leaves = leaves (done .ran);
             };

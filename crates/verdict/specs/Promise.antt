@@ -29,8 +29,9 @@ use Rattle.verdict.specs.declared.Verdict.{Verdict}
 use Rattle.verdict.specs.declared.Verdict.the-variants as Verdict
 use Rattle.verdict.specs.declared.Answer.{Answer}
 use Rattle.verdict.specs.declared.AllStates.{AllStates}
-use Rattle.verdict.specs.Question.{Question, graphFor, ruledFor}
-use Rattle.verdict.specs.Answer.{answerNumber, answerVerdict, answerCount, answerLength, allNumber, allCount, allLength, allFirst, allStates}
+use Rattle.verdict.specs.declared.AllStates.the-variants as AllStates
+use Rattle.verdict.specs.Question.{Question, graphFor, ruledFor, rootNode}
+use Rattle.verdict.specs.Answer.{answerNumber, answerVerdict, answerCount, answerLength, allNumber, allCount, allLength}
 
 -- the messages are the writings of a well-formed model and of rows that are well-formed with its p
 pub record Asks (model formula : List ℕ) (question : Question) : Type 0 where
@@ -91,22 +92,22 @@ pub record Decides (model formula : List ℕ) (state budget : ℕ) (bytes values
   -- the graph and the last two rounds stand in the rooms
   pub leaves : Leaves question bytes values bytes′ values′ reported returned
 
--- all states' answers stand in one settled room, one after another from `first` on
-pub record DecidesAll (model formula : List ℕ) (budget : ℕ) (bytes values bytes′ values′ : List ℕ) (reported returned first states : ℕ) : Type 0 where
+-- all states' answers stand in one settled room, one after another from the root row's node of state 0 on
+pub record DecidesAll (model formula : List ℕ) (budget : ℕ) (bytes values bytes′ values′ : List ℕ) (answer : AllStates) : Type 0 where
   -- the model and the formula
   pub question : Question
   -- the messages are their writings
   pub asked : Asks model formula question
-  -- these are all states
-  pub all : states ≡ question .model .states
+  -- the answer says where, and how many states there are
+  pub says : answer ≡ AllStates.Settled (allCount answer) (allLength answer) (rootNode question 0) (question .model .states)
   -- each has a number in the room
-  pub inside : first + states ≤ length values′
+  pub inside : rootNode question 0 + question .model .states ≤ length values′
   -- it is 0 exactly for a state that satisfies the formula
-  pub yes : (state : ℕ) → state < states → (getD values′ (first + state) 0 ≡ 0) ↔ Satisfies question state
+  pub yes : (state : ℕ) → state < question .model .states → (getD values′ (rootNode question 0 + state) 0 ≡ 0) ↔ Satisfies question state
   -- the count is the first unchanged round, and the values are settled
-  pub settles : Settles question budget values′ reported
+  pub settles : Settles question budget values′ (allCount answer)
   -- the graph and the last two rounds stand in the rooms
-  pub leaves : Leaves question bytes values bytes′ values′ reported returned
+  pub leaves : Leaves question bytes values bytes′ values′ (allCount answer) (allLength answer)
 
 -- the budget is spent
 pub record Spends (model formula : List ℕ) (budget : ℕ) (bytes values bytes′ values′ : List ℕ) (reported returned : ℕ) : Type 0 where
@@ -157,8 +158,7 @@ pub record Promise (model formula : List ℕ) (state budget : ℕ) (bytes values
 
 -- of all states at once
 pub record PromiseAll (model formula : List ℕ) (budget : ℕ) (bytes values bytes′ values′ : List ℕ) (answer : AllStates) : Type 0 where
-  pub decides : allNumber answer ≡ ok
-      → DecidesAll model formula budget bytes values bytes′ values′ (allCount answer) (allLength answer) (allFirst answer) (allStates answer)
+  pub decides : allNumber answer ≡ ok → DecidesAll model formula budget bytes values bytes′ values′ answer
   pub spends : allNumber answer ≡ overBudget → Spends model formula budget bytes values bytes′ values′ (allCount answer) (allLength answer)
   pub refuses : overBudget < allNumber answer → Refuses bytes values bytes′ values′ (allCount answer) (allLength answer)
 
