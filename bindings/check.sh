@@ -30,11 +30,13 @@ compare() { # NAME WROTE EXPECTED
     say "$1 ran, and wrote what it should"
 }
 
-for name in tour life; do
-    $gcc -std=c99 -O2 -Wall -Wextra -Wpedantic -Werror -I"$root/include" "$root/examples/c/$name.c" -L"$target/lib" -lotzarvim -o "$out/$name-c" ||
-        die "examples/c/$name.c does not build"
-    $run "$out/$name-c" >"$out/$name-c.txt" || die "examples/c/$name.c ended badly"
-    compare "examples/c/$name.c" "$out/$name-c.txt" "$root/examples/c/$name.txt"
+# The examples in C, and the order of every parameter, which no contract fixes.
+for source in examples/c/tour examples/c/life bindings/order; do
+    name=$(basename "$source")
+    $gcc -std=c99 -O2 -Wall -Wextra -Wpedantic -Werror -I"$root/include" "$root/$source.c" -L"$target/lib" -lotzarvim -o "$out/$name-c" ||
+        die "$source.c does not build"
+    $run "$out/$name-c" >"$out/$name-c.txt" || die "$source.c ended badly"
+    compare "$source.c" "$out/$name-c.txt" "$root/$source.txt"
 done
 
 if ! rust_tools; then

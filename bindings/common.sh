@@ -33,7 +33,8 @@ c_tools() {
     gcc=x86_64-linux-gnu-gcc
     if ! command -v $gcc >/dev/null; then
         say "installing gcc-x86-64-linux-gnu"
-        as_root apt-get install -y -qq gcc-x86-64-linux-gnu >/dev/null || die "no C compiler for x86-64: apt-get install gcc-x86-64-linux-gnu failed"
+        as_root apt-get install -y -qq gcc-x86-64-linux-gnu >/dev/null 2>&1 || { as_root apt-get update -qq >/dev/null && as_root apt-get install -y -qq gcc-x86-64-linux-gnu >/dev/null; } ||
+            die "no C compiler for x86-64: apt-get install gcc-x86-64-linux-gnu failed"
     fi
     nm=x86_64-linux-gnu-nm
     sysroot=/usr/x86_64-linux-gnu

@@ -13,7 +13,7 @@
 --     Covers     the bytes of cover edges, state by state and row by row
 --     Parts      the message of a built graph, part by part, and what the tests before it is written say of it
 --     Writing    what the writing of a graph that passes no limit may rely on, and the limits one by one
---     Laws       there is one answer
+--     One        one answer of each public function
 pub mod Holding
 pub mod Counting
 pub mod Ranges
@@ -28,4 +28,4 @@ pub mod Helpers
 pub mod Covers
 pub mod Parts
 pub mod Writing
-pub mod Laws
+pub mod One

@@ -27,7 +27,7 @@ use Rattle.model.specs.Model.{Model}
 use Rattle.formula.specs.declared.Quantifier.{Quantifier}
 use Rattle.formula.specs.declared.Row.{Row}
 use Rattle.formula.specs.declared.Row.the-variants.{Until}
-use Rattle.reduction.specs.Built.{ifUntil, isUntil, untils, helperAt, layout, cover, Limit, graphOf}
+use Rattle.reduction.specs.Built.{ifUntil, isUntil, untils, helperAt, layout, cover, CoverEnd, graphOf}
 use Rattle.build.specs.declared.Built.the-variants as Built
 use Rattle.build.specs.declared.sizing.Size as size
 use Rattle.build.specs.Size.{sizeOf, rowsEdges, inLimits}
@@ -42,7 +42,7 @@ use Rattle.build.proofs.Whole.{size-of-graph, covers-of-graph, writing-
 
 -- with s states, and the helper of the row at each place at the place that is given
 module _ (s : ℕ) (place : ℕ → ℕ) where
-  abbrev limits : Row → ℕ → ℕ → List Limit
+  abbrev limits : Row → ℕ → ℕ → List CoverEnd
   limits row r a = ifUntil row (λ q l k b. record { bound = b; target = a + s * place r } ∷ []) []
 
   abbrev here : ℕ → Row → List ℕ

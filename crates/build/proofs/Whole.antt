@@ -20,7 +20,7 @@ use Rattle.graph.specs.WellFormed.{targetsOf}
 use Rattle.graph.specs.Write.{writeCover, writeBody, writeGraph}
 use Rattle.model.specs.Model.{Model}
 use Rattle.formula.specs.declared.Row.{Row}
-use Rattle.reduction.specs.Built.{rowEdges, helperEdges, isUntil, untils, rowCovers, layout, hyper, cover, Limit, graphOf}
+use Rattle.reduction.specs.Built.{rowEdges, helperEdges, isUntil, untils, rowCovers, layout, hyper, cover, CoverEnd, graphOf}
 use Rattle.build.specs.declared.sizing.Size.{Size}
 use Rattle.build.specs.Size.{noSize, addSize, sizeOf, stateEdges, rowsEdges}
 use Rattle.build.proofs.Untils.{other-row, by-row}
@@ -123,7 +123,7 @@ size-of-graph M rows =
     rw total at (hypers-size (first ++ second))
 
 -- a cover edge for each state and until row
-covers-length : (s : ℕ) (f : Row → ℕ → ℕ → List Limit) → ((row : Row) (r a : ℕ) → length (f row r a) ≡ cond (isUntil row) 1 0)
+covers-length : (s : ℕ) (f : Row → ℕ → ℕ → List CoverEnd) → ((row : Row) (r a : ℕ) → length (f row r a) ≡ cond (isUntil row) 1 0)
     → (r : ℕ) (rows : List Row) → length (layout cover s f r rows) ≡ s * length (untils rows)
 unfolding layout keep
 covers-length s f each r [] = omega arith

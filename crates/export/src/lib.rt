@@ -90,7 +90,7 @@ pub extern "C" fn otzarvim_formula_text(
     length: &mut usize,
 ) -> u8
     ensures { λ r. ⌜ r ≡ text.writtenNumber (text.writtenOf (readFormula p (now (message .entry))) (now (room .entry))) ⌝ }
-    ensures { λ _. ⌜ now (room .exit) ≡ text.roomOf (readFormula p (now (message .entry))) (now (room .entry)) ⌝ }
+    ensures { λ _. ⌜ now (room .exit) ≡ text.textRoom (readFormula p (now (message .entry))) (now (room .entry)) ⌝ }
     ensures { λ _. ⌜ now (length .exit) ≡ text.writtenLength (text.writtenOf (readFormula p (now (message .entry))) (now (room .entry))) ⌝ }
 {
     let written = text::text(message, p, room);

@@ -8,6 +8,7 @@
 --     Exact      accepted messages are exactly the writings of well-formed rows
 --     Sums       sums over a list and over a range of numbers
 --     Trees      the rows are a tree: the formula of a row, the size of the root, the rows that it reaches
+--     One        one answer of each public function
 pub mod Good
 pub mod Judging
 pub mod Uses
@@ -17,3 +18,4 @@ pub mod Spelt
 pub mod Exact
 pub mod Sums
 pub mod Trees
+pub mod One

@@ -3,7 +3,9 @@
 --     Accepted   what an accepted message holds, by position
 --     Answered   the reading from an answer
 --     Exact      accepted messages are exactly the writings of well-formed graphs
+--     One        one answer of each public function
 pub mod Good
 pub mod Accepted
 pub mod Answered
 pub mod Exact
+pub mod One

@@ -15,10 +15,6 @@ clash t f = absurd (true≢false (sym t ∙ f))
 pub by : {A : Type 0} {a b c : A} → a ≡ b → a ≡ c → b ≡ c
 by p q = sym p ∙ q
 
--- two outcomes of which an equation says the same are equal
-pub one-outcome : {A : Type 0} {a b c : A} → a ≡ c → b ≡ c → a ≡ b
-one-outcome p q = p ∙ sym q
-
 pub or-right : (a b : Bool) → b ≡ true → (a || b) ≡ true
 or-right true b e = refl
 or-right false b e = e

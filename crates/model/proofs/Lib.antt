@@ -3,7 +3,9 @@
 --     Answered   the reading from an answer
 --     Exact      accepted messages are exactly the writings of well-formed models
 --     Bits       a label has no bit at p or above exactly when it is below 2 ^ p
+--     One        one answer of each public function
 pub mod Good
 pub mod Answered
 pub mod Exact
 pub mod Bits
+pub mod One

@@ -1,21 +1,20 @@
 -- The graph that is built of a model and the rows of a formula. State a and row r have node a + s·r; the j-th until row has also
 -- the helper node a + s·(f + j).
-use Prim.Native.Nat.{ℕ, suc, _+_, _*_, _≤_}
+use Prim.Native.Nat.{ℕ, suc, _+_, _*_}
 use mathlib.Core.List.{List, [], _∷_, _++_, map}
 use mathlib.Core.Bool.{Bool, true, false, not, cond}
 use lib.Dec.{eqb}
 use lib.ListN.{length, take}
-use Rattle.lists.specs.Lists.{_∈_}
 use Rattle.lists.specs.Making.{keep, span}
 use Rattle.value.specs.declared.Bound.{Bound}
 use Rattle.value.specs.Value.{inside}
 use Rattle.rules.specs.Graph.{Graph, Hyper, Cover, Target}
-use Rattle.graph.specs.WellFormed.{targetsOf}
 use Rattle.model.specs.Model.{Model, Transition, holds}
 use Rattle.formula.specs.declared.Quantifier.{Quantifier}
 use Rattle.formula.specs.declared.Quantifier.the-variants.{Some, Every}
 use Rattle.formula.specs.declared.Row.{Row}
 use Rattle.formula.specs.declared.Row.the-variants.{True, False, Proposition, Negation, And, Or, Next, Until}
+pub use Rattle.reduction.specs.Fits.{Fits}
 
 -- a hyperedge's target
 abbrev pub to : ℕ → ℕ → Target
@@ -82,12 +81,12 @@ abbrev pub helperAt : List Row → ℕ → ℕ
 helperAt rows r = length rows + length (untils (take r rows))
 
 -- what a cover edge has beside its source
-pub record Limit : Type 0 where
+pub record CoverEnd : Type 0 where
   pub bound : Bound
   pub target : ℕ
 
 -- an until row's node has one cover edge, with its bound, to its helper
-abbrev pub rowCovers : Model → List Row → Row → ℕ → ℕ → List Limit
+abbrev pub rowCovers : Model → List Row → Row → ℕ → ℕ → List CoverEnd
 rowCovers M rows row r a = ifUntil row (λ q l k b. record { bound = b; target = a + M .states * helperAt rows r } ∷ []) []
 
 -- for each row, from place r on, and each of the s states, what the node a + s·r has, by rising node
@@ -99,7 +98,7 @@ layout mk s f r (row ∷ rows) = span (λ a. map (mk (a + s * r)) (f row r a)) 0
 abbrev pub hyper : ℕ → List Target → Hyper
 hyper v ts = record { source = v; targets = ts }
 
-abbrev pub cover : ℕ → Limit → Cover
+abbrev pub cover : ℕ → CoverEnd → Cover
 cover v c = record { source = v; bound = c .bound; target = c .target }
 
 -- the graph: the rows' hyperedges, the helpers', and the cover edges
@@ -109,11 +108,3 @@ graphOf M rows = record {
   hypers = layout hyper (M .states) (λ row r a. rowEdges M row a) 0 rows ++ layout hyper (M .states) (helperEdges M) (length rows) (untils rows);
   covers = layout cover (M .states) (rowCovers M rows) 0 rows;
 }
-
--- the graph passes no limit on n, h, c or targets (all together or of one hyperedge); one that does is refused with SIZE
-pub record Fits (g : Graph) : Type 0 where
-  pub nodes-fit : g .nodes ≤ 4096
-  pub hypers-fit : length (g .hypers) ≤ 65535
-  pub covers-fit : length (g .covers) ≤ 4096
-  pub targets-fit : targetsOf (g .hypers) ≤ 262144
-  pub each-fits : {h : Hyper} → h ∈ g .hypers → length (h .targets) ≤ 65535

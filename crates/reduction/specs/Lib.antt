@@ -1,2 +1,3 @@
--- Definitions: the graph that is built.
+-- Definitions: the graph that is built, and the limits that its laws ask for.
 pub mod Built
+pub mod Fits

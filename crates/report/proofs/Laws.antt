@@ -1,10 +1,10 @@
--- Laws of a report: there is one length and one content of each room, and a state's line says yes exactly when the state satisfies the
--- formula by its runs; so for an input that is read and settles. Assumes nothing.
+-- Laws of a report: a state's line says yes exactly when the state satisfies the formula by its runs; so for an input that is read and
+-- settles. Assumes nothing.
 use Prim.Native.Nat.{ℕ, _<_}
 use mathlib.Core.List.{List}
 use mathlib.Core.Bool.{true}
 use mathlib.Core.Logic.{_↔_}
-use mathlib.Core.Path.{_≡_, sym, ap, _∙_}
+use mathlib.Core.Path.{_≡_, ap, _∙_}
 use lib.ListN.{take, drop}
 use Rattle.value.specs.Value.{atMost}
 use Rattle.wire.specs.Bytes.{Bytes}
@@ -24,19 +24,8 @@ use Rattle.rules.proofs.Count.{count-first}
 use Rattle.verdict.proofs.Finished.{roomed-good}
 use Rattle.verdict.proofs.Fitting.{fits-well}
 use Rattle.verdict.proofs.Promised.{asks}
-use Rattle.report.specs.Output.{readInput, settledLines, outputOf, reportLength, reportOut, zeroBytes, zeroValues}
+use Rattle.report.specs.Output.{readInput, settledLines, outputOf}
 use Rattle.report.proofs.Ended.{outputs}
-use Rattle.report.proofs.Reported.{Reported}
-
--- two that satisfy the contract of `report` are equal
-pub one-report : (s b v o : List ℕ) {r r′ : ℕ} {o₁ o₂ b₁ b₂ v₁ v₂ : List ℕ} → let x = readInput s b v in
-    Reported x b v o r o₁ b₁ v₁ → Reported x b v o r′ o₂ b₂ v₂ → (r ≡ r′) × (o₁ ≡ o₂) × (b₁ ≡ b₂) × (v₁ ≡ v₂)
-one-report s b v o p q = (p .0 ∙ sym (q .0), p .1 .0 ∙ sym (q .1 .0), p .1 .1 .0 ∙ sym (q .1 .1 .0), p .1 .1 .1 .0 ∙ sym (q .1 .1 .1 .0))
-
--- and two that satisfy that of `program`
-pub one-program : (s o : List ℕ) {r r′ : ℕ} {o₁ o₂ : List ℕ} → let x = readInput s zeroBytes zeroValues in
-    r ≡ reportLength x o → r′ ≡ reportLength x o → o₁ ≡ reportOut x o → o₂ ≡ reportOut x o → (r ≡ r′) × (o₁ ≡ o₂)
-one-program s o p p′ q q′ = (p ∙ sym p′, q ∙ sym q′)
 
 -- the test behind a state's line, once the rounds have settled
 pub line-exactly : (q : Question) → model.WellFormed (q .model) → formula.WellFormed (q .model .propositions) (q .rows) → fits (graphFor q) ≡ true

@@ -15,7 +15,7 @@ use Rattle.formula.specs.Formula.{rootOf}
 use Rattle.formula.specs.Message.{readFormula}
 use Rattle.formula.proofs.Exact.{accepted-written}
 use Rattle.text.specs.Text.{text}
-use Rattle.text.specs.Written.{writtenLength, writtenOf, roomOf}
+use Rattle.text.specs.Written.{writtenLength, writtenOf, textRoom}
 use Rattle.text.specs.declared.Written.{Written}
 use Rattle.text.specs.declared.Written.the-variants as Written
 use Rattle.text.proofs.Length.{accepted-text-length}
@@ -41,11 +41,11 @@ behind o k long h =
 
 -- what the writing of the text answers and leaves, in the front of a room
 pub text-laid : (p : ℕ) (s o : List ℕ) {r : Written} {b : List ℕ} {n : ℕ} → Bytes s → 2048 ≤ length o → r ≡ writtenOf (readFormula p s) (take 2048 o)
-    → b ≡ roomOf (readFormula p s) (take 2048 o) → n ≡ writtenLength r → Laid o 0 (textIn (readFormula p s)) (b ++ drop 2048 o) n
-unfolding textIn writtenOf roomOf laid
+    → b ≡ textRoom (readFormula p s) (take 2048 o) → n ≡ writtenLength r → Laid o 0 (textIn (readFormula p s)) (b ++ drop 2048 o) n
+unfolding textIn writtenOf textRoom laid
 text-laid p s o {r} {b} {n} bytes long answer room length-is = go (readFormula p s) (text-short p s bytes) answer room
   where
-    go : (x : Read (List Row)) → length (textIn x) ≤ 1152 → r ≡ writtenOf x (take 2048 o) → b ≡ roomOf x (take 2048 o) → Laid o 0 (textIn x) (b ++ drop 2048 o) n
+    go : (x : Read (List Row)) → length (textIn x) ≤ 1152 → r ≡ writtenOf x (take 2048 o) → b ≡ textRoom x (take 2048 o) → Laid o 0 (textIn x) (b ++ drop 2048 o) n
     go (good rows) short a l =
         let t : List ℕ = text (rootOf rows) in
         let fits = le-ltb (length (take 2048 o)) (length t) (omega (arith, length-take-le 2048 o long)) in

@@ -1,5 +1,4 @@
--- Laws of the rounds on a message: there is one answer and one content of the room, budgets that settle agree, and when BUDGET is given.
--- Assumes nothing.
+-- Laws of the rounds on a message: what count is reported, when BUDGET is given, and budgets that settle agree. Assumes nothing.
 use Prim.Native.Nat.{ℕ, suc, _+_, _<_, _≤_, min}
 use mathlib.Core.List.{List, _++_}
 use mathlib.Core.Bool.{Bool, true, false, cond}
@@ -18,15 +17,9 @@ use Rattle.rules.specs.Rounds.{rounds}
 use Rattle.rules.specs.Count.{count}
 use Rattle.graph.specs.Stored.{StoredGraph}
 use Rattle.graph.specs.Message.{readGraph}
-use Rattle.rounds.specs.declared.Outcome.{Outcome}
 use Rattle.rounds.specs.declared.Outcome.the-variants.{Settled, Spent, Refused}
 use Rattle.rounds.specs.Outcome.{outcomeCount, storedValues, filled, readRounds, ended, outcomeOf, roundsRoom}
 use Rattle.rounds.proofs.Promised.{stored-length, rounds-read}
-
--- two that satisfy the contract of `solve` are equal
-pub one-solve : (s : List ℕ) (budget : ℕ) (b : List ℕ) {r r′ : Outcome} {a a′ : List ℕ} → r ≡ outcomeOf (readRounds s b) budget
-    → r′ ≡ outcomeOf (readRounds s b) budget → a ≡ roundsRoom (readRounds s b) budget b → a′ ≡ roundsRoom (readRounds s b) budget b → (r ≡ r′) × (a ≡ a′)
-one-solve s budget b p q u w = (p ∙ sym q, u ∙ sym w)
 
 -- the reported count is the smaller of the budget and the first unchanged round
 pub count-reported : (g : Graph) (budget : ℕ) → outcomeCount (ended g budget) ≡ min (count g) budget

@@ -7,9 +7,10 @@
 --     Publishing the first half is brought up to the second, and what may change with it is marked
 --     Loop       the loop over rounds: where a turn begins, that what is marked is enough, and how a turn ends
 --     Promised   what the customer is promised follows from the definitions
---     Laws       one answer, two budgets that settle, when BUDGET is given
+--     Laws       what count is reported, when BUDGET is given, two budgets that settle
 --     Budget     BUDGET has its number to itself
 --     Begin      an accepted message is ready for the rounds, and so is the writing of a well-formed graph
+--     One        one answer of each public function
 pub mod Room
 pub mod Scan
 pub mod Next
@@ -21,3 +22,4 @@ pub mod Begin
 pub mod Infinite
 pub mod Noting
 pub mod Publishing
+pub mod One

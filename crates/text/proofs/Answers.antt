@@ -12,25 +12,25 @@ use Rattle.formula.specs.declared.Row.{Row}
 use Rattle.formula.specs.Formula.{rootOf}
 use Rattle.text.specs.Text.{text}
 use Rattle.wire.specs.Laid.{laid, Laid}
-use Rattle.text.specs.Written.{writtenOf, roomOf}
+use Rattle.text.specs.Written.{writtenOf, textRoom}
 use Rattle.text.specs.declared.Written.{Written}
 use Rattle.text.specs.declared.Written.the-variants.{Text, Refused}
 
 -- the answer r, and the room b′ that b became
 abbrev pub Answered : Read (List Row) → List ℕ → Written → List ℕ → Type 0
-Answered x b r b′ = (r ≡ writtenOf x b) × (b′ ≡ roomOf x b)
+Answered x b r b′ = (r ≡ writtenOf x b) × (b′ ≡ textRoom x b)
 
 pub refused : (x : Read (List Row)) (b : List ℕ) {e : Refusal} → x ≡ bad e → Answered x b (Refused e) b
-unfolding writtenOf roomOf
+unfolding writtenOf textRoom
 refused x b h = rw h (refl, refl)
 
 module _ (x : Read (List Row)) (b : List ℕ) (rows : List Row) (h : x ≡ good rows) where
   pub no-room : length b < length (text (rootOf rows)) → Answered x b (Refused Room) b
-  unfolding writtenOf roomOf
+  unfolding writtenOf textRoom
   no-room k = rw (h, lt-ltb (length b) (length (text (rootOf rows))) k) (refl, refl)
 
   pub written : {b′ : List ℕ} {n : ℕ} → Laid b 0 (text (rootOf rows)) b′ n → Answered x b (Text n) b′
-  unfolding writtenOf roomOf laid
+  unfolding writtenOf textRoom laid
   written {b′} {n} l =
       let t : List ℕ = text (rootOf rows) in
       let end : n ≡ length t = omega (arith, l .next-is) in

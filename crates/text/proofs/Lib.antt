@@ -6,7 +6,8 @@
 --     Rows       the text of a row is made of the texts of its operands
 --     Accepted   what an accepted message gives the writing of its text
 --     Answers    the answer and the room in each of the three cases
---     Laws       there is one answer, and the program's room is never too small
+--     Laws       the program's room is never too small
+--     One        one answer of each public function
 pub mod Decimal
 pub mod Length
 pub mod Tells
@@ -15,3 +16,4 @@ pub mod Rows
 pub mod Accepted
 pub mod Answers
 pub mod Laws
+pub mod One

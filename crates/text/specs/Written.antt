@@ -29,7 +29,7 @@ writtenOf (good rows) b =
 writtenOf (bad e) b = Written.Refused e
 
 -- the bytes past the text stay; a refusal leaves the room as it came
-unfoldable pub roomOf : Read (List Row) → List ℕ → List ℕ
-roomOf (good rows) b =
+unfoldable pub textRoom : Read (List Row) → List ℕ → List ℕ
+textRoom (good rows) b =
     cond (ltb (length b) (length (text (rootOf rows)))) b (text (rootOf rows) ++ drop (length (text (rootOf rows))) b)
-roomOf (bad e) b = b
+textRoom (bad e) b = b

@@ -6,7 +6,7 @@ ghost use lib.ListN.{length};
 ghost use Rattle.text.specs.Text as t;
 ghost use Rattle.wire.specs.Laid.{Laid};
 ghost use Rattle.text.specs.Rows.{rowText, Ready};
-ghost use Rattle.text.specs.Written.{writtenNumber, writtenLength, writtenOf, roomOf};
+ghost use Rattle.text.specs.Written.{writtenNumber, writtenLength, writtenOf, textRoom};
 ghost use Rattle.formula.specs.Message.{readFormula};
 use formula::Checked;
 use formula::Quantifier;
@@ -203,7 +203,7 @@ fn put_row(s: &[u8], i: u32, room: &mut [u8], at: usize) -> usize
 // Writes the text of a formula message, checked with the number of propositions it may name, where it fits.
 pub fn text(s: &[u8], p: u32, room: &mut [u8]) -> Written
     ensures answer { λ r. ⌜ r ≡ writtenOf (readFormula p (now (s .entry))) (now (room .entry)) ⌝ }
-    ensures room { λ _. ⌜ now (room .exit) ≡ roomOf (readFormula p (now (s .entry))) (now (room .entry)) ⌝ }
+    ensures room { λ _. ⌜ now (room .exit) ≡ textRoom (readFormula p (now (s .entry))) (now (room .entry)) ⌝ }
 {
     match formula::check(s, p) {
         Checked::Refused(e) => Written::Refused(e),

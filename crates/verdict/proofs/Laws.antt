@@ -1,5 +1,5 @@
--- Laws of the whole question: there is one answer and one content of both rooms, a budget that always settles, budgets that settle agree,
--- and there is one question that the messages write. Assumes nothing.
+-- Laws of the whole question: a budget that always settles, budgets that settle agree, and there is one question that the messages write.
+-- Assumes nothing.
 use Prim.Native.Nat.{ℕ, _+_, _*_, _≤_}
 use mathlib.Core.List.{List}
 use mathlib.Core.Path.{_≡_, refl, sym, _∙_}
@@ -14,31 +14,12 @@ use Rattle.graph.specs.Write.{writeGraph}
 use Rattle.rounds.specs.Outcome.{filled}
 use Rattle.model.proofs.Exact as model
 use Rattle.formula.proofs.Exact as formula
-use Rattle.build.specs.declared.Built.{Built}
-use Rattle.verdict.specs.declared.Answer.{Answer}
 use Rattle.verdict.specs.declared.AllStates.{AllStates}
 use Rattle.verdict.specs.declared.AllStates.the-variants as AllStates
 use Rattle.verdict.specs.Question.{Question, graphFor, ruledFor, rootNode}
-use Rattle.verdict.specs.Answer.{roomed, readBuilt, readSettled, readAsked, answerOf, allOf, builtAlone, bytesOf, valuesOf}
+use Rattle.verdict.specs.Answer.{roomed, allOf, valuesOf}
 use Rattle.verdict.specs.Promise.{Asks}
 use Rattle.verdict.proofs.Finished.{ended-as}
-
--- two that satisfy the contract of `decide` are equal
-pub one-decide : (m f : List ℕ) (state budget : ℕ) (b v : List ℕ) {r r′ : Answer} {a a′ w w′ : List ℕ} → let x = readAsked m f state b v in
-    r ≡ answerOf x state budget → r′ ≡ answerOf x state budget → a ≡ bytesOf x b → a′ ≡ bytesOf x b → w ≡ valuesOf x budget v
-    → w′ ≡ valuesOf x budget v → (r ≡ r′) × (a ≡ a′) × (w ≡ w′)
-one-decide m f state budget b v p p′ q q′ s s′ = (p ∙ sym p′, q ∙ sym q′, s ∙ sym s′)
-
--- and two that satisfy that of `settle`
-pub one-settle : (m f : List ℕ) (budget : ℕ) (b v : List ℕ) {r r′ : AllStates} {a a′ w w′ : List ℕ} → let x = readSettled m f b v in
-    r ≡ allOf x budget → r′ ≡ allOf x budget → a ≡ bytesOf x b → a′ ≡ bytesOf x b → w ≡ valuesOf x budget v
-    → w′ ≡ valuesOf x budget v → (r ≡ r′) × (a ≡ a′) × (w ≡ w′)
-one-settle m f budget b v p p′ q q′ s s′ = (p ∙ sym p′, q ∙ sym q′, s ∙ sym s′)
-
--- and two that satisfy that of `graph`
-pub one-graph : (m f b : List ℕ) {r r′ : Built} {a a′ : List ℕ} → let x = readBuilt m f b in
-    r ≡ builtAlone x → r′ ≡ builtAlone x → a ≡ bytesOf x b → a′ ≡ bytesOf x b → (r ≡ r′) × (a ≡ a′)
-one-graph m f b p p′ q q′ = (p ∙ sym p′, q ∙ sym q′)
 
 -- a budget of n (c + 1) rounds is never spent: where the graph passes no limit and both rooms are large enough, the question settles
 pub always-settles : (q : Question) (budget : ℕ) → let g = ruledFor q in g .nodes * (length (g .covers) + 1) ≤ budget

@@ -7,8 +7,9 @@
 --     Promised   what the customer is promised follows from the definitions
 --     Building   the graph alone: what is answered, what is left in the room, and what is promised of it
 --     Answering  what is shown of a call, exit by exit
---     Budget     no reading gives BUDGET, so its number is answered exactly where the count is greater than the budget
---     Laws       there is one answer, a budget that always settles, budgets that settle agree, and one question that the messages write
+--     Budget     its number is answered exactly where all that is asked for before it is good and the count is greater than the budget
+--     Laws       a budget that always settles, budgets that settle agree, and one question that the messages write
+--     One        one answer of each public function
 pub mod Reading
 pub mod Fitting
 pub mod Settling
@@ -19,3 +20,4 @@ pub mod Building
 pub mod Answering
 pub mod Budget
 pub mod Laws
+pub mod One

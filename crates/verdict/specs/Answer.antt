@@ -60,17 +60,6 @@ allLength (AllStates.Settled m n first states) = n
 allLength (AllStates.Spent m n) = n
 allLength (AllStates.Refused e) = 0
 
--- where state 0's number stands in the room of values, and how many states there are; 0 where nothing settled
-abbrev pub allFirst : AllStates → ℕ
-allFirst (AllStates.Settled m n first states) = first
-allFirst (AllStates.Spent m n) = 0
-allFirst (AllStates.Refused e) = 0
-
-abbrev pub allStates : AllStates → ℕ
-allStates (AllStates.Settled m n first states) = states
-allStates (AllStates.Spent m n) = 0
-allStates (AllStates.Refused e) = 0
-
 -- a question that is read: SIZE where its graph would pass a limit, then graph room
 unfoldable pub sized : Question → (bytes : List ℕ) → Read Question
 sized question bytes = do

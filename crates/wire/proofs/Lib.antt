@@ -14,6 +14,7 @@
 --     Written    records that are written one behind the other
 --     Laid       bytes laid into a room one after another are laid in at once; what a loop has still to lay in
 --     Spans      a loop over numbers that lays in the bytes of each
+--     One        one answer of each public function
 pub mod Bytes
 pub mod Fields
 pub mod Reading
@@ -29,3 +30,4 @@ pub mod Counts
 pub mod Written
 pub mod Laid
 pub mod Spans
+pub mod One

@@ -1,0 +1,102 @@
+/* The order of every parameter in C. A contract names parameters, so the proofs hold in any order of them: this program calls every
+ * exported function with values of which no two are alike, so that any two that change places change what it writes.
+ * bindings/check.sh builds and runs it, and compares what it writes with order.txt. */
+#include "otzarvim.h"
+
+#include <inttypes.h>
+#include <stdio.h>
+#include <string.h>
+
+/* 3 nodes, 2 hyperedges, 1 cover edge: 0 covers 1 with bound 5; 1 has {(4,2)}; 2 has {} */
+static const uint8_t graph[] = {
+    0, 0, 0, 36, 1, 1, 0, 3, 0, 0, 0, 2, 0, 1,
+    0, 1, 0, 1, 0, 0, 0, 4, 0, 2,
+    0, 2, 0, 0,
+    0, 0, 0, 0, 0, 5, 0, 1};
+
+/* 3 states, 5 propositions, 4 transitions */
+static const uint8_t model[] = {
+    0, 0, 0, 57, 1, 2, 0, 3, 5, 0, 0, 0, 4,
+    0, 0, 0, 1, 0, 0, 0, 2, 0, 0, 0, 0,
+    0, 0, 0, 0, 0, 3, 0, 0,
+    0, 0, 0, 0, 0, 2, 0, 1,
+    0, 1, 0, 0, 0, 0, 0, 1,
+    0, 2, 0, 0, 0, 1, 0, 2};
+
+/* E[p0 U<=2 p1] */
+static const uint8_t formula[] = {
+    0, 0, 0, 31, 1, 3, 3,
+    2, 0, 0, 0, 0, 0, 0, 0,
+    2, 1, 0, 0, 0, 0, 0, 0,
+    8, 0, 1, 0, 0, 0, 0, 2};
+
+static uint8_t bytes[256];
+static uint64_t values[32];
+static uint32_t counts[3], states[2], count, rows;
+static size_t length;
+static uint8_t verdict;
+
+/* Everything lent holds something else before each call. */
+static void lend(void)
+{
+    memset(bytes, 0xee, sizeof bytes);
+    memset(values, 0xee, sizeof values);
+    counts[0] = 901, counts[1] = 902, counts[2] = 903, states[0] = 904, states[1] = 905, count = 906, rows = 907, length = 908, verdict = 99;
+}
+
+static void sums(void)
+{
+    uint64_t b = 1, v = 1;
+    for (size_t i = 0; i < sizeof bytes; i++)
+        b = b * 31 + bytes[i];
+    for (size_t i = 0; i < sizeof values / sizeof *values; i++)
+        v = v * 31 + values[i];
+    printf(" rooms %016" PRIx64 " %016" PRIx64 "\n", b, v);
+}
+
+static void decide(uint32_t state, uint32_t budget)
+{
+    lend();
+    unsigned number = otzarvim_verdict(model, sizeof model, formula, sizeof formula, state, budget, bytes, 200, values, 30, &verdict, &count, &length);
+    printf("verdict on %" PRIu32 " with %" PRIu32 ": %u, verdict %u, count %" PRIu32 ", length %zu,", state, budget, number, verdict, count, length);
+    sums();
+}
+
+static void settle(uint32_t budget)
+{
+    lend();
+    unsigned number = otzarvim_settle(model, sizeof model, formula, sizeof formula, budget, bytes, 200, values, 30, &count, &length, states);
+    printf("settle with %" PRIu32 ": %u, count %" PRIu32 ", length %zu, states %" PRIu32 " %" PRIu32 ",", budget, number, count, length, states[0], states[1]);
+    sums();
+}
+
+int main(void)
+{
+    lend();
+    unsigned number = otzarvim_graph_check(graph, sizeof graph, counts);
+    printf("graph: %u, %" PRIu32 " %" PRIu32 " %" PRIu32 "\n", number, counts[0], counts[1], counts[2]);
+    number = otzarvim_model_check(model, sizeof model, counts);
+    printf("model: %u, %" PRIu32 " %" PRIu32 " %" PRIu32 "\n", number, counts[0], counts[1], counts[2]);
+    for (uint32_t p = 1; p <= 2; p++) {
+        lend();
+        number = otzarvim_formula_check(formula, sizeof formula, p, &rows);
+        printf("formula with %" PRIu32 ": %u, %" PRIu32 "\n", p, number, rows);
+    }
+    for (uint32_t budget = 1; budget <= 9; budget += 8) {
+        lend();
+        number = otzarvim_rounds_solve(graph, sizeof graph, budget, values, 7, &count);
+        printf("rounds with %" PRIu32 ": %u, count %" PRIu32 ",", budget, number, count);
+        sums();
+    }
+    lend();
+    number = otzarvim_formula_text(formula, sizeof formula, 2, bytes, 100, &length);
+    printf("text: %u, length %zu,", number, length);
+    sums();
+    lend();
+    number = otzarvim_graph(model, sizeof model, formula, sizeof formula, bytes, 200, &length);
+    printf("built: %u, length %zu,", number, length);
+    sums();
+    decide(0, 9), decide(2, 9), decide(1, 2), decide(2, 1), decide(9, 4);
+    settle(9), settle(2);
+    return 0;
+}
