@@ -26,7 +26,7 @@ use Rattle.formula.specs.declared.Quantifier.the-variants.{Some, Every}
 use Rattle.formula.specs.declared.Row.{Row}
 use Rattle.formula.specs.declared.Row.the-variants.{Until}
 use Rattle.formula.specs.Layouts.{rowAt, rowLayout}
-use Rattle.reduction.specs.Built.{to, hyper, stepEdges, helperEdges, isUntil, untils, layout}
+use Rattle.reduction.specs.Built.{to, hyper, ifAny, stepEdges, helperEdges, isUntil, untils, layout}
 use Rattle.build.specs.Held.{transitionLayout, transitionsFrom, heldModel, heldRows, HoldsModel, HoldsRows, Own}
 use Rattle.build.specs.Bytes.{singleWidth, hypersBytes, someSteps, everySteps, helperList, stepBytes, stepsBytes, helperBytes, helpersBytes, Narrow, HelpersFit}
 use Rattle.build.proofs.Accepted.{out-own}
@@ -40,7 +40,15 @@ use Rattle.wire.proofs.Written.{writeAll-append, writeAll-map, span-written}
 pub right-fits : (v n a : ℕ) (q : Quantifier) (l r h : ℕ) (us : List Transition) (at : ℕ) {size : ℕ}
     → at + length (hypersBytes v (helperList n a q l r h us)) ≤ size → at + singleWidth ≤ size
 right-fits v n a Some l r h us at f = first-fits v _ (someSteps us (a + n * l) (n * h)) at singleWidth (single-length v (to 0 (a + n * r))) f
-right-fits v n a Every l r h us at f = first-fits v _ ((to 0 (a + n * l) ∷ everySteps us (n * h)) ∷ []) at singleWidth (single-length v (to 0 (a + n * r))) f
+right-fits v n a Every l r h us at f = first-fits v _ (ifAny us ((to 0 (a + n * l) ∷ everySteps us (n * h)) ∷ [])) at singleWidth (single-length v (to 0 (a + n * r))) f
+
+-- what an A until has for transitions, where there is one and where there is none
+pub steps-some : {A : Type 0} (m : List ℕ) (n first many : ℕ) (x : List A) → 0 < many → ifAny (transitionsFrom m n first many) x ≡ x
+steps-some m n first many x some = rw (items-more (transitionLayout m) many (transitionAt n first) some)
+
+pub steps-none : {A : Type 0} (m : List ℕ) (n first many : ℕ) (x : List A) → many ≡ 0 → ifAny (transitionsFrom m n first many) x ≡ []
+unfolding items
+steps-none m n first many x none = rw none
 
 -- the second of an A until: a head, the target of left, and one for each transition
 pub every-parts : (v : ℕ) (ts : List Target) (left : Target) (steps : List Target)

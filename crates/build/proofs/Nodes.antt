@@ -27,7 +27,7 @@ use Rattle.formula.specs.declared.Row.the-variants.{Next, Until}
 use Rattle.formula.specs.Layouts.{rowAt, rowLayout}
 use Rattle.formula.specs.Rows.{operands}
 use Rattle.formula.specs.WellFormed.{RowAt}
-use Rattle.reduction.specs.Built.{to, hyper, out, near, rowEdges, stepEdges, layout}
+use Rattle.reduction.specs.Built.{to, hyper, out, near, rowEdges, ifAny, stepEdges, layout}
 use Rattle.build.specs.Held.{transitionsFrom, heldModel, heldRows, HoldsModel, HoldsRows, Own, Reads}
 use Rattle.build.specs.Bytes.{hypersBytes, nextEdges, helperList, rowBytes, rowsBytes, RowFits}
 use Rattle.wire.proofs.Written.{writeAll-append}
@@ -39,6 +39,11 @@ pub place-fits : (n r l : ℕ) → n * r + n ≤ 4096 → l < r → n * l + n �
 place-fits n r l h m =
     let below : n * suc l ≤ n * r = mul-le-mul-left n m in
     omega (arith, rw mul-suc at below)
+
+-- a list that is made of another has an element where that has one
+any-map : {A B C : Type 0} (f : A → B) (l : List A) (x : List C) → ifAny (map f l) x ≡ ifAny l x
+any-map f [] x = refl
+any-map f (a ∷ l) x = refl
 
 -- an operand's nodes stand before the row's
 pub operand-fits : {n r : ℕ} {row : Row} → RowFits n r row → (l : ℕ) → l ∈ operands row → n * l + n ≤ 4096
@@ -65,7 +70,7 @@ module _ (p : ℕ) {m : List ℕ} {n t a first many : ℕ} (o : Own m n t a firs
       → (to 0 (a + heldModel m n p t .states * r) ∷ []) ∷ stepEdges (heldModel m n p t) q l h a ≡ helperList n a q l r h (transitionsFrom m n first many)
   unfolding heldModel
   helper-are Some l r h = rw (out-are, map-map)
-  helper-are Every l r h = rw (out-are, map-map)
+  helper-are Every l r h = rw (out-are, map-map, any-map)
 
   -- they can be read, and lead to states
   pub own-read : (shift : ℕ) → HoldsModel m n p t → shift + n ≤ 4096 → Reads m n first many shift

@@ -21,7 +21,7 @@ use Rattle.formula.specs.declared.Quantifier.{Quantifier}
 use Rattle.formula.specs.declared.Quantifier.the-variants.{Some, Every}
 use Rattle.formula.specs.declared.Row.{Row}
 use Rattle.formula.specs.declared.Row.the-variants.{True, False, Proposition, Negation, And, Or, Next, Until}
-use Rattle.reduction.specs.Built.{to, out, near, rowEdges, helperEdges, isUntil, untils}
+use Rattle.reduction.specs.Built.{to, out, near, rowEdges, ifAny, helperEdges, isUntil, untils}
 use Rattle.build.specs.declared.sizing.Size.{Size}
 use Rattle.build.specs.Size.{noSize, addSize, sizeOf, stateEdges, rowsEdges, leafEdges, nextSize, stepSize, helperSize}
 use Rattle.build.specs.Bytes.{Narrow}
@@ -150,7 +150,14 @@ helper-size M row h a = by-row (λ row. sizeOf (helperEdges M row h a) ≡ helpe
     until Some l r b =
         let most : max 1 (cond (ltb n 1) 0 2) ≡ cond (ltb n 1) 1 2 = by-test (ltb n 1) (λ e. rw e) (λ e. rw e) in
         ap (addSize (record { hypers = 1; targets = 1; most = 1 })) (size-map _ 2 (λ t. refl) (out M a)) ∙ same refl (omega arith) most
-    until Every l r b = let k = length-map (out M a) (λ (t : Target). to (t .weight) (t .node + M .states * h)) in same refl (omega arith) (omega arith)
+    until Every l r b = every (out M a)
+      where
+        every : (ts : List Target) → sizeOf ((to 0 (a + M .states * r) ∷ []) ∷ ifAny ts ((to 0 (a + M .states * l) ∷ map (λ (t : Target). to (t .weight) (t .node + M .states * h)) ts) ∷ []))
+            ≡ stepSize Every (length ts)
+        every [] = refl
+        every (t ∷ ts) =
+            let k = length-map (t ∷ ts) (λ (t : Target). to (t .weight) (t .node + M .states * h)) in
+            rw (le-ltb (length (t ∷ ts)) 1 (omega arith)) (same refl (omega arith) (omega arith))
 
 -- both together, from the two
 pub state-size : (M : Model) (row : Row) (a : ℕ) {many : ℕ} {own helper : Size} → length (out M a) ≡ many → own ≡ sizeOf (rowEdges M row a) → helper ≡ helperSize row many
@@ -202,7 +209,7 @@ module _ (M : Model) (few : length (M .transitions) ≤ 65535) where
 
   step-small : (q : Quantifier) (a : ℕ) → Small 131071 (stepSize q (length (out M a)))
   step-small Some a = omega (arith, out-few a)
-  step-small Every a = omega (arith, out-few a)
+  step-small Every a = by-test (ltb (length (out M a)) 1) (λ e. rw e (omega arith)) (λ e. rw e (omega (arith, out-few a)))
 
   helper-small : (row : Row) (a : ℕ) → Small 131071 (helperSize row (length (out M a)))
   helper-small row a =
@@ -280,4 +287,5 @@ few-narrow M rows {row} few small m a l =
 
     until-few : (q : Quantifier) (l r : ℕ) (b : Bound) → true ≡ true → Within (Until q l r b) → length (out M a) < 65535
     until-few Some l r b e p = omega (arith, p .hypers, few)
-    until-few Every l r b e p = omega (arith, p .most, small)
+    until-few Every l r b e p =
+        by-test (ltb (length (out M a)) 1) (λ t. omega (arith, ltb-true)) (λ t. let q = rw t at p in omega (arith, q .most, small))

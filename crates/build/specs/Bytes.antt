@@ -17,7 +17,7 @@ use Rattle.formula.specs.declared.Quantifier.{Quantifier}
 use Rattle.formula.specs.declared.Quantifier.the-variants.{Some, Every}
 use Rattle.formula.specs.declared.Row.{Row}
 use Rattle.formula.specs.Rows.{operands}
-use Rattle.reduction.specs.Built.{to, hyper, out, rowEdges, stepEdges, helperEdges, ifUntil, layout}
+use Rattle.reduction.specs.Built.{to, hyper, out, rowEdges, ifAny, stepEdges, helperEdges, ifUntil, layout}
 
 -- how wide a hyperedge with one target and one with two are
 abbrev pub singleWidth : ℕ
@@ -63,7 +63,7 @@ nearbyBytes q v most shift us = writeAll (λ u. nearBytes q v (u .to + shift)) (
 -- the helper of state a at place h over a list of transitions: first {right at weight 0}
 abbrev pub helperList : (n a : ℕ) → Quantifier → (l r h : ℕ) → List Transition → List (List Target)
 helperList n a Some l r h us = (to 0 (a + n * r) ∷ []) ∷ someSteps us (a + n * l) (n * h)
-helperList n a Every l r h us = (to 0 (a + n * r) ∷ []) ∷ (to 0 (a + n * l) ∷ everySteps us (n * h)) ∷ []
+helperList n a Every l r h us = (to 0 (a + n * r) ∷ []) ∷ ifAny us ((to 0 (a + n * l) ∷ everySteps us (n * h)) ∷ [])
 
 -- what an until writes for a transition of this weight to this node of a helper, and what for those of a list
 unfoldable pub stepBytes : Quantifier → (v left weight node : ℕ) → List ℕ

@@ -45,7 +45,7 @@ nextSize Every near = record { hypers = 1; targets = near; most = near }
 
 abbrev pub stepSize : Quantifier → ℕ → Size
 stepSize Some many = record { hypers = 1 + many; targets = 1 + 2 * many; most = cond (ltb many 1) 1 2 }
-stepSize Every many = record { hypers = 2; targets = 2 + many; most = 1 + many }
+stepSize Every many = cond (ltb many 1) (record { hypers = 1; targets = 1; most = 1 }) (record { hypers = 2; targets = 2 + many; most = 1 + many })
 
 -- of a row's helper, which only an until has
 abbrev pub helperSize : Row → ℕ → Size

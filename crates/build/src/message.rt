@@ -144,6 +144,9 @@ fn put_helper(
     match q {
         Quantifier::Some => records::put_steps(room, second, m, n, q, v, first, many, left, shift),
         Quantifier::Every => {
+            if many < 1 {
+                return second;
+            }
             let head = records::put_head(room, second, v, many + 1);
             let targets = records::put_target(room, head, 0, left);
             records::put_steps(room, targets, m, n, q, v, first, many, left, shift)

@@ -121,11 +121,20 @@ fn helper_size(row: Row, many: u64) -> Size
             targets: 1 + 2 * many,
             most: if many < 1 { 1 } else { 2 },
         },
-        Quantifier::Every => Size {
-            hypers: 2,
-            targets: 2 + many,
-            most: 1 + many,
-        },
+        Quantifier::Every => {
+            if many < 1 {
+                return Size {
+                    hypers: 1,
+                    targets: 1,
+                    most: 1,
+                };
+            }
+            Size {
+                hypers: 2,
+                targets: 2 + many,
+                most: 1 + many,
+            }
+        }
     }
 }
 

@@ -1,7 +1,7 @@
 -- The messages of model M and of the formulas of T13 to T15 read back as themselves, by computation. Assumes nothing.
 use mathlib.Core.List.{List, [], _∷_, map}
 use mathlib.Core.Path.{_≡_, refl}
-use Rattle.lists.specs.Lists.{any, all, upTo}
+use Rattle.lists.specs.Lists.{all, upTo}
 use Rattle.value.specs.Coded.{boundOf}
 use Rattle.wire.specs.Bytes.{number, bytes}
 use Rattle.wire.specs.Field.{fieldAt}
@@ -10,7 +10,6 @@ use Rattle.wire.specs.Reader.{readAll}
 use Rattle.wire.specs.Start.{readStart}
 use Rattle.wire.specs.Counts.{readCount}
 use Rattle.wire.specs.Write.{writeAll, message}
-use Rattle.model.specs.Model.{leaves, noneDead}
 use Rattle.model.specs.Message as model
 use Rattle.model.specs.Write.{writeModel, writeBody, writeTransition}
 use Rattle.formula.specs.declared.Row.{Row}
@@ -20,7 +19,7 @@ use Rattle.formula.specs.Write.{writeFormula, writeRow}
 use Rattle.known.specs.Questions.{M, T13, T14, T15}
 
 pub model-read : model.readModel (writeModel M) ≡ good M
-unfolding number bytes fieldAt _>>=_ _>>_ demand ofField readAll readStart readCount writeAll message writeModel writeBody writeTransition model.readModel model.readHeader model.readLabel model.readTransition noneDead leaves any all upTo
+unfolding number bytes fieldAt _>>=_ _>>_ demand ofField readAll readStart readCount writeAll message writeModel writeBody writeTransition model.readModel model.readHeader model.readLabel model.readTransition
 model-read = refl
 
 abbrev formulas : List (List Row)

@@ -4,11 +4,11 @@ use native.Mathlib.Omega.{arith}
 use lib.Dec.{lit<}
 use mathlib.Core.Path.{_≡_, refl}
 use mathlib.Core.Logic.{_↔_}
-use mathlib.Core.List.{List, [], _∷_, List·Memᴰ·tail}
+use mathlib.Core.List.{List, [], _∷_}
 use mathlib.Core.Option.{some}
 use lib.ListN.{getElem?}
 use Rattle.lists.specs.Lists.{_∈_}
-use Rattle.lists.proofs.Places.{first, second, place-∈}
+use Rattle.lists.proofs.Places.{place-∈}
 use Rattle.lists.proofs.Each.{Each, each-none, each-more}
 use Rattle.value.specs.declared.Bound.{Bound}
 use Rattle.value.specs.declared.Bound.the-variants.{Within, Unbounded}
@@ -24,7 +24,6 @@ use Rattle.formula.specs.declared.Row.the-variants.{Proposition, Until}
 use Rattle.formula.specs.Rows.{operands}
 use Rattle.formula.specs.WellFormed.{RowAt}
 use Rattle.formula.proofs.Trees.{Ordered}
-use Rattle.runs.specs.Systems.{Leads}
 use Rattle.runs.proofs.Proper.{Proper}
 use Rattle.reduction.specs.Built.{graphOf}
 use Rattle.reduction.proofs.Built.{built-closed}
@@ -39,15 +38,10 @@ use Rattle.known.proofs.Table.{row-within, row-verdict}
 
 -- M is proper
 proper-M : Proper M
-proper-M = record { target = λ m. targets .at _ m; live = live }
+proper-M = record { target = λ m. targets .at _ m }
   where
     targets : Each (λ (t : Transition). t .to < 2) (M .transitions)
     targets = each-more (lit< tt) (each-more (lit< tt) (each-more (lit< tt) each-none))
-
-    live : (a : ℕ) → a < 2 → (w : ℕ) × (c : ℕ) × Leads M a w c
-    live zero l = (3, 0, first)
-    live (suc zero) l = (0, 1, List·Memᴰ·tail second)
-    live (suc (suc a)) l = absurd (omega arith)
 
 module _ (q : Quantifier) (b : Bound) where
   -- the rows are in order

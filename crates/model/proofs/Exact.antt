@@ -1,35 +1,29 @@
 -- A message is accepted as a model exactly when it is the writing of the model, and the model is well-formed. Assumes nothing.
 use Prim.Native.Nat.{ℕ, _+_, _*_, _^_, _≤_, _<_}
-use mathlib.Core.List.{List, _++_, map}
-use mathlib.Core.Bool.{true}
+use mathlib.Core.List.{List, _++_}
 use mathlib.Core.Logic.{_↔_}
 use mathlib.Core.Path.{_≡_, refl, sym, ap, _∙_}
 use native.Mathlib.Nat.{pow-le-pow-right}
 use native.Mathlib.Omega.{arith}
 use lib.ListN.{length, drop, length-append}
-use lib.Dec.{leb}
 use borrow.Author.Tests.{lt-ltb, le-leb, eq-eqb}
 use Rattle.lists.specs.Lists.{_∈_}
-use Rattle.lists.specs.Order.{Rising}
 use Rattle.wire.specs.declared.State.{State}
 use Rattle.wire.specs.Bytes.{bytes, Bytes}
 use Rattle.wire.specs.Read.{good, field}
 use Rattle.wire.specs.Start.{startWidth}
-use Rattle.wire.specs.Reader.{readAll}
 use Rattle.wire.specs.Write.{writeAll, message}
 use Rattle.wire.proofs.Bytes.{length-bytes}
 use Rattle.wire.proofs.Reading.{good-same}
-use Rattle.wire.proofs.Readers.{Ran}
 use Rattle.wire.proofs.Stands.{Stands, stands-first, stands-second, stands-both, stands-last, value-stands, stands-field}
 use Rattle.wire.proofs.Counts.{good-count}
 use Rattle.wire.proofs.Exact.{good-bind, good-after, good-demand, length-writeAll, Exact, FitsAll, all-reads, all-written, fits-map, fits-both, fits-each, each-fits, fits-rising, rising-fits, message-length, message-rest, start-reads, start-written}
-use Rattle.model.specs.Model.{Model, Transition, noneDead}
+use Rattle.model.specs.Model.{Model, Transition}
 use Rattle.wire.specs.Step.{start}
 use Rattle.model.specs.Format.{modelHeader, modelHead, statesCount, propositionsCount, transitionsCount, labelWidth, weightAt, toAt, transitionWidth, labelAt, modelLength}
 use Rattle.model.specs.Message.{readLabel, readTransition, readHeader, readModel, labels, transitions}
 use Rattle.model.specs.Write.{writeTransition, writeBody, writeModel}
 use Rattle.model.specs.WellFormed.{WellFormed}
-use Rattle.model.proofs.Dead.{live-each, each-live, dead-first}
 use Rattle.model.proofs.Good.{label-good, transition-good, HeaderAt, header-good, counts, ModelAt, model-good}
 
 -- ---- records
@@ -92,17 +86,6 @@ module _ (s : List ℕ) where
     moves = λ st t. rw transition-length;
   }
 
-  -- the transitions that are read are in order
-  read-rising : Bytes s → (n k at : ℕ) (ts : List Transition) → n ≤ 65536 → readAll (transitions s n) k (start at) ≡ good ts → Rising (map (λ t. t .from) ts)
-  read-rising b n k at ts small e =
-      let T = transitions s n in
-      fits-rising T (λ st. st .prev) (λ t. t .from) (λ st t. refl) (fits-map T (λ st t p. p .0) (all-reads (transitions-exact n small) b k (start at) ts e .1))
-
-  -- so the state past a good run of them tells whether one is dead
-  pub dead-known : Bytes s → (n k at : ℕ) (end : State) → n ≤ 65536 → (r : Ran (transitions s n) k (start at) end) → noneDead n (r .got) ≡ leb n (end .tally)
-  dead-known b n k at end small r =
-      dead-first s n at (r .got) (read-rising b n k at (r .got) small (r .there)) ∙ ap (λ (st : State). leb n (st .tally)) (r .ends)
-
 -- ---- whole messages
 
 -- the bytes of the counts
@@ -147,14 +130,14 @@ body-laid {s} M h =
 good-model : {s : List ℕ} (M : Model) → ModelAt s M → readModel s ≡ good M
 unfolding readModel
 good-model M p =
-    good-bind _ (p .header) (good-bind _ (p .labels-there) (good-bind _ (p .transitions-there) (good-demand _ (p .live) refl)))
+    good-bind _ (p .header) (good-bind _ (p .labels-there) (good-bind _ (p .transitions-there) refl))
 
--- a model is well-formed when its counts are within their limits, its records are those that the states demand, and none is dead
+-- a model is well-formed when its counts are within their limits and its records are those that the states demand
 fits-well : {s : List ℕ} {M : Model} {middle : ℕ} → HeaderAt s (counts M) → length (M .labels) ≡ M .states
     → FitsAll (labels s (M .propositions)) (λ st l. l < 2 ^ M .propositions) (start modelHeader) (M .labels)
     → FitsAll (transitions s (M .states)) (TransitionNext (M .states)) (start middle) (M .transitions)
-    → noneDead (M .states) (M .transitions) ≡ true → WellFormed M
-fits-well {s} {M} header labelled ls ts live =
+    → WellFormed M
+fits-well {s} {M} header labelled ls ts =
     let T = transitions s (M .states) in
     let each : (t : Transition) → t ∈ M .transitions → TransitionFits (M .states) t = λ t m. fits-each T (fits-map T (λ st t p. p .1) ts) m in
     record {
@@ -168,7 +151,6 @@ fits-well {s} {M} header labelled ls ts live =
       from-named = λ m. each _ m .from-named;
       to-named = λ m. each _ m .to-named;
       weights-fit = λ m. each _ m .weight-fits;
-      live = live-each (M .states) (M .transitions) live;
     }
 
 -- and the other way round
@@ -202,7 +184,7 @@ accepted-written s M b e =
       transitions-there = rw (p .labelled) (ts .0);
     }) in
     let rest : drop startWidth s ≡ writeBody M = stands-last body (omega (arith, body-length M, p .labelled, header .long)) in
-    (started .whole ∙ ap (message modelHead) rest, fits-well header (p .labelled) (ls .1) (ts .1) (p .live))
+    (started .whole ∙ ap (message modelHead) rest, fits-well header (p .labelled) (ls .1) (ts .1))
 
 pub written-accepted : (M : Model) → WellFormed M → readModel (writeModel M) ≡ good M
 unfolding readHeader writeModel
@@ -225,7 +207,6 @@ written-accepted M w =
       labels-there = rw (w .labelled) at labels-read;
       transitions-there =
           all-written (transitions-exact s (M .states) (omega arith)) (start middle) (M .transitions) (rw (w .labelled) at (laid .transitions-there)) (transitions-well s M w middle);
-      live = each-live (M .states) (M .transitions) (w .live);
     })
 
 pub accepted-exactly : (s : List ℕ) (M : Model) → Bytes s → (readModel s ≡ good M) ↔ ((s ≡ writeModel M) × WellFormed M)

@@ -19,15 +19,10 @@ use Rattle.wire.proofs.Fields.{value-inside}
 use Rattle.wire.proofs.Exact.{all-there}
 use Rattle.wire.proofs.Reading.{reading, bind-good, and-good, demand-good, field-good, good-same}
 use Rattle.wire.proofs.Readers.{all-length}
-use Rattle.model.specs.Model.{Model, Transition, noneDead}
+use Rattle.model.specs.Model.{Model, Transition}
 use Rattle.wire.specs.Step.{start}
 use Rattle.model.specs.Format.{modelHeader, modelHead, statesCount, propositionsCount, transitionsCount, weightAt, toAt, transitionWidth, labelAt, modelLength}
-use Rattle.model.specs.Message.{readLabel, readTransition, readHeader, readModel, labels, transitions, afterFrom, Counts}
-
-after-from-most : {n first from : ℕ} → first ≤ n → from < n → afterFrom first from ≤ n
-unfolding afterFrom
-after-from-most {n} {first} {from} most named =
-    by-test (eqb from first) (λ e. rw e (omega (arith, eqb-true))) (λ e. rw e most)
+use Rattle.model.specs.Message.{readLabel, readTransition, readHeader, readModel, labels, transitions, Counts}
 
 module _ (s : List ℕ) where
   -- what a good label says of the bytes
@@ -81,26 +76,12 @@ module _ (s : List ℕ) where
       let l = label-good p st (r .value) (r .first) in
       omega (arith, value-inside 4 s (st .at) (l .label-there), ap (λ (u : State). u .at) (good-same (r .rest)))
 
-  -- a transition moves the position past it, and the first state that none leaves is at most their number
-  pub transitions-stay : (n : ℕ) (st next : State) → st .tally ≤ n → one (transitions s n) st ≡ good next → (st .at + transitionWidth ≡ next .at) × (next .at ≤ length s) × (next .tally ≤ n)
-  transitions-stay n st next most e =
+  -- a transition moves the position past it, and leaves a state that exists
+  pub transitions-stay : (n : ℕ) (st next : State) → one (transitions s n) st ≡ good next → (st .at + transitionWidth ≡ next .at) × (next .at ≤ length s) × (next .prev < n)
+  transitions-stay n st next e =
       let r = bind-good _ _ e in
       let t = transition-good n st (r .value) (r .first) in
-      rw (← good-same (r .rest)) (refl, omega (arith, value-inside 2 s (st .at + toAt) (t .to-there)), after-from-most most (t .from-named))
-
-  -- one from the same state as the one before it, which is counted already, moves the position only
-  pub transition-goes-on : (n : ℕ) (st : State) {from weight to : ℕ} {r : Bool} → st .tally ≤ n → fieldAt 2 s (st .at) ≡ Number from → fieldAt 4 s (st .at + weightAt) ≡ Number weight
-      → fieldAt 2 s (st .at + toAt) ≡ Number to → r ≡ (eqb from (st .prev) && (ltb from (st .tally) && ltb to n)) → r ≡ true
-      → one (transitions s n) st ≡ good (record { at = st .at + transitionWidth; prev = st .prev; tally = st .tally })
-  unfolding readTransition afterFrom
-  transition-goes-on n st {from} {weight} {to} most from-there weight-there to-there tests passed =
-      let all = by tests passed in
-      let rest = and-right (eqb from (st .prev)) _ all in
-      let same : from ≡ st .prev = eqb-true _ _ (and-left _ (ltb from (st .tally) && ltb to n) all) in
-      let low : from < st .tally = ltb-true _ _ (and-left _ (ltb to n) rest) in
-      let to-named = and-right (ltb from (st .tally)) _ rest in
-      simp (reading, from-there, weight-there, to-there, lt-ltb from n (omega arith), le-leb (st .prev) from (omega arith), to-named, ne-eqb from (st .tally) (omega arith))
-      (λ i. good (record { at = st .at + transitionWidth; prev = same i; tally = st .tally }))
+      rw (← good-same (r .rest)) (refl, omega (arith, value-inside 2 s (st .at + toAt) (t .to-there)), t .from-named)
 
 -- what a good header says of the bytes
 pub record HeaderAt (s : List ℕ) (k : Counts) : Type 0 where
@@ -138,7 +119,6 @@ pub record ModelAt (s : List ℕ) (M : Model) : Type 0 where
   pub labelled : length (M .labels) ≡ M .states
   pub labels-there : readAll (labels s (M .propositions)) (M .states) (start modelHeader) ≡ good (M .labels)
   pub transitions-there : readAll (transitions s (M .states)) (length (M .transitions)) (start (labelAt (M .states))) ≡ good (M .transitions)
-  pub live : noneDead (M .states) (M .transitions) ≡ true
 
 pub model-good : {s : List ℕ} {M : Model} → readModel s ≡ good M → ModelAt s M
 unfolding readModel
@@ -146,12 +126,10 @@ model-good {s} e =
     let k = bind-good _ _ e in
     let ls = bind-good _ _ (k .rest) in
     let ts = bind-good _ _ (ls .rest) in
-    let d = demand-good _ _ _ (ts .rest) in
     let t : k .value .transitions ≡ length (ts .value) = sym (all-length _ _ _ _ (ts .first)) in
-    subst (ModelAt s) (good-same (d .1)) (record {
+    subst (ModelAt s) (good-same (ts .rest)) (record {
       header = k .first ∙ λ i. good (record { states = k .value .states; propositions = k .value .propositions; transitions = t i });
       labelled = all-length _ _ _ _ (ls .first);
       labels-there = ls .first;
       transitions-there = all-there _ _ _ _ (ts .first);
-      live = d .0;
     })

@@ -1,13 +1,11 @@
 -- Laws of model messages.
 --     Good       what a good reading says of the bytes
 --     Answered   the reading from an answer
---     Dead       the first state that no transition leaves tells whether a state is dead
 --     Exact      accepted messages are exactly the writings of well-formed models
 --     Bits       a label has no bit at p or above exactly when it is below 2 ^ p
 --     One        one answer of each public function
 pub mod Good
 pub mod Answered
-pub mod Dead
 pub mod Exact
 pub mod Bits
 pub mod One

@@ -1,24 +1,18 @@
 -- The reading of a model message s: its first fault in the paper's order, or the model.
--- A state's `at` is a position in s, `prev` the `from` before, and `tally` the first state that no transition so far leaves.
+-- A state's `at` is a position in s, and `prev` the `from` before.
 use Prim.Native.Nat.{ℕ, _+_, _*_, _^_}
 use mathlib.Core.List.{List}
-use mathlib.Core.Bool.{cond}
 use lib.ListN.{length}
 use lib.Dec.{leb, ltb, eqb}
-use Rattle.refusal.specs.declared.Refusal.the-variants.{Length, Order, Name, Dead, Form}
+use Rattle.refusal.specs.declared.Refusal.the-variants.{Length, Order, Name, Form}
 use Rattle.wire.specs.Read.{Read, good, _>>=_, _>>_, demand, field}
 use Rattle.wire.specs.Reader.{Reader, readAll}
 use Rattle.wire.specs.Start.{readStart}
 use Rattle.wire.specs.Counts.{readCount}
 use Rattle.wire.specs.Step.{start}
 use Rattle.wire.specs.declared.State.{State}
-use Rattle.model.specs.Model.{Model, Transition, noneDead}
+use Rattle.model.specs.Model.{Model, Transition}
 use Rattle.model.specs.Format.{modelHeader, modelHead, statesCount, propositionsCount, transitionsCount, labelWidth, weightAt, toAt, transitionWidth, labelAt, modelLength}
-
--- with transitions in order, the first state that none leaves: the next one where a transition leaves this one. It serves the check;
--- what is read does not depend on it, for DEAD is `noneDead`
-unfoldable pub afterFrom : ℕ → ℕ → ℕ
-afterFrom first from = cond (eqb from first) (first + 1) first
 
 module _ (s : List ℕ) where
   -- a label (4): a bit at p or above is FORM
@@ -52,7 +46,7 @@ module _ (s : List ℕ) where
   transitions n = record {
     position = λ st. st .at;
     read = readTransition n;
-    next = λ st t. record { at = st .at + transitionWidth; prev = t .from; tally = afterFrom (st .tally) (t .from) };
+    next = λ st t. record { at = st .at + transitionWidth; prev = t .from; tally = st .tally };
   }
 
 -- the counts of a header
@@ -71,11 +65,10 @@ readHeader s = do
   demand (eqb (length s) (modelLength n t)) Length
   good (record { states = n; propositions = p; transitions = t })
 
--- a whole message: the header, the labels, the transitions, and after all of them DEAD
+-- a whole message: the header, the labels, the transitions
 unfoldable pub readModel : List ℕ → Read Model
 readModel s = do
   counts ← readHeader s
   ls ← readAll (labels s (counts .propositions)) (counts .states) (start modelHeader)
   ts ← readAll (transitions s (counts .states)) (counts .transitions) (start (labelAt (counts .states)))
-  demand (noneDead (counts .states) ts) Dead
   good (record { states = counts .states; propositions = counts .propositions; labels = ls; transitions = ts })

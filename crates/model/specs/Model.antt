@@ -4,7 +4,6 @@ use mathlib.Core.List.{List}
 use mathlib.Core.Bool.{Bool}
 use lib.ListN.{getD}
 use lib.Dec.{eqb}
-use Rattle.lists.specs.Lists.{any, all, upTo}
 
 -- a step from one state to another, with its weight
 pub record Transition : Type 0 where
@@ -26,11 +25,3 @@ bit label i = eqb (label / 2 ^ i % 2) 1
 -- proposition i holds in state a: the state's label says so
 abbrev pub holds : Model → ℕ → ℕ → Bool
 holds M i a = bit (getD (M .labels) a 0) i
-
--- some transition leaves the state
-unfoldable pub leaves : List Transition → ℕ → Bool
-leaves ts a = any (λ t. eqb (t .from) a) ts
-
--- no state is without a transition
-unfoldable pub noneDead : ℕ → List Transition → Bool
-noneDead n ts = all (leaves ts) (upTo n)

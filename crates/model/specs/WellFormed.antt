@@ -1,4 +1,4 @@
--- The models that messages say: every count within its limit, every list in order, every name of a state that exists, no dead state.
+-- The models that messages say: every count within its limit, every list in order, every name of a state that exists.
 use Prim.Native.Nat.{ℕ, _≤_, _<_, _^_}
 use mathlib.Core.List.{map}
 use mathlib.Core.Path.{_≡_}
@@ -21,5 +21,3 @@ pub record WellFormed (M : Model) : Type 0 where
   pub from-named : {t : Transition} → t ∈ M .transitions → t .from < M .states
   pub to-named : {t : Transition} → t ∈ M .transitions → t .to < M .states
   pub weights-fit : {t : Transition} → t ∈ M .transitions → t .weight < 2 ^ 32
-  -- some transition leaves each state
-  pub live : (a : ℕ) → a < M .states → (t : Transition) × (t ∈ M .transitions) × (t .from ≡ a)

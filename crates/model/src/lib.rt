@@ -1,8 +1,6 @@
 // The check of a model message: the first fault in the paper's order, or the counts of its header.
 ghost use mathlib.Core.Path.{_≡_};
-ghost use Prim.Native.Nat.{ℕ, _+_, _*_, _≤_, _^_};
-ghost use mathlib.Core.Bool.{_&&_};
-ghost use lib.Dec.{eqb, ltb};
+ghost use Prim.Native.Nat.{ℕ, _+_, _*_, _≤_, _<_, _^_};
 ghost use lib.ListN.{length};
 ghost use Rattle.wire.specs.declared.Field.the-variants.{Number};
 ghost use Rattle.wire.specs.Field.{fieldAt};
@@ -134,26 +132,23 @@ fn labels(s: &[u8], p: u32, k: u32, first: State) -> Step
     Step::Next(st)
 }
 
-// Whether a transition leaves the same state as the one before it, which is counted already, to one of the n states.
-fn goes_on(n: u32, st: State, from: u32, to: u32) -> bool
-    ensures { λ r. ⌜ r ≡ (eqb from (st .prev) && (ltb from (st .tally) && ltb to n)) ⌝ }
-{
-    from == st.prev && (from < st.tally && to < n)
-}
-
-// One transition of a model with n states, whose last field is there, and so are those before it. One that goes on moves the position only.
+// One transition of a model with n states, whose last field is there, and so are those before it. Most leave the state that the one
+// before them leaves, which exists.
 fn transition(s: &[u8], n: u32, to: u32, st: State) -> Step
     requires { ⌜ fieldAt 2 (now s) (st .at + toAt) ≡ Number to ⌝ }
-    requires { ⌜ (n ≤ 256) × (st .tally ≤ n) ⌝ }
+    requires { ⌜ st .prev < n ⌝ }
     ensures { λ r. ⌜ r ≡ step (one (m.transitions (now (s .entry)) n) st) ⌝ }
 {
     let at = st.at;
     let from = wire::number_at(s, at, Width::Two);
     let end = at + TRANSITION;
-    if goes_on(n, st, from, to) {
+    if from == st.prev {
+        if n <= to {
+            return Step::Refused(Refusal::Name);
+        }
         return Step::Next(State {
             at: end,
-            prev: st.prev,
+            prev: from,
             tally: st.tally,
         });
     }
@@ -166,28 +161,16 @@ fn transition(s: &[u8], n: u32, to: u32, st: State) -> Step
     if n <= to {
         return Step::Refused(Refusal::Name);
     }
-    let first = after_from(st.tally, from);
     Step::Next(State {
         at: end,
         prev: from,
-        tally: first,
+        tally: st.tally,
     })
-}
-
-// The first state that no transition so far leaves, after one more.
-fn after_from(first: u32, from: u32) -> u32
-    requires { ⌜ first ≤ 256 ⌝ }
-    ensures { λ r. ⌜ r ≡ m.afterFrom first from ⌝ }
-{
-    if from == first {
-        return first + 1;
-    }
-    first
 }
 
 // The k transitions up to the end of the message: where no last field fits, none is left.
 fn transitions(s: &[u8], n: u32, start: State) -> Step
-    requires { ⌜ (start .at ≤ length (now s)) × (n ≤ 256) × (start .tally ≤ n) ⌝ }
+    requires { ⌜ (start .at ≤ length (now s)) × (start .prev < n) ⌝ }
     ensures { λ r. ⌜ ((k : ℕ) → start .at + k * transitionWidth ≡ length (now (s .entry)) → r ≡ step (run (m.transitions (now (s .entry)) n) k start)) ⌝ }
 {
     let mut st = start;
@@ -251,7 +234,7 @@ pub fn check(s: &[u8]) -> Checked
         return Checked::Refused(e);
     }
     let middle = HEADER + (n as usize) * LABEL;
-    let first = match transitions(
+    if let Step::Refused(e) = transitions(
         s,
         n,
         State {
@@ -260,11 +243,7 @@ pub fn check(s: &[u8]) -> Checked
             tally: 0,
         },
     ) {
-        Step::Next(st) => st.tally,
-        Step::Refused(e) => return Checked::Refused(e),
-    };
-    if first < n {
-        return Checked::Refused(Refusal::Dead);
+        return Checked::Refused(e);
     }
     head
 }

@@ -29,7 +29,7 @@ use Rattle.formula.proofs.Trees.{Ordered, ordered}
 use Rattle.runs.specs.Systems.{Leads}
 use Rattle.runs.proofs.Proper.{Proper, proper}
 use Rattle.reduction.specs.Built.{to, out, near, rowEdges, stepEdges, helperEdges, rowCovers, isUntil, untils, layout, hyper, cover, graphOf, Fits}
-use Rattle.reduction.proofs.Out.{out-leads, near-leads}
+use Rattle.reduction.proofs.Out.{∈-any, out-leads, near-leads}
 use Rattle.reduction.proofs.Stands.{Stands, of-until, OfRow, OfHelper, hyper-stands, cover-stands, edges, places, node-lt, helper-lt}
 
 -- ---- sources rise: those of a node, of a row, of rows
@@ -102,9 +102,11 @@ module _ (M : Model) (rows : List Row) where
         each-map (λ (t : Target). to 0 (a + s * j) ∷ to (t .weight) (t .node + s * h) ∷ []) (out M a)
         (λ t m. each-more (still l p) (each-more (moved (out-leads M a m) p′) each-none))
     step-made Every {j} {h} {a} p p′ l =
+        let edge : Each (Each Made) ((to 0 (a + s * j) ∷ map (λ (t : Target). to (t .weight) (t .node + s * h)) (out M a)) ∷ []) =
         each-more
         (each-more (still l p) (each-map (λ (t : Target). to (t .weight) (t .node + s * h)) (out M a) (λ t m. moved (out-leads M a m) p′)))
-        each-none
+        each-none in
+        record { at = λ ts m. edge .at ts (∈-any (out M a) m .2) }
 
     module _ (order : Ordered rows) where
       operand-lt : {row : Row} → row ∈ rows → (l : ℕ) → l ∈ operands row → l < places M rows

@@ -5,10 +5,11 @@ use native.Mathlib.Nat.{le-refl, not-suc-le-zero}
 use lib.ListN.{length}
 use mathlib.Core.Path.{_≡_, refl}
 use mathlib.Core.Logic.{inl, inr}
-use mathlib.Core.Bool.{true}
+use mathlib.Core.Bool.{true, false}
 use mathlib.Core.Option.{some}
 use mathlib.Core.List.{List, [], _∷_, map, List·Memᴰ·tail, Memᴰ·map}
 use Rattle.lists.specs.Lists.{_∈_}
+use Rattle.lists.proofs.Tests.{clash}
 use Rattle.lists.proofs.Places.{first, second, element}
 use Rattle.lists.proofs.Each.{each-none, each-more, each-map}
 use Rattle.value.specs.declared.Bound.{Bound}
@@ -30,9 +31,10 @@ use Rattle.runs.specs.Systems.{Leads, systemOf}
 use Rattle.runs.specs.Sat as sat
 use Rattle.runs.specs.Sat.{Sat}
 use Rattle.runs.proofs.Proper.{Proper}
-use Rattle.runs.proofs.Walks.{Move, Climbs, E-value, A-value}
+use Rattle.runs.proofs.Strategies.{Choice, go, stop, Strategy, price, onward, stops, first-step}
+use Rattle.runs.proofs.Walks.{Climbs, E-value, A-value}
 use Rattle.reduction.specs.Built.{to, out, near, helperEdges, helperAt, graphOf}
-use Rattle.reduction.proofs.Out.{leads-out, out-leads, leads-near, near-leads}
+use Rattle.reduction.proofs.Out.{any-∈, leads-out, out-leads, leads-near, near-leads}
 use Rattle.reduction.proofs.Stands.{node-lt, helper-lt}
 use Rattle.reduction.proofs.Blocks.{Cheap, Why, by-limit, by-edge, row-why, helper-why}
 use Rattle.reduction.proofs.Sound.{Holds}
@@ -75,24 +77,32 @@ module _ (M : Model) (rows : List Row) (ok : Proper M) (order : Ordered rows) (x
         (each-more (zero-sum d j left a l h) (each-more (plus-≼ w (value c) p (le-refl d)) each-none))
 
     -- A: along a step with the greatest weight plus helper value
-    A-climb : RowAt rows r (Until Every j k b) → (a : ℕ) → a < s → (m : Move M a) × Climbs (Holds M rows j) value a (m .weight) (m .state)
-    A-climb at a l =
-        let (w, c, m) = ok .live a l in
-        let p = peak (λ (t : Target). plus (t .weight) (value (t .node))) (leads-out M a m) in (
-          record { weight = p .top .weight; state = p .top .node; step = out-leads M a (p .there) },
-          λ h e v.
-              let d = p .top .weight + e in
-              value-≼ Every at l (to 0 (a + s * j) ∷ map (λ (t : Target). to (t .weight) (t .node + s * H)) (out M a)) second
-              (each-more (zero-sum d j left a l h) (each-map (λ (t : Target). to (t .weight) (t .node + s * H)) (out M a)
-              (λ t n. p .above .at t n .carries (plus-≼ (p .top .weight) (value (p .top .node)) v (le-refl d))))),
-        )
+    abbrev top : {a : ℕ} → Choice (systemOf M) a → Choice (systemOf M) a
+    top {a} (go w c m) =
+        let p = peak (λ (t : Target). plus (t .weight) (value (t .node))) (leads-out M a m) in
+        go (p .top .weight) (p .top .node) (out-leads M a (p .there))
+    top (stop d) = stop d
+
+    abbrev top-step : Strategy (systemOf M)
+    top-step a = top (first-step M a)
+
+    A-climb : RowAt rows r (Until Every j k b) → {a : ℕ} → a < s → (m : Choice (systemOf M) a) → stops (top m) ≡ false
+        → Climbs (Holds M rows j) value a (price (top m)) (onward (top m))
+    A-climb at {a} l (go w c m) on h e v =
+        let p = peak (λ (t : Target). plus (t .weight) (value (t .node))) (leads-out M a m) in
+        let d = p .top .weight + e in
+        value-≼ Every at l (to 0 (a + s * j) ∷ map (λ (t : Target). to (t .weight) (t .node + s * H)) (out M a))
+        (List·Memᴰ·tail (any-∈ (p .there) first))
+        (each-more (zero-sum d j left a l h) (each-map (λ (t : Target). to (t .weight) (t .node + s * H)) (out M a)
+        (λ t n. p .above .at t n .carries (plus-≼ (p .top .weight) (value (p .top .node)) v (le-refl d)))))
+    A-climb at l (stop d) on h e v = clash refl on
 
     -- where the until holds, the helper's value is within the bound
     helper-complete : (q : Quantifier) → RowAt rows r (Until q j k b) → (a : ℕ) → a < s → sat.Until (systemOf M) q (Holds M rows j) (Holds M rows k) b a
         → meets b (value a) ≡ true
     helper-complete Some at a l u = E-value M ok (Holds M rows j) (Holds M rows k) value (start Some at) b (E-climb at) a l u
     helper-complete Every at a l u =
-        A-value M ok (Holds M rows j) (Holds M rows k) value (start Every at) b (λ a l. A-climb at a l .0) (λ a l. A-climb at a l .1) a l u
+        A-value M ok (Holds M rows j) (Holds M rows k) value (start Every at) b top-step (λ a l. A-climb at l (first-step M a)) a l u
 
   -- where a row's formula holds there is a reason for 0
   row-complete : (r : ℕ) (row : Row) → RowAt rows r row → ((l : ℕ) → l ∈ operands row → RowZero l) → (a : ℕ) (l : a < s)

@@ -1,19 +1,30 @@
--- The list of a state's transitions has what leads from the state, and nothing else; so do those within a bound. Assumes nothing.
+-- The list of a state's transitions has what leads from the state, and nothing else; so do those within a bound. What stands where a list
+-- has an element. Assumes nothing.
 use Prim.Native.Nat.{ℕ}
 use borrow.Author.Tests.{eq-eqb, eqb-true}
 use lib.Dec.{eqb}
 use mathlib.Core.Path.{_≡_, refl, sym}
 use mathlib.Core.Bool.{Bool, true}
-use mathlib.Core.List.{Memᴰ·cast, Memᴰ·map, Memᴰ·of-map}
+use mathlib.Core.List.{List, [], _∷_, Memᴰ·cast, Memᴰ·map, Memᴰ·of-map}
 use Rattle.lists.specs.Lists.{_∈_}
 use Rattle.lists.specs.Making.{keep}
 use Rattle.lists.proofs.Making.{∈-keep, keep-∈}
+use Rattle.lists.proofs.Places.{first}
 use Rattle.value.specs.declared.Bound.{Bound}
 use Rattle.value.specs.Value.{inside}
 use Rattle.rules.specs.Graph.{Target}
 use Rattle.model.specs.Model.{Model, Transition}
 use Rattle.runs.specs.Systems.{Leads}
-use Rattle.reduction.specs.Built.{to, out, near}
+use Rattle.reduction.specs.Built.{to, out, near, ifAny}
+
+module _ {A B : Type 0} where
+  pub any-∈ : {l : List A} {t : A} {x : B} {xs : List B} → t ∈ l → x ∈ xs → x ∈ ifAny l xs
+  any-∈ {l = []} m n = elim m [ ]
+  any-∈ {l = a ∷ l} m n = n
+
+  pub ∈-any : (l : List A) {x : B} {xs : List B} → x ∈ ifAny l xs → (t : A) × (t ∈ l) × (x ∈ xs)
+  ∈-any [] n = elim n [ ]
+  ∈-any (a ∷ l) n = (a, first, n)
 
 module _ (M : Model) (a : ℕ) where
   abbrev from-here : Transition → Bool

@@ -33,7 +33,7 @@ use Rattle.runs.proofs.Proper.{Proper}
 use Rattle.runs.proofs.Untils.{E-later, A-later, weaken}
 use Rattle.runs.proofs.Walks.{until-now}
 use Rattle.reduction.specs.Built.{to, out, near, rowEdges, stepEdges, helperEdges, helperAt, graphOf}
-use Rattle.reduction.proofs.Out.{leads-out, out-leads, leads-near, near-leads}
+use Rattle.reduction.proofs.Out.{∈-any, leads-out, out-leads, leads-near, near-leads}
 use Rattle.reduction.proofs.Blocks.{Cheap, Why, by-limit, by-edge, why-row, why-helper}
 
 -- a hyperedge that stands only where a test passes
@@ -106,13 +106,11 @@ module _ (M : Model) (rows : List Row) where
           let h = out-leads M a n in
           let (i, u, fits) = next-sound Some hp h p second in
           E-later S (Holds j) (Holds k) h (target-sound j left l p first) u fits
-      step-sound Every left hp a l d ts m p = A-later S (Holds j) (Holds k) (target-sound j left l cheap first) onward
-        where
-          cheap : Cheap y d (to 0 (a + s * j) ∷ map (λ (t : Target). to (t .weight) (t .node + s * H)) (out M a))
-          cheap = rw (List·Memᴰ·eq-of-singleton m) at p
-
-          onward : (w c : ℕ) → Leads M a w c → (e : ℕ) × sat.Until S Every (Holds j) (Holds k) (Within e) c × (w + e ≤ d)
-          onward w c h = next-sound Every hp h cheap (List·Memᴰ·tail (Memᴰ·map (λ (t : Target). to (t .weight) (t .node + s * H)) (leads-out M a h)))
+      step-sound Every left hp a l d ts m p =
+          let (t, n, e) = ∈-any (out M a) m in
+          let cheap = rw (List·Memᴰ·eq-of-singleton e) at p in
+          A-later S (Holds j) (Holds k) (target-sound j left l cheap first) (λ dead. dead (t .weight) (t .node) (out-leads M a n))
+          (λ w c h. next-sound Every hp h cheap (List·Memᴰ·tail (Memᴰ·map (λ (t : Target). to (t .weight) (t .node + s * H)) (leads-out M a h))))
 
       helper-sound : (q : Quantifier) (b : Bound) → RowSound y j → RowSound y k → HelperSound y r q j k → (a : ℕ) → a < s → (d : ℕ) (ts : List Target)
           → ts ∈ helperEdges M (Until q j k b) H a → Cheap y d ts → sat.Until S q (Holds j) (Holds k) (Within d) a

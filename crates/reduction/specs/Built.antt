@@ -42,11 +42,16 @@ rowEdges M (Next Some l b) a = map (λ (t : Target). to 0 (t .node + M .states *
 rowEdges M (Next Every l b) a = map (λ (t : Target). to 0 (t .node + M .states * l)) (near M b a) ∷ []
 rowEdges M (Until q l r b) a = []
 
+-- what stands only where a list has an element
+abbrev pub ifAny : {A B : Type 0} → List A → List B → List B
+ifAny [] x = []
+ifAny (a ∷ l) x = x
+
 -- of an until's helper node, those behind the first; l is the left row, and the helper stands at place h among rows and helpers.
--- E: per transition {left at 0, the successor's helper at its weight}. A: a single one {left at 0, then all successors' helpers}
+-- E: per transition {left at 0, the successor's helper at its weight}. A: a single one {left at 0, then all successors' helpers}, where there is a transition
 abbrev pub stepEdges : Model → Quantifier → ℕ → ℕ → ℕ → List (List Target)
 stepEdges M Some l h a = map (λ (t : Target). to 0 (a + M .states * l) ∷ to (t .weight) (t .node + M .states * h) ∷ []) (out M a)
-stepEdges M Every l h a = (to 0 (a + M .states * l) ∷ map (λ (t : Target). to (t .weight) (t .node + M .states * h)) (out M a)) ∷ []
+stepEdges M Every l h a = ifAny (out M a) ((to 0 (a + M .states * l) ∷ map (λ (t : Target). to (t .weight) (t .node + M .states * h)) (out M a)) ∷ [])
 
 -- what f makes of an until row's parts; of any other row, x
 abbrev pub ifUntil : {X : Type 0} → Row → (Quantifier → ℕ → ℕ → Bound → X) → X → X

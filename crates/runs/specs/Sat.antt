@@ -1,5 +1,5 @@
--- What it is for a state to satisfy a formula, by its runs.
-use Prim.Native.Nat.{ℕ, _<_}
+-- What it is for a state to satisfy a formula, by its maximal runs.
+use Prim.Native.Nat.{ℕ, _≤_, _<_}
 use mathlib.Core.Path.{_≡_}
 use mathlib.Core.Logic.{_⊎_}
 use mathlib.Core.Bool.{true, false}
@@ -9,7 +9,7 @@ use Rattle.formula.specs.declared.Quantifier.{Quantifier}
 use Rattle.formula.specs.declared.Quantifier.the-variants.{Some, Every}
 use Rattle.formula.specs.Formula.{Formula, true′, false′, prop, not-prop, and, or, next, until}
 use Rattle.runs.specs.Systems.{System}
-use Rattle.runs.specs.Runs.{Run, total}
+use Rattle.runs.specs.Runs.{Run, endless, ending, total}
 
 -- EX: some step of weight within the bound leads to a state with P. AX: all such steps do
 abbrev pub Next : (S : System) → Quantifier → (S .State → Type 0) → Bound → S .State → Type 0
@@ -23,10 +23,15 @@ pub record Witness {A : Type 0} (L R : A → Type 0) (b : Bound) (at : ℕ → A
   pub cost : inside b (total weight position) ≡ true
   pub before : (i : ℕ) → i < position → L (at i)
 
--- E until: on some run from the state there is such a position. A until: on every run
+-- a run has such a position: on an ending run, one up to the last
+abbrev pub Witnessed : {S : System} {a : S .State} → (L R : S .State → Type 0) → Bound → Run S a → Type 0
+Witnessed L R b (endless ρ) = Witness L R b (ρ .at) (ρ .weight)
+Witnessed L R b (ending ρ) = (k : Witness L R b (ρ .at) (ρ .weight)) × (k .position ≤ ρ .last)
+
+-- E until: some maximal run from the state has such a position. A until: every one has
 abbrev pub Until : (S : System) → Quantifier → (L R : S .State → Type 0) → Bound → S .State → Type 0
-Until S Some L R b a = (ρ : Run S a) × Witness L R b (ρ .at) (ρ .weight)
-Until S Every L R b a = (ρ : Run S a) → Witness L R b (ρ .at) (ρ .weight)
+Until S Some L R b a = (ρ : Run S a) × Witnessed L R b ρ
+Until S Every L R b a = (ρ : Run S a) → Witnessed L R b ρ
 
 -- the state a satisfies the formula
 abbrev pub Sat : (S : System) → Formula → S .State → Type 0

@@ -1,18 +1,15 @@
--- `model::check` meets its contract: the header, the labels, the transitions, and whether a state is dead.
+-- `model::check` meets its contract: the header, the labels, the transitions.
 use Prim.Native.Nat.{_+_, _*_}
 use mathlib.Core.Path.{_≡_, sym, _∙_}
 use denote.Ref.{now}
-use borrow.Author.Tests.{lt-leb, le-leb}
 use borrow.Author.Needs.{needs}
 use native.Mathlib.Omega.{arith}
-use lib.Dec.{leb}
 use Rattle.lists.proofs.Tests.{by}
 use Rattle.wire.specs.Read.{good}
 use Rattle.wire.specs.Reader.{run}
 use Rattle.wire.proofs.Reading.{reading}
 use Rattle.wire.proofs.Readers.{run-good, run-bad, all-length}
 use Rattle.wire.proofs.Turns.{step-next, step-refused}
-use Rattle.model.specs.Model.{noneDead}
 use Rattle.wire.specs.Step.{start}
 use Rattle.model.specs.Format.{modelHeader, labelAt}
 use Rattle.model.specs.Message.{readHeader, readModel}
@@ -20,42 +17,23 @@ use Rattle.model.specs.Message as m
 use Rattle.model.specs.Answers.{checked}
 use Rattle.model.proofs.Good.{header-good}
 use Rattle.model.proofs.Answered.{counted-model, counted-refused}
-use Rattle.model.proofs.Exact.{dead-known}
 use Rattle.model.proofs.check.Statement.{statement}
 use Rattle.model.proofs.check.Tie as tie
 
--- the places that the facts below look back to
-abbrev entered : tie.After-known-told → tie.Start
-entered c = c .before .before .before .before .before
-
-abbrev after-head : tie.After-enum-told2 → tie.After-head
-after-head c = c .before .before .before .before
-
-abbrev after-known-told : tie.After-known-told3 → tie.After-known-told
-after-known-told c = c .before .before .before .before .before .before .before
-
 -- the header is good, and so are the labels and the transitions
 head-good : (c : tie.After-known-told) → let k = c .before .head .given .0 in
-    readHeader (now (entered c .args .s)) ≡ good (record { states = k .0; propositions = k .1 .0; transitions = k .1 .1 .0 })
+    readHeader (now (c .before .before .before .before .before .args .s)) ≡ good (record { states = k .0; propositions = k .1 .0; transitions = k .1 .1 .0 })
 head-good c = counted-model _ (by (c .before .before .before .header .ensures) (c .before .head .given .1))
 
 labels-next : (c : tie.After-enum-told2) → let k = c .before .before .before .before .head .given .0 in
-    run (m.labels (now (after-head c .before .before .before .before .args .s)) (k .1 .0)) (k .0) (start modelHeader) ≡ good (c .enum-told2 .given .0 .0)
+    run (m.labels (now (c .before .before .before .before .before .before .before .before .args .s)) (k .1 .0)) (k .0) (start modelHeader) ≡ good (c .enum-told2 .given .0 .0)
 labels-next c = step-next _ (by (c .before .before .labels .ensures) (c .enum-told2 .given .1))
 
-transitions-next : (c : tie.After-known-told3) → let k = after-head (c .before .before .before .before) .head .given .0 in
-    run (m.transitions (now (after-head (c .before .before .before .before) .before .before .before .before .args .s)) (k .0)) (k .1 .1 .0) (start (labelAt (k .0))) ≡ good (c .before .st .given .0 .0)
+transitions-next : (c : tie.After-enum-told3) → let l = c .before .before .before in let k = l .before .before .before .before .head .given .0 in
+    run (m.transitions (now (l .before .before .before .before .before .before .before .before .args .s)) (k .0)) (k .1 .1 .0) (start (labelAt (k .0))) ≡ good (c .enum-told3 .given .0 .0)
 transitions-next c =
-    let h = after-known-told c in
-    step-next _ (by (c .before .before .before .transitions .ensures _ (sym (header-good _ _ (head-good h) .long))) (c .before .st .given .1))
-
--- the first state that none leaves tells whether one is dead
-dead-is : (c : tie.After-known-told3) → let k = after-head (c .before .before .before .before) .head .given .0 in
-    noneDead (k .0) (run-good _ _ _ _ (transitions-next c) .got) ≡ leb (k .0) (c .before .st .given .0 .0 .tally)
-dead-is c =
-    let h = after-known-told c in
-    let small = header-good _ _ (head-good h) .states-counted .no-more in
-    dead-known _ (λ i. omega (arith, h .before .before .before .before .shared-slice-known .given i)) _ _ _ _ (omega arith) (run-good _ _ _ _ (transitions-next c))
+    let h = c .before .before .before .before .before .before in
+    step-next _ (by (c .before .before .transitions .ensures _ (sym (header-good _ _ (head-good h) .long))) (c .enum-told3 .given .1))
 
 header-requires : tie.Need-header-requires
 header-requires c κs = search needs
@@ -97,10 +75,7 @@ add-middle : tie.Need-add-middle
 add-middle c = search needs
 
 transitions-requires : tie.Need-transitions-requires
-transitions-requires c κs = let h = header-good _ _ (head-good (c .before .before .before)) in (omega (arith, h .long), h .states-counted .no-more, omega arith)
-
-enum-known-st : tie.Need-enum-known-st
-enum-known-st c = search needs
+transitions-requires c κs = let h = header-good _ _ (head-good (c .before .before .before)) in (omega (arith, h .long), omega (arith, h .states-counted .no-less))
 
 enum-known-e-2 : tie.Need-enum-known-e-2
 enum-known-e-2 c = search needs
@@ -114,23 +89,16 @@ returns-3 c =
     let refused = by (r .transitions .ensures _ (sym (header-good _ _ h .long))) (c .before .e2 .given .1) in
     simp (reading, h, ls .there, run-bad _ _ _ _ (step-refused _ refused))
 
+enum-told-3 : tie.Need-enum-told-3
+enum-told-3 c = search needs
+
 returns-4 : tie.Need-returns-4
 unfolding readModel checked
 returns-4 c =
-    let t = c .before in
-    let l = t .before .before .before .before in
+    let l = c .before .before .before in
     let ls = run-good _ _ _ _ (labels-next l) in
-    let ts = run-good _ _ _ _ (transitions-next t) in
-    simp (reading, head-good (l .before .before .before), ls .there, ts .there, dead-is t, lt-leb _ _ (c .if1 .taken))
-
-returns-5 : tie.Need-returns-5
-unfolding readModel checked
-returns-5 c =
-    let t = c .before in
-    let l = t .before .before .before .before in
-    let ls = run-good _ _ _ _ (labels-next l) in
-    let ts = run-good _ _ _ _ (transitions-next t) in
-    simp (reading, head-good (l .before .before .before), ls .there, ts .there, dead-is t, le-leb _ _ (c .if1 .left), all-length _ _ _ _ (ts .there))
+    let ts = run-good _ _ _ _ (transitions-next c) in
+    simp (reading, head-good (l .before .before .before), ls .there, ts .there, all-length _ _ _ _ (ts .there))
 
 pub check-spec : {M : Type 1} → statement M
 check-spec =
@@ -148,8 +116,7 @@ check-spec =
     mul-middle
     add-middle
     transitions-requires
-    enum-known-st
     enum-known-e-2
     returns-3
-    returns-4
-    returns-5)
+    enum-told-3
+    returns-4)

@@ -13,18 +13,14 @@ use Rattle.wire.proofs.Laid.{fits, said}
 use Rattle.rules.specs.Graph.{Target}
 use Rattle.graph.specs.Write.{writeTarget, writeHyper}
 use Rattle.model.specs.Model.{Transition}
-use Rattle.reduction.specs.Built.{to, hyper}
+use Rattle.reduction.specs.Built.{to, hyper, ifAny}
 use Rattle.build.specs.Held.{transitionsFrom}
 use Rattle.build.specs.Bytes.{hypersBytes, someSteps, everySteps, stepsBytes}
 use Rattle.graph.proofs.Exact.{target-length}
 use Rattle.build.proofs.Edges.{head-length, hypers-more, single-laid, more-laid, hyper-laid}
-use Rattle.build.proofs.Helpers.{right-fits, every-parts, steps-count, some-stepped, every-stepped}
+use Rattle.build.proofs.Helpers.{right-fits, steps-some, steps-none, every-parts, steps-count, some-stepped, every-stepped}
 use Rattle.build.proofs.message.put_helper.Statement.{statement}
 use Rattle.build.proofs.message.put_helper.Tie as tie
-
--- the places that the facts below look back to
-abbrev after-put-single : tie.After-slice-known2 → tie.After-put-single
-after-put-single c = c .before .before
 
 mul-v : tie.Need-mul-v
 mul-v c = search needs
@@ -80,7 +76,7 @@ enum-told : tie.Need-enum-told
 enum-told c = search needs
 
 -- what is written for the transitions: the steps of an E until
-some-bytes : (c : tie.After-enum-told) → let s = after-put-single (c .before .before) .before .before .before .before in let a = s .args in
+some-bytes : (c : tie.After-enum-told) → let s = c .before .before .before .before .before .before .before .before in let a = s .args in
     hypersBytes (node s) (jumps s) ≡ stepsBytes (a .q) (node s) (a .a + a .n * a .l) (a .n * a .h) (own s)
 some-bytes c = some-stepped _ _ _ _ (c .enum-told .given .1)
 
@@ -99,58 +95,81 @@ add-put-head : tie.Need-add-put-head
 add-put-head c = search needs
 
 -- or those of an A until
-every-bytes : (c : tie.After-enum-told2) → let s = after-put-single (c .before .before) .before .before .before .before in let a = s .args in
+every-bytes : (c : tie.After-enum-told2) → let s = c .before .before .before .before .before .before .before .before in let a = s .args in
     writeAll writeTarget (steps s) ≡ stepsBytes (a .q) (node s) (a .a + a .n * a .l) (a .n * a .h) (own s)
 every-bytes c = every-stepped _ _ _ _ (c .enum-told2 .given .1)
 
+-- it has a second hyperedge where there are transitions
+own-some : (c : tie.Else1) → let s = c .before .before .before .before .before .before .before .before .before in
+    ifAny (own s) ((left s ∷ steps s) ∷ []) ≡ (left s ∷ steps s) ∷ []
+own-some c =
+    let s = c .before .before .before .before .before .before .before .before .before in
+    steps-some (now (s .args .m)) (s .args .n) (s .args .first) (s .args .many) ((left s ∷ steps s) ∷ []) (omega arith)
+
+own-none : (c : tie.Then1) → let s = c .before .before .before .before .before .before .before .before .before in
+    ifAny (own s) ((left s ∷ steps s) ∷ []) ≡ []
+own-none c =
+    let s = c .before .before .before .before .before .before .before .before .before in
+    steps-none (now (s .args .m)) (s .args .n) (s .args .first) (s .args .many) ((left s ∷ steps s) ∷ []) (omega arith)
+
 -- the second hyperedge fits behind the first, and its targets behind its head
-second-fits : (c : tie.After-enum-told2) →
-    let put = c .before .before .before .before in
+second-fits : (c : tie.Else1) →
+    let put = c .before .before .before .before .before in
     let s = put .before .before .before .before in
     put .put-single .result + length (head s ++ (writeTarget (left s) ++ writeAll writeTarget (steps s))) ≤ length (put .put-single .last .0)
 second-fits c =
-    let put = c .before .before .before .before in
+    let put = c .before .before .before .before .before in
     let s = put .before .before .before .before in
-    fits (put .put-single .ensures) _ (rw (every-parts (node s) (right s ∷ []) (left s) (steps s)) at (rw (c .enum-told2 .given .1) at (s .pre .1 .1)))
+    fits (put .put-single .ensures) _ (rw (every-parts (node s) (right s ∷ []) (left s) (steps s)) at (rw (own-some c) at (rw (c .before .enum-told2 .given .1) at (s .pre .1 .1))))
 
 put-head-requires : tie.Need-put-head-requires
 put-head-requires c κs =
-    let s = after-put-single (c .before .before .before) .before .before .before .before in
+    let s = c .before .before .before .before .before .before .before .before .before .before in
     omega (arith, second-fits (c .before), head-length (node s) (length (left s ∷ steps s)), length-append (head s) (writeTarget (left s) ++ writeAll writeTarget (steps s)))
 
 head-laid : (c : tie.After-put-head) →
-    let put = after-put-single (c .before .before .before .before) in
+    let put = c .before .before .before .before .before .before .before in
     let s = put .before .before .before .before in
     Laid (put .put-single .last .0) (put .put-single .result) (head s) (c .put-head .last .0) (c .put-head .result)
 head-laid c =
-    let s = after-put-single (c .before .before .before .before) .before .before .before .before in
+    let s = c .before .before .before .before .before .before .before .before .before .before .before in
     let a = s .args in
     said (c .put-head .ensures) (ap (λ (k : ℕ). bytes 2 (node s) ++ bytes 2 k) (steps-count (now (a .m)) (a .n) (a .first) (a .many) (a .n * a .h) (left s))) refl refl
 
 targets-fit : (c : tie.After-put-head) →
-    let s = after-put-single (c .before .before .before .before) .before .before .before .before in
+    let s = c .before .before .before .before .before .before .before .before .before .before .before in
     c .put-head .result + length (writeTarget (left s) ++ writeAll writeTarget (steps s)) ≤ length (c .put-head .last .0)
 targets-fit c = fits (head-laid c) _ (second-fits (c .before .before))
 
 put-target-requires : tie.Need-put-target-requires
 put-target-requires c κs =
     let put = c .before .before .before in
-    let s = after-put-single (put .before .before .before .before) .before .before .before .before in
+    let s = put .before .before .before .before .before .before .before .before .before .before .before in
     omega (arith, targets-fit put, target-length (left s), length-append (writeTarget (left s)) (writeAll writeTarget (steps s)))
 
 put-steps-requires-2 : tie.Need-put-steps-requires-2
 put-steps-requires-2 c κs =
     let put = c .before .before .before in
     let head = put .before .before .before .before in
-    let told = head .before .before in
+    let told = head .before .before .before in
     let steps-fit = fits (put .put-target .ensures) _ (targets-fit head) in
-    (after-put-single (told .before .before) .before .before .before .before .pre .0, subst (λ (w : List ℕ). put .put-target .result + length w ≤ length (put .put-target .last .0)) (every-bytes told) steps-fit)
+    (told .before .before .before .before .before .before .before .before .pre .0, subst (λ (w : List ℕ). put .put-target .result + length w ≤ length (put .put-target .last .0)) (every-bytes told) steps-fit)
 
 same-length : tie.Need-same-length
 same-length c = search needs
 
 returns : tie.Need-returns
 returns c =
+    let told = c .before in
+    let put = told .before .before .before .before in
+    let s = put .before .before .before .before in
+    rw (told .enum-told2 .given .1, own-none c) (single-laid writeHyper (hyper (node s) (right s ∷ [])) (put .put-single .ensures))
+
+same-length-2 : tie.Need-same-length-2
+same-length-2 c = search needs
+
+returns-2 : tie.Need-returns-2
+returns-2 c =
     let steps = c .before .before in
     let told = steps .before .before in
     let put = told .before .before .before .before in
@@ -158,20 +177,21 @@ returns c =
     rw (told .enum-told .given .1)
     (more-laid writeHyper (hyper (node s) (right s ∷ [])) (put .put-single .ensures) (map (hyper (node s)) (jumps s)) (said (steps .put-steps .ensures) (some-bytes told) refl refl))
 
-same-length-2 : tie.Need-same-length-2
-same-length-2 c = search needs
+same-length-3 : tie.Need-same-length-3
+same-length-3 c = search needs
 
-returns-2 : tie.Need-returns-2
-returns-2 c =
+returns-3 : tie.Need-returns-3
+returns-3 c =
     let put = c .before .before in
     let target = put .before .before .before .before in
     let head = target .before .before .before .before in
-    let told = head .before .before in
+    let other = head .before .before in
+    let told = other .before in
     let first = told .before .before .before .before in
     let s = first .before .before .before .before in
     let targets = more-laid writeTarget (left s) (target .put-target .ensures) (steps s) (said (put .put-steps2 .ensures) (every-bytes told) refl refl) in
     let second = hyper-laid (node s) (left s ∷ steps s) (head-laid head) targets in
-    rw (told .enum-told2 .given .1)
+    rw (told .enum-told2 .given .1, own-some other)
     (more-laid writeHyper _ (first .put-single .ensures) _ (single-laid writeHyper (hyper (node s) (left s ∷ steps s)) second))
 
 pub put-helper-spec : {M : Type 1} → statement M
@@ -189,11 +209,13 @@ put-helper-spec =
     enum-told
     put-steps-requires
     enum-told-2
+    same-length
+    returns
     add-put-head
     put-head-requires
     put-target-requires
     put-steps-requires-2
-    same-length
-    returns
     same-length-2
-    returns-2)
+    returns-2
+    same-length-3
+    returns-3)

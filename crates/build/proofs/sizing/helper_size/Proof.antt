@@ -8,10 +8,6 @@ use Rattle.build.proofs.Untils.{other-row, other-tag}
 use Rattle.build.proofs.sizing.helper_size.Statement.{statement}
 use Rattle.build.proofs.sizing.helper_size.Tie as tie
 
--- the places that the facts below look back to
-abbrev start : tie.After-enum-told → tie.Start
-start c = c .before .before .before .before .before
-
 enum-known-row : tie.Need-enum-known-row
 enum-known-row c = search needs
 
@@ -35,24 +31,31 @@ add-t9 c = search needs
 enum-told-2 : tie.Need-enum-told-2
 enum-told-2 c = search needs
 
-add-t15 : tie.Need-add-t15
-add-t15 c = search needs
+returns-2 : tie.Need-returns-2
+returns-2 c =
+    let m = c .before .before .before .before .before .before .args .many in
+    rw (c .before .before .before .before .row .given .1, c .before .enum-told2 .given .1, lt-ltb m 1 (omega arith))
 
 add-t17 : tie.Need-add-t17
 add-t17 c = search needs
 
-returns-2 : tie.Need-returns-2
-returns-2 c =
-    let m = start (c .before) .args .many in
-    rw (c .before .before .before .before .row .given .1, c .before .enum-told .given .1, lt-ltb m 1 (omega arith))
+add-t19 : tie.Need-add-t19
+add-t19 c = search needs
 
 returns-3 : tie.Need-returns-3
 returns-3 c =
-    let m = start (c .before) .args .many in
-    rw (c .before .before .before .before .row .given .1, c .before .enum-told .given .1, le-ltb m 1 (omega arith))
+    let m = c .before .before .before .before .before .before .args .many in
+    rw (c .before .before .before .before .row .given .1, c .before .enum-told .given .1, lt-ltb m 1 (omega arith))
 
 returns-4 : tie.Need-returns-4
-returns-4 c = rw (c .before .before .before .row .given .1, c .enum-told2 .given .1)
+returns-4 c =
+    let m = c .before .before .before .before .before .before .args .many in
+    rw (c .before .before .before .before .row .given .1, c .before .enum-told .given .1, le-ltb m 1 (omega arith))
+
+returns-5 : tie.Need-returns-5
+returns-5 c =
+    let m = c .before .before .before .before .before .before .args .many in
+    rw (c .before .before .before .before .row .given .1, c .before .enum-told2 .given .1, le-ltb m 1 (omega arith))
 
 pub helper-size-spec : {M : Type 1} → statement M
 helper-size-spec =
@@ -65,8 +68,9 @@ helper-size-spec =
     mul-t8
     add-t9
     enum-told-2
-    add-t15
-    add-t17
     returns-2
+    add-t17
+    add-t19
     returns-3
-    returns-4)
+    returns-4
+    returns-5)
