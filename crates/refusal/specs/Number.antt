@@ -1,7 +1,7 @@
 -- The numbers given back: 0 is OK, and each refusal has its own.
 use Prim.Native.Nat.{ℕ}
 use Rattle.refusal.specs.declared.Refusal.{Refusal}
-use Rattle.refusal.specs.declared.Refusal.the-variants.{Budget, Length, Version, Limit, Order, Name, Dead, Size, Room, Form}
+use Rattle.refusal.specs.declared.Refusal.the-variants.{Budget, Length, Version, Limit, Order, Name, Dead, Size, Room, Form, Profile}
 
 -- no refusal applies
 abbrev pub ok : ℕ
@@ -18,3 +18,4 @@ numberOf Dead = 7
 numberOf Size = 8
 numberOf Room = 9
 numberOf Form = 10
+numberOf Profile = 11
