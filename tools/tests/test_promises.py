@@ -1,5 +1,4 @@
-"""docs/PROMISES.md cites only what exists, and every must-fail edit; docs/ARCHITECTURE.md lists every public function that asks something;
-number 7 stands in the table of numbers alone."""
+"""docs/PROMISES.md cites only what exists, and every must-fail edit; docs/ARCHITECTURE.md lists every public function that asks something."""
 
 import re
 import unittest
@@ -36,16 +35,6 @@ class Promises(unittest.TestCase):
         edits = {f"{path.parts[-3]}/{path.stem}" for path in ROOT.glob("crates/*/must-fail/*.edit")}
         cited = {edit for edit in re.findall(rf"\b(?:{crates})/\w+", PROMISES) if edit.split("/")[1] not in ("specs", "proofs", "src")}
         self.assertEqual(sorted(edits ^ cited), [])
-
-
-class Numbers(unittest.TestCase):
-    def test_nobody_gives_number_7(self):
-        naming = set()
-        for path in sources():
-            text = path.read_text()
-            if "Refusal::Dead" in text or re.search(r"Refusal\.the-variants\.(?:Dead\b|\{[^}]*\bDead\b)", text):
-                naming.add(path.relative_to(ROOT / "crates").parts[0])
-        self.assertEqual(naming, {"refusal"})
 
 
 class Leaves(unittest.TestCase):

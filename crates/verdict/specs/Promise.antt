@@ -35,7 +35,7 @@ pub record Asks (model formula : List ℕ) (question : Question) : Type 0 where
   pub formula-written : formula ≡ writeFormula (question .rows)
   pub formula-fits : formulas.WellFormed (question .model .propositions) (question .rows)
 
--- the state satisfies the formula by its runs
+-- the state satisfies the formula by its maximal runs
 abbrev pub Satisfies : Question → (state : ℕ) → Type 0
 Satisfies question state = Sat (systemOf (question .model)) (rootOf (question .rows)) state
 
@@ -55,7 +55,7 @@ pub record Leaves (question : Question) (bytes values bytes′ values′ : List 
   -- the values are the reported round and the next, the rest as it came
   pub two-rounds : values′ ≡ filled (ruledFor question) reported values
 
--- a verdict: yes exactly when the state satisfies the formula by its runs, else no
+-- a verdict: yes exactly when the state satisfies the formula by its maximal runs, else no
 pub record Decides (model formula : List ℕ) (state budget : ℕ) (bytes values bytes′ values′ : List ℕ) (verdict : Verdict) (reported returned : ℕ) : Type 0 where
   -- the model and the formula
   pub question : Question

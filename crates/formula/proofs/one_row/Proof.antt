@@ -51,7 +51,7 @@ fields-judged c =
 row-read : (c : tie.After-known-told) → let a = start (c .before .before .before .before) .args in readRow (now (a .s)) (a .p) (a .st) ≡ good (c .before .row .given .0 .0)
 row-read c =
     let j = c .before .before .before in
-    fields-judged (j .before) ∙ judged-fine (judgement (j .before)) (by {b = judged (judgement (j .before))} (j .judge .ensures) (c .before .row .given .1))
+    fields-judged (j .before) ∙ judged-fine (judgement (j .before)) (by {b = judged (judgement (j .before))} (j .judge-kind .ensures) (c .before .row .given .1))
 
 number-at-requires : tie.Need-number-at-requires
 number-at-requires c κs = omega (arith, inside (c .before .before))
@@ -74,8 +74,8 @@ add-zero-at c = omega (arith, inside (start-of-number-at3 c))
 number-at-requires-4 : tie.Need-number-at-requires-4
 number-at-requires-4 c κs = omega (arith, inside (start-of-number-at3 c))
 
-judge-requires : tie.Need-judge-requires
-judge-requires c κs = search needs
+judge-kind-requires : tie.Need-judge-kind-requires
+judge-kind-requires c κs = search needs
 
 enum-known-row : tie.Need-enum-known-row
 enum-known-row c = search needs
@@ -87,7 +87,7 @@ returns : tie.Need-returns
 unfolding step
 returns c =
     let j = c .before .before .before in
-    let refused = judged-refused (judgement (j .before)) (by {b = judged (judgement (j .before))} (j .judge .ensures) (c .before .e .given .1)) in
+    let refused = judged-refused (judgement (j .before)) (by {b = judged (judgement (j .before))} (j .judge-kind .ensures) (c .before .e .given .1)) in
     (simp (reading, fields-judged (j .before), refused), λ next e. not-next e)
 
 count-row-requires : tie.Need-count-row-requires
@@ -123,7 +123,7 @@ one-row-spec =
     number-at-requires-3
     add-zero-at
     number-at-requires-4
-    judge-requires
+    judge-kind-requires
     enum-known-row
     enum-known-e
     returns
