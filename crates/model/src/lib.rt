@@ -35,8 +35,11 @@ const STATES: Count = Count {
     most: 256,
 };
 
+// Where the propositions are told: whoever has an accepted model reads them there.
+pub const PROPOSITIONS_AT: usize = 8;
+
 const PROPOSITIONS: Count = Count {
-    at: 8,
+    at: PROPOSITIONS_AT,
     width: Width::One,
     least: 0,
     most: 32,
