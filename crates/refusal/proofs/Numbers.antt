@@ -4,7 +4,7 @@ use Prim.Native.Nat.{ℕ, zero, suc, _<_}
 use native.Mathlib.Omega.{arith}
 use Rattle.refusal.specs.Number.{overBudget, numberOf}
 use Rattle.refusal.specs.declared.Refusal.{Refusal}
-use Rattle.refusal.specs.declared.Refusal.the-variants.{Length, Version, Limit, Order, Name, Size, Room, Form}
+use Rattle.refusal.specs.declared.Refusal.the-variants.{Length, Version, Limit, Order, Name, Size, Room, Form, Profile}
 
 -- the refusal of a number; numbers outside the table have none of their own
 refusalOf : ℕ → Refusal
@@ -18,7 +18,8 @@ refusalOf (suc (suc (suc (suc (suc (suc zero)))))) = Name
 refusalOf (suc (suc (suc (suc (suc (suc (suc zero))))))) = Form
 refusalOf (suc (suc (suc (suc (suc (suc (suc (suc zero)))))))) = Size
 refusalOf (suc (suc (suc (suc (suc (suc (suc (suc (suc zero))))))))) = Room
-refusalOf (suc (suc (suc (suc (suc (suc (suc (suc (suc (suc n)))))))))) = Form
+refusalOf (suc (suc (suc (suc (suc (suc (suc (suc (suc (suc zero)))))))))) = Form
+refusalOf (suc (suc (suc (suc (suc (suc (suc (suc (suc (suc (suc n))))))))))) = Profile
 
 back : (r : Refusal) → refusalOf (numberOf r) ≡ r
 unfolding refusalOf
@@ -30,6 +31,7 @@ back Name = refl
 back Size = refl
 back Room = refl
 back Form = refl
+back Profile = refl
 
 -- one number, one refusal
 pub number-tells : {a b : Refusal} → numberOf a ≡ numberOf b → a ≡ b
@@ -45,3 +47,4 @@ number-above Name = omega arith
 number-above Size = omega arith
 number-above Room = omega arith
 number-above Form = omega arith
+number-above Profile = omega arith

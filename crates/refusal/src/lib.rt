@@ -12,6 +12,7 @@ pub enum Refusal {
     Size,
     Room,
     Form,
+    Profile,
 }
 
 impl Refusal {
@@ -28,6 +29,7 @@ impl Refusal {
             Refusal::Size => 8,
             Refusal::Room => 9,
             Refusal::Form => 10,
+            Refusal::Profile => 11,
         }
     }
 }
