@@ -30,9 +30,17 @@ static const uint8_t formula[] = {
     2, 1, 0, 0, 0, 0, 0, 0,
     8, 0, 1, 0, 0, 0, 0, 2};
 
+/* 3 nodes, 3 hyperedges, no weight and no cover edge: 0 has {1} and {2}; 2 has {} */
+static const uint8_t plain[] = {
+    0, 0, 0, 38, 1, 1, 0, 3, 0, 0, 0, 3, 0, 0,
+    0, 0, 0, 1, 0, 0, 0, 0, 0, 1,
+    0, 0, 0, 1, 0, 0, 0, 0, 0, 2,
+    0, 2, 0, 0};
+
 static uint8_t bytes[256];
 static uint64_t values[32];
-static uint32_t counts[3], states[2], count, rows;
+static uint32_t counts[3], states[2], words[50], count, rows;
+static uint64_t taken;
 static size_t length;
 static uint8_t verdict;
 
@@ -41,7 +49,8 @@ static void lend(void)
 {
     memset(bytes, 0xee, sizeof bytes);
     memset(values, 0xee, sizeof values);
-    counts[0] = 901, counts[1] = 902, counts[2] = 903, states[0] = 904, states[1] = 905, count = 906, rows = 907, length = 908, verdict = 99;
+    counts[0] = 901, counts[1] = 902, counts[2] = 903, states[0] = 904, states[1] = 905, count = 906, rows = 907, length = 908, verdict = 99, taken = 909;
+    memset(words, 0xee, sizeof words);
 }
 
 static void sums(void)
@@ -70,6 +79,16 @@ static void settle(uint32_t budget)
     sums();
 }
 
+static void search(uint32_t root)
+{
+    lend();
+    unsigned number = otzarvim_search(plain, sizeof plain, root, words, 45, &verdict, &taken);
+    uint64_t sum = 1;
+    for (size_t i = 0; i < sizeof words / sizeof *words; i++)
+        sum = sum * 31 + words[i];
+    printf("search from %" PRIu32 ": %u, verdict %u, count %" PRIu64 ", words %016" PRIx64 "\n", root, number, verdict, taken, sum);
+}
+
 int main(void)
 {
     lend();
@@ -88,6 +107,7 @@ int main(void)
         printf("rounds with %" PRIu32 ": %u, count %" PRIu32 ",", budget, number, count);
         sums();
     }
+    search(0), search(1), search(3);
     lend();
     number = otzarvim_formula_text(formula, sizeof formula, 2, bytes, 100, &length);
     printf("text: %u, length %zu,", number, length);

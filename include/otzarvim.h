@@ -37,7 +37,8 @@ enum {
     OTZARVIM_DEAD = 7,    /* no longer returned: a state may have no transition, and a run that comes there ends there */
     OTZARVIM_SIZE = 8,    /* the graph to be built would pass a limit */
     OTZARVIM_ROOM = 9,    /* a lent room is too small */
-    OTZARVIM_FORM = 10    /* a formula or label that breaks the rules */
+    OTZARVIM_FORM = 10,   /* a formula or label that breaks the rules */
+    OTZARVIM_PROFILE = 11 /* a graph that has what this function doesn't take */
 };
 
 /* The verdict on a state. */
@@ -120,6 +121,23 @@ uint8_t otzarvim_formula_check(const uint8_t *message, size_t message_length, ui
  */
 uint8_t otzarvim_rounds_solve(const uint8_t *message, size_t message_length, uint32_t budget,
                               uint64_t *room, size_t room_length, uint32_t *count);
+
+/*
+ * Searches from one node of a graph message of n nodes, h hyperedges and t targets in all, whose weights are all 0 and
+ * that has no cover edge: is the root's settled value 0?
+ *
+ *   message, message_length   the bytes; only read
+ *   root                      the node
+ *   words, words_length       so many numbers; below 4n + 8h + 4t is ROOM
+ *   verdict                   gets 0 for none, 1 for yes, 2 for no
+ *   count                     gets how many edges were taken off the search's stacks
+ *
+ * With OK those first words are 0 afterwards, and the others stay.
+ *
+ * Returns OK, what otzarvim_graph_check returns of the message, PROFILE, NAME of the root, ROOM: in this order.
+ */
+uint8_t otzarvim_search(const uint8_t *message, size_t message_length, uint32_t root, uint32_t *words,
+                        size_t words_length, uint8_t *verdict, uint64_t *count);
 
 /*
  * Writes the text of a formula message whose propositions must be below p, as E[p0 U<=2 p1].

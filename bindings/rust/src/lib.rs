@@ -29,6 +29,15 @@ mod foreign {
             room_length: usize,
             count: *mut u32,
         ) -> u8;
+        pub fn otzarvim_search(
+            message: *const u8,
+            message_length: usize,
+            root: u32,
+            words: *mut u32,
+            words_length: usize,
+            verdict: *mut u8,
+            count: *mut u64,
+        ) -> u8;
         pub fn otzarvim_formula_text(
             message: *const u8,
             message_length: usize,
@@ -115,10 +124,12 @@ pub enum Refusal {
     Room,
     /// A formula or label that breaks the rules.
     Form,
+    /// A graph that has what the function doesn't take.
+    Profile,
 }
 
 impl Refusal {
-    const ALL: [Refusal; 9] = [
+    const ALL: [Refusal; 10] = [
         Refusal::Length,
         Refusal::Version,
         Refusal::Limit,
@@ -128,6 +139,7 @@ impl Refusal {
         Refusal::Size,
         Refusal::Room,
         Refusal::Form,
+        Refusal::Profile,
     ];
 
     /// The number of the refusal.
@@ -168,6 +180,7 @@ impl fmt::Display for Refusal {
             Refusal::Size => "the graph to be built would pass a limit",
             Refusal::Room => "a lent room is too small",
             Refusal::Form => "a formula or label that breaks the rules",
+            Refusal::Profile => "a graph that has what the function doesn't take",
         })
     }
 }
@@ -368,6 +381,51 @@ pub fn solve(message: &[u8], budget: u32, room: &mut [u64]) -> Result<Rounds, Re
         0 => Ok(Rounds::Settled { count }),
         1 => Ok(Rounds::Spent { count }),
         number => Err(Refusal::of(number)),
+    }
+}
+
+/// How a search from one node ended.
+#[derive(Clone, Copy, Debug, PartialEq, Eq, Hash)]
+pub struct Found {
+    /// Whether the root's settled value is 0.
+    pub verdict: Verdict,
+    /// How many edges were taken off the search's stacks.
+    pub count: u64,
+}
+
+/// Searches from one node of a graph message whose weights are all 0 and that has no cover edge. With n nodes, h hyperedges and t
+/// targets in all the first 4n + 8h + 4t words are used, and 0 afterwards.
+///
+/// ```
+/// // Node 0 has a hyperedge without targets.
+/// let graph = [0, 0, 0, 18, 1, 1, 0, 1, 0, 0, 0, 1, 0, 0, 0, 0, 0, 0];
+/// let mut words = [7; 13];
+/// let found = otzarvim::search(&graph, 0, &mut words);
+/// assert_eq!(found, Ok(otzarvim::Found { verdict: otzarvim::Verdict::Yes, count: 1 }));
+/// assert_eq!(words, [0, 0, 0, 0, 0, 0, 0, 0, 0, 0, 0, 0, 7]);
+/// assert_eq!(otzarvim::search(&graph, 1, &mut words), Err(otzarvim::Refusal::Name));
+/// assert_eq!(otzarvim::search(&graph, 0, &mut words[..11]), Err(otzarvim::Refusal::Room));
+/// ```
+pub fn search(message: &[u8], root: u32, words: &mut [u32]) -> Result<Found, Refusal> {
+    let mut verdict = 0;
+    let mut count = 0;
+    // SAFETY: two slices, of which the words are lent to this function alone, and two numbers of its own. The function is proved to
+    // read and write only these.
+    let number = unsafe {
+        foreign::otzarvim_search(
+            message.as_ptr(),
+            message.len(),
+            root,
+            words.as_mut_ptr(),
+            words.len(),
+            &mut verdict,
+            &mut count,
+        )
+    };
+    match (number, verdict) {
+        (0, 1) => Ok(Found { verdict: Verdict::Yes, count }),
+        (0, _) => Ok(Found { verdict: Verdict::No, count }),
+        (number, _) => Err(Refusal::of(number)),
     }
 }
 

@@ -6,6 +6,7 @@ use Rattle.export.proofs.otzarvim_graph_check.Reads as graph-check
 use Rattle.export.proofs.otzarvim_model_check.Reads as model-check
 use Rattle.export.proofs.otzarvim_formula_check.Reads as formula-check
 use Rattle.export.proofs.otzarvim_rounds_solve.Reads as rounds-solve
+use Rattle.export.proofs.otzarvim_search.Reads as search
 use Rattle.export.proofs.otzarvim_formula_text.Reads as formula-text
 use Rattle.export.proofs.otzarvim_verdict.Reads as verdict
 use Rattle.export.proofs.otzarvim_graph.Reads as graph
@@ -30,6 +31,11 @@ one-formula-check κs a r r′ s s′ p q = (p .0 ∙ sym (q .0), p .1 ∙ sym (
 pub one-rounds-solve : (κs : _) (a : _) (r r′ : _) (s s′ : _) → rounds-solve.Post κs a r s → rounds-solve.Post κs a r′ s′
     → (r ≡ r′) × (now (s .1 .1 .0) ≡ now (s′ .1 .1 .0)) × (now (s .1 .1 .1 .0) ≡ now (s′ .1 .1 .1 .0))
 one-rounds-solve κs a r r′ s s′ p q = (p .0 ∙ sym (q .0), p .1 .0 ∙ sym (q .1 .0), p .1 .1 .0 ∙ sym (q .1 .1 .0))
+
+-- `export::otzarvim_search`: the answer, the words, the verdict and the count
+pub one-search : (κs : _) (a : _) (r r′ : _) (s s′ : _) → search.Post κs a r s → search.Post κs a r′ s′
+    → (r ≡ r′) × (now (s .1 .1 .0) ≡ now (s′ .1 .1 .0)) × (now (s .1 .1 .1 .0) ≡ now (s′ .1 .1 .1 .0)) × (now (s .1 .1 .1 .1 .0) ≡ now (s′ .1 .1 .1 .1 .0))
+one-search κs a r r′ s s′ p q = (p .0 ∙ sym (q .0), p .1 .0 ∙ sym (q .1 .0), p .1 .1 .0 ∙ sym (q .1 .1 .0), p .1 .1 .1 .0 ∙ sym (q .1 .1 .1 .0))
 
 -- `export::otzarvim_formula_text`: the answer, the room and the length
 pub one-formula-text : (κs : _) (a : _) (r r′ : _) (s s′ : _) → formula-text.Post κs a r s → formula-text.Post κs a r′ s′

@@ -7,6 +7,10 @@ use Rattle.model.specs.declared.Checked as model
 use Rattle.model.specs.declared.Checked.the-variants as Model
 use Rattle.formula.specs.declared.Checked as formula
 use Rattle.formula.specs.declared.Checked.the-variants as Formula
+use Rattle.search.specs.Answer.{answerOf as searchOf, readAsked as askedOf}
+use Rattle.search.specs.declared.Verdict.{Verdict as Found}
+use Rattle.search.specs.declared.Verdict.the-variants as found
+use Rattle.search.specs.declared.Answer.{Answer as Searched}
 use Rattle.verdict.specs.Answer.{readSettled, readAsked, answerOf, allOf}
 use Rattle.verdict.specs.declared.Verdict.{Verdict}
 use Rattle.verdict.specs.declared.Verdict.the-variants as Verdict
@@ -34,6 +38,15 @@ abbrev pub verdictNumber : Verdict → ℕ
 verdictNumber Verdict.None = 0
 verdictNumber Verdict.Yes = 1
 verdictNumber Verdict.No = 2
+
+-- the same of a search from one node, and its answer
+abbrev pub foundNumber : Found → ℕ
+foundNumber found.None = 0
+foundNumber found.Yes = 1
+foundNumber found.No = 2
+
+abbrev pub searched : (message : List ℕ) → (root : ℕ) → (words : List ℕ) → Searched
+searched message root words = searchOf (askedOf message root words) root
 
 -- the answer on a state, and on all states
 abbrev pub askedOne : (model formula : List ℕ) (state budget : ℕ) (bytes values : List ℕ) → Answer

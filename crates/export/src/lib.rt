@@ -14,7 +14,9 @@ ghost use Rattle.text.specs.Written as text;
 ghost use Rattle.build.specs.Built as b;
 ghost use Rattle.verdict.specs.Answer as v;
 ghost use Rattle.verdict.specs.Promise.{Promise, PromiseAll, PromiseGraph};
-ghost use Rattle.export.specs.Results.{graphCounts, modelCounts, formulaCount, verdictNumber, askedOne, askedAll, statesLent};
+ghost use Rattle.search.specs.Answer as search;
+ghost use Rattle.search.specs.Promise as found;
+ghost use Rattle.export.specs.Results.{graphCounts, modelCounts, formulaCount, verdictNumber, foundNumber, searched, askedOne, askedAll, statesLent};
 use verdict::AllStates;
 use verdict::Verdict;
 
@@ -80,6 +82,38 @@ pub extern "C" fn otzarvim_rounds_solve(
     let outcome = rounds::solve(message, budget, room);
     *count = outcome.count();
     outcome.number()
+}
+
+// The number of a search's verdict.
+fn found_number(verdict: search::Verdict) -> u8
+    ensures { λ r. ⌜ r ≡ foundNumber verdict ⌝ }
+{
+    match verdict {
+        search::Verdict::None => 0,
+        search::Verdict::Yes => 1,
+        search::Verdict::No => 2,
+    }
+}
+
+// Searches from one node of a graph message; gives the verdict's number and how many edges were taken off the stacks.
+#[no_mangle]
+pub extern "C" fn otzarvim_search(
+    message: &[u8],
+    root: u32,
+    words: &mut [u32],
+    verdict: &mut u8,
+    count: &mut u64,
+) -> u8
+    ensures { λ r. ⌜ r ≡ search.answerNumber (searched (now (message .entry)) root (now (words .entry))) ⌝ }
+    ensures { λ _. ⌜ now (words .exit) ≡ search.wordsOf (search.readAsked (now (message .entry)) root (now (words .entry))) (now (words .entry)) ⌝ }
+    ensures { λ _. ⌜ now (verdict .exit) ≡ foundNumber (search.answerVerdict (searched (now (message .entry)) root (now (words .entry)))) ⌝ }
+    ensures { λ _. ⌜ now (count .exit) ≡ search.answerCount (searched (now (message .entry)) root (now (words .entry))) ⌝ }
+    ensures { λ _. ⌜ found.Promise (now (message .entry)) root (now (words .entry)) (now (words .exit)) (searched (now (message .entry)) root (now (words .entry))) ⌝ }
+{
+    let answer = search::decide(message, root, words);
+    *verdict = found_number(answer.verdict());
+    *count = answer.count();
+    answer.number()
 }
 
 // Writes the text of a formula message whose propositions are below p; gives its length.
