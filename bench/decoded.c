@@ -82,7 +82,12 @@ u32 PASTE(P, rounds)(const u8 *s, u64 length, u32 budget, u64 *room, u32 *count)
         for (u32 k = 0; k < h; k++) {
             u64 worst = 0;
             for (u32 j = first[k]; j < first[k + 1]; j++) {
-                u64 sum = plus(x[node[j]], weight[j]);
+                u64 value = x[node[j]];
+                if (value == INFINITE) { /* lost */
+                    worst = INFINITE;
+                    break;
+                }
+                u64 sum = value + weight[j];
                 worst = worst < sum ? sum : worst;
             }
             y[source[k]] = worst < y[source[k]] ? worst : y[source[k]];

@@ -90,6 +90,42 @@ static void ladder(struct input *in, uint32_t n)
     in->budget = 48;
 }
 
+/* 24 hyperedges of node 0 whose targets are the last node and then all others, and a chain that changes a node in each round. Lost: the
+ * last node has nothing, so each of the long ones is lost at its first target. Found: it has 0, and every node is heavy at first, so
+ * that no target is infinite after round 2. The budget allows 48 rounds. */
+static void longs(struct input *in, uint32_t n, int lost)
+{
+    graph_start(in, n, 24 + (n - 2) * (lost ? 1 : 2) + 1, 0);
+    for (uint32_t k = 0; k < 24; k++) {
+        put(0, 2), put(n - 1, 2);
+        for (uint32_t j = 1; j < n; j++)
+            put(k + j, 4), put(n - j, 2);
+    }
+    for (uint32_t i = 1; i + 1 < n; i++) {
+        if (!lost)
+            put(i, 2), put(1, 2), put(1000 * (n - i), 4), put(n - 1, 2);
+        uint32_t ends = lost && i + 2 == n;
+        put(i, 2), put(ends ? 0 : 1, 2);
+        if (!ends)
+            put(1, 4), put(i + 1, 2);
+    }
+    put(n - 1, 2), put(lost ? 1 : 0, 2);
+    if (lost)
+        put(0, 4), put(n - 1, 2);
+    in->length = finish(in->message);
+    in->budget = 48;
+}
+
+static void lost(struct input *in, uint32_t n)
+{
+    longs(in, n, 1);
+}
+
+static void never_lost(struct input *in, uint32_t n)
+{
+    longs(in, n, 0);
+}
+
 static void model(struct input *in, uint32_t s, uint32_t t)
 {
     start(in->message, 2);
@@ -307,6 +343,8 @@ static const struct workload {
     {"rounds: cover edges", "nodes", 4096, covers, run_rounds, 0},
     {"rounds: wide", "nodes", 4096, wide, run_rounds, 0},
     {"rounds: a ladder, 48 rounds", "nodes", 4096, ladder, run_rounds, 0},
+    {"rounds: long hyperedges, lost", "nodes", 4096, lost, run_rounds, 0},
+    {"rounds: long hyperedges, never lost", "nodes", 4096, never_lost, run_rounds, 0},
     {"check of a graph", "nodes", 4096, wide, run_graph, 1},
     {"check of a model", "transitions", 65535, models, run_model, 1},
     {"check of a formula", "rows", 64, formulas, run_formula, 1},

@@ -153,7 +153,13 @@ u32 PASTE(P, rounds)(const u8 *s, u64 length, u32 budget, u64 *room, u32 *count)
             u64 worst = 0;
             p += 4;
             for (const u8 *q = p + targets * 6u; p < q; p += 6) {
-                u64 sum = plus(x[two(p + 4)], four(p));
+                u64 value = x[two(p + 4)];
+                if (value == INFINITE) { /* lost */
+                    worst = INFINITE;
+                    p = q;
+                    break;
+                }
+                u64 sum = value + four(p);
                 worst = worst < sum ? sum : worst;
             }
             y[source] = worst < y[source] ? worst : y[source];

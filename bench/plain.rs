@@ -251,8 +251,14 @@ pub unsafe extern "C" fn rust_rounds(s: *const u8, _length: u64, budget: u32, ro
             p = p.add(4);
             let end = p.add(targets * 6);
             while p < end {
-                let sum = (*x.add(two(p.add(4)) as usize)).saturating_add(four(p) as u64);
-                worst = worst.max(sum);
+                let value = *x.add(two(p.add(4)) as usize);
+                if value == INFINITE {
+                    // lost
+                    worst = INFINITE;
+                    p = end;
+                    break;
+                }
+                worst = worst.max(value + four(p) as u64);
                 p = p.add(6);
             }
             *y.add(source) = worst.min(*y.add(source));

@@ -67,6 +67,7 @@ fn target_sum(s: &[u8], n: usize, x: &[u64], at: usize) -> Value
 }
 
 // The greatest weight plus value over k targets at a position; 0 with none. The first stands before the loop: many have no other.
+// Once one is infinite so is the greatest, and the targets left are not read.
 fn worst(s: &[u8], n: usize, x: &[u64], k: u32, at: usize) -> Value
     requires { ⌜ Sound (targetLayout (now s) n) k at ⌝ }
     requires { ⌜ n ≤ length (now x) ⌝ }
@@ -79,6 +80,9 @@ fn worst(s: &[u8], n: usize, x: &[u64], k: u32, at: usize) -> Value
     let mut i = k - 1;
     let mut p = at + graph::TARGET;
     while 0 < i {
+        if most.0 == Value::INFINITE.0 {
+            return most;
+        }
         let sum = target_sum(s, n, x, p);
         most = most.greatest(sum);
         p += graph::TARGET;

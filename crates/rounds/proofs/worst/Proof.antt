@@ -4,7 +4,7 @@ use mathlib.Core.Path.{_≡_, ap, _∙_}
 use denote.Ref.{now}
 use native.Mathlib.Omega.{arith}
 use Rattle.value.specs.Stored.{stored, infinite}
-use Rattle.value.proofs.Stored.{greatest-max, is-stored-le}
+use Rattle.value.proofs.Stored.{stored-le, greatest-max, is-stored-le}
 use Rattle.wire.specs.Layout.{items, Sound}
 use Rattle.wire.proofs.Layouts.{sound-more}
 use Rattle.rules.specs.Rounds as rules
@@ -52,18 +52,35 @@ loop-holds c =
       worst-turn (now (a .s)) (a .n) (held (now (a .x))) (a .k) (a .at) 0 _ _ (omega arith) some (c .target-sum .ensures ∙ omega arith),
     )
 
+-- the call, from the loop's test
+abbrev start : tie.In-loop Inv-loop μ-loop → tie.Start Inv-loop μ-loop
+start c = c .before .before .before .before .before .before
+
+-- the test, from behind the look at the greatest
+abbrev tested : tie.Else2 Inv-loop μ-loop → tie.In-loop Inv-loop μ-loop
+tested c = c .before .before .before
+
 -- the next target is sound
-here : (c : tie.In-loop Inv-loop μ-loop) → let a = c .before .before .before .before .before .before .args in TargetOk (now (a .s)) (a .n) (c .before .loop .p)
+here : (c : tie.In-loop Inv-loop μ-loop) → let a = start c .args in TargetOk (now (a .s)) (a .n) (c .before .loop .p)
 here c = sound-more _ (c .loop-test .taken) (c .before .loop .inv .0) .0
 
+-- the greatest is infinite already
+returns-2 : tie.Need-returns-2 Inv-loop μ-loop
+returns-2 c =
+    let turn = c .before .before .before in
+    let l = turn .before .loop in
+    let a = start turn .args in
+    let rest = stored-le (rules.worst (held (now (a .x))) (items (targetLayout (now (a .s)) (a .n)) (l .i) (l .p))) in
+    omega (arith, c .if2 .taken, l .inv .2)
+
 target-sum-requires-2 : tie.Need-target-sum-requires-2 Inv-loop μ-loop
-target-sum-requires-2 c κs = (here c, c .before .before .before .before .before .before .pre .1)
+target-sum-requires-2 c κs = let turn = tested c in (here turn, start turn .pre .1)
 
 greatest-requires : tie.Need-greatest-requires Inv-loop μ-loop
 greatest-requires c κs = tt
 
 add-p-2 : tie.Need-add-p-2 Inv-loop μ-loop
-add-p-2 c = omega (arith, here (c .before .before) .inside)
+add-p-2 c = omega (arith, here (tested (c .before .before)) .inside)
 
 sub-i-2 : tie.Need-sub-i-2 Inv-loop μ-loop
 sub-i-2 c = omega arith
@@ -73,7 +90,7 @@ loop-less c = omega arith
 
 loop-again : tie.Need-loop-again Inv-loop μ-loop
 loop-again c =
-    let turn = c .before .before in
+    let turn = tested (c .before .before) in
     let l = turn .before .loop in
     let sum = c .before .target-sum2 .ensures in
     let most = c .greatest .ensures ∙ greatest-max (l .most .0) (c .before .target-sum2 .result .0) (l .inv .1) (is-stored-le _ sum) in (
@@ -82,8 +99,8 @@ loop-again c =
       worst-turn _ _ _ _ _ _ _ _ (l .inv .2) (turn .loop-test .taken) (most ∙ ap (max (l .most .0)) sum),
     )
 
-returns-2 : tie.Need-returns-2 Inv-loop μ-loop
-returns-2 c = worst-end _ _ _ _ _ _ _ (c .before .loop .inv .2) (omega arith)
+returns-3 : tie.Need-returns-3 Inv-loop μ-loop
+returns-3 c = worst-end _ _ _ _ _ _ _ (c .before .loop .inv .2) (omega arith)
 
 pub worst-spec : {M : Type 1} → statement M
 worst-spec =
@@ -96,10 +113,11 @@ worst-spec =
     sub-i
     add-p
     loop-holds
+    returns-2
     target-sum-requires-2
     greatest-requires
     add-p-2
     sub-i-2
     loop-less
     loop-again
-    returns-2)
+    returns-3)
