@@ -24,6 +24,7 @@ use Rattle.rules.specs.Count.{count, First}
 use Rattle.rules.proofs.Order.{largest-agree}
 use Rattle.rules.proofs.Size.{Light, value-bound, heaviest-light}
 use Rattle.rules.proofs.Count.{count-first, count-le, count-largest}
+use Rattle.rules.proofs.Cycles.{free-count}
 use Rattle.graph.specs.Stored.{StoredGraph}
 use Rattle.graph.specs.Message.{readGraph}
 use Rattle.graph.specs.Write.{writeGraph}
@@ -152,6 +153,7 @@ module _ (s : List ℕ) (budget : ℕ) (b₀ : List ℕ) where
                   first = first;
                   within = within;
                   soon = count-le g;
+                  sooner = free-count g (wf .closed);
                   largest = largest-agree g (wf .closed) (count-largest g (wf .closed)) (first-half g wf (count g) b₀);
                 };
             spent = λ z. absurd (omega arith);

@@ -9,6 +9,7 @@ use Rattle.value.specs.Value.{finite, _≼_}
 use Rattle.rules.specs.Graph.{Graph, heaviest}
 use Rattle.rules.specs.Rounds.{rounds, Largest, Settled}
 use Rattle.rules.specs.Count.{First}
+use Rattle.rules.specs.Walks.{CoverCycle}
 use Rattle.graph.specs.Stored.{StoredGraph, ruled}
 use Rattle.graph.specs.Write.{writeGraph}
 use Rattle.graph.specs.WellFormed.{WellFormed}
@@ -32,10 +33,12 @@ pub record SettledAt (message : List ℕ) (budget : ℕ) (room : List ℕ) (repo
   pub graph : StoredGraph
   pub accepted : Accepted message room graph
   pub halves : Halves (ruled graph) reported room
-  -- the reported count is the first round that the next leaves unchanged; the budget allows it, and n (c + 1) always would
+  -- the reported count is the first round that the next leaves unchanged; the budget allows it
   pub first : First (ruled graph) reported
   pub within : reported ≤ budget
+  -- n (c + 1) always would allow it, and n where no cycle passes through a cover edge
   pub soon : reported ≤ ruled graph .nodes * (length (ruled graph .covers) + 1)
+  pub sooner : ¬ CoverCycle (ruled graph) → reported ≤ ruled graph .nodes
   -- the first n numbers are the largest assignment that obeys the rules
   pub largest : Largest (ruled graph) (held room)
 

@@ -15,13 +15,14 @@ use Rattle.wire.proofs.Reading.{reading, good-then, bad-then}
 use Rattle.rules.specs.Graph.{Graph}
 use Rattle.rules.specs.Count.{count}
 use Rattle.rules.proofs.Order.{largest-agree}
-use Rattle.rules.proofs.Count.{count-first, count-le, count-largest}
+use Rattle.rules.proofs.Count.{count-first, count-largest}
 use Rattle.graph.specs.WellFormed.{WellFormed}
 use Rattle.graph.specs.Write.{writeGraph}
 use Rattle.rounds.specs.Outcome.{filled}
 use Rattle.rounds.proofs.Promised.{both-halves, accepted-filled}
 use Rattle.model.proofs.Exact as model
 use Rattle.formula.proofs.Exact as formula
+use Rattle.reduction.proofs.Depths.{built-count}
 use Rattle.verdict.specs.declared.Answer.the-variants as Answer
 use Rattle.verdict.specs.declared.AllStates.{AllStates}
 use Rattle.verdict.specs.declared.AllStates.the-variants as AllStates
@@ -86,7 +87,7 @@ module _ (m f : List ℕ) (budget : ℕ) (b v : List ℕ) (q : Question) (asked 
       record {
         first = rw (done .count-is) (count-first g (wf .closed));
         within = done .within;
-        soon = rw (done .count-is) (count-le g);
+        soon = rw (done .count-is) (built-count (asked .model-fits) (asked .formula-fits));
         largest = rw (done .ran .values-are, done .count-is) (largest-agree g (wf .closed) (count-largest g (wf .closed)) (both-halves g wf (count g) v .first-half));
       }
 

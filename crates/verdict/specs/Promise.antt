@@ -70,8 +70,8 @@ pub record Settles (question : Question) (budget : ℕ) (values′ : List ℕ) (
   pub first : First (ruledFor question) reported
   -- the budget allows it
   pub within : reported ≤ budget
-  -- it is at most n (c + 1)
-  pub soon : reported ≤ ruledFor question .nodes * (length (ruledFor question .covers) + 1)
+  -- it is at most n
+  pub soon : reported ≤ ruledFor question .nodes
   -- the settled values are the largest assignment that obeys the rules
   pub largest : Largest (ruledFor question) (held values′)
 
