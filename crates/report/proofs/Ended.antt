@@ -2,7 +2,7 @@
 use Prim.Native.Nat.{ℕ, _+_, _-_, _≤_, _<_}
 use mathlib.Core.List.{List, _++_}
 use mathlib.Core.Bool.{Bool, true, false, cond}
-use mathlib.Core.Path.{_≡_, refl, sym, ap, ap₂, _∙_}
+use mathlib.Core.Path.{_≡_, refl, sym, ap, ap₂, subst, _∙_}
 use native.Mathlib.Omega.{arith}
 use lib.Dec.{leb, eqb}
 use lib.ListN.{length, getD}
@@ -61,7 +61,7 @@ module _ (m f : List ℕ) (b v : List ℕ) {budget : ℕ} (n-rounds : budget ≡
       n-rounds ∙ ap nodesOf (x .first ∙ ap good same)
 
   pub left-is : valuesOf (readSettled m f b v) budget v ≡ leftOf (readSettled m f b v) v
-  unfolding leftOf
+  unfolding valuesOf leftOf
   left-is = go (readSettled m f b v) refl
     where
       go : (x : Read Question) → readSettled m f b v ≡ x → valuesOf x budget v ≡ leftOf x v
@@ -94,7 +94,9 @@ module _ (m f : List ℕ) (b v : List ℕ) {budget : ℕ} (n-rounds : budget ≡
       tested q false h = refl
 
       go : (x : Read Question) → readSettled m f b v ≡ x → AllStates.Spent k n ≡ allOf x budget → outputOf x ≡ refusedLine overBudget
-      go (good q) e h = rw (← (budget-is e)) (tested q (leb (count (graphFor q)) budget) h)
+      go (good q) e h =
+          subst (λ (k : ℕ). cond (leb (count (graphFor q)) k) (settledLines q (count (graphFor q))) (refusedLine overBudget) ≡ refusedLine overBudget)
+          (budget-is e) (tested q (leb (count (graphFor q)) budget) h)
       go (bad r) e h = let z : _≡_ {A = ℕ} 0 1 = cc in absurd (omega arith)
 
   -- it settled: the lines are those of the settled question
