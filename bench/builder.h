@@ -93,7 +93,7 @@ u64 PASTE(P, build)(const u8 *model, u64 model_length, const u8 *formula, u64 fo
                     put_four(out + 10, WEIGHT(t)), put_two(out + 14, TO(t) + helper);
                     out += 16, h++;
                 }
-            } else {
+            } else if (first[a] < first[a + 1]) { /* where nothing follows, the A helper has its first hyperedge only */
                 put_two(out, a + helper), put_two(out + 2, 1 + first[a + 1] - first[a]);
                 put_four(out + 4, 0), put_two(out + 8, a + s * left);
                 out += 10, h++;

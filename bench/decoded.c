@@ -135,7 +135,7 @@ u32 PASTE(P, model_check)(const u8 *s, u64 length)
     for (u32 i = 0; i < n; i++)
         if (label[i] >= limit)
             return 10;
-    u32 before = 0, next = 0;
+    u32 before = 0;
     for (u32 i = 0; i < t; i++) {
         if (from[i] >= n)
             return 6;
@@ -144,9 +144,8 @@ u32 PASTE(P, model_check)(const u8 *s, u64 length)
         if (to[i] >= n)
             return 6;
         before = from[i];
-        next += from[i] == next;
     }
-    return next < n ? 7 : 0;
+    return 0;
 }
 
 u32 PASTE(P, formula_check)(const u8 *s, u64 length, u32 propositions)

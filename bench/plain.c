@@ -64,7 +64,7 @@ u32 PASTE(P, model_check)(const u8 *s, u64 length)
     for (u32 i = 0; i < n; i++, p += 4)
         if (four(p) >= limit)
             return 10;
-    u32 before = 0, first = 0;
+    u32 before = 0;
     for (const u8 *end = s + length; p < end; p += 8) {
         u32 from = two(p);
         if (from >= n)
@@ -74,9 +74,8 @@ u32 PASTE(P, model_check)(const u8 *s, u64 length)
         if (two(p + 6) >= n)
             return 6;
         before = from;
-        first += from == first;
     }
-    return first < n ? 7 : 0;
+    return 0;
 }
 
 u32 PASTE(P, formula_check)(const u8 *s, u64 length, u32 propositions)

@@ -136,7 +136,7 @@ fn model_check(s: &[u8]) -> u32 {
             return 10;
         }
     }
-    let (mut before, mut first) = (0, 0);
+    let mut before = 0;
     for transition in s[middle..].chunks_exact(8) {
         let (from, to) = (number2(&transition[..2]), number2(&transition[6..8]));
         if from >= n {
@@ -149,13 +149,8 @@ fn model_check(s: &[u8]) -> u32 {
             return 6;
         }
         before = from;
-        first += (from == first) as u32;
     }
-    if first < n {
-        7
-    } else {
-        0
-    }
+    0
 }
 
 fn formula_check(s: &[u8], propositions: u32) -> u32 {
@@ -381,7 +376,8 @@ pub unsafe extern "C" fn rust_build(model: *const u8, model_length: u64, formula
             put_four(&mut out, 0);
             put_two(&mut out, a + s * right);
             h += 1;
-            if operator == 9 {
+            // where nothing follows, the A helper has its first hyperedge only
+            if operator == 9 && t < end {
                 put_two(&mut out, a + helper);
                 put_two(&mut out, 1 + (end.offset_from(t) / 8) as u32);
                 put_four(&mut out, 0);

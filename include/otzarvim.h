@@ -34,7 +34,7 @@ enum {
     OTZARVIM_LIMIT = 4,   /* a count outside its limits, or a p above OTZARVIM_MOST_PROPOSITIONS */
     OTZARVIM_ORDER = 5,   /* a source (or from) below the one before it in the same list */
     OTZARVIM_NAME = 6,    /* a node, state, proposition or operand that doesn't exist */
-    OTZARVIM_DEAD = 7,    /* a state with no transition */
+    OTZARVIM_DEAD = 7,    /* no longer returned: a state may have no transition, and a run that comes there ends there */
     OTZARVIM_SIZE = 8,    /* the graph to be built would pass a limit */
     OTZARVIM_ROOM = 9,    /* a lent room is too small */
     OTZARVIM_FORM = 10    /* a formula or label that breaks the rules */
@@ -90,7 +90,7 @@ uint8_t otzarvim_graph_check(const uint8_t *message, size_t message_length, uint
  *   message, message_length   the bytes; only read
  *   counts                    gets the states, the propositions and the transitions
  *
- * Returns OK, LENGTH, VERSION, LIMIT, FORM, ORDER, NAME or DEAD: the first fault in the message's own order.
+ * Returns OK, LENGTH, VERSION, LIMIT, FORM, ORDER or NAME: the first fault in the message's own order.
  */
 uint8_t otzarvim_model_check(const uint8_t *message, size_t message_length, uint32_t counts[3]);
 
@@ -150,9 +150,9 @@ uint8_t otzarvim_formula_text(const uint8_t *message, size_t message_length, uin
  *   count                     gets m, the smaller of the budget and the first round that the next repeats
  *   length                    gets how many bytes the graph's message has
  *
- * With OK the verdict is OTZARVIM_YES exactly when the state satisfies the formula by its runs. With OK
- * and BUDGET the first bytes hold the graph's message, the first n values round m and the next n round
- * m + 1; the others stay.
+ * With OK the verdict is OTZARVIM_YES exactly when the state satisfies the formula by its maximal runs:
+ * those that are endless, and those that end in a state without transitions. With OK and BUDGET the first
+ * bytes hold the graph's message, the first n values round m and the next n round m + 1; the others stay.
  *
  * Returns OK or the first that applies of: what otzarvim_model_check returns of the model, what
  * otzarvim_formula_check returns of the formula, NAME of the state, SIZE, ROOM, BUDGET.

@@ -13,7 +13,7 @@ set -eu
 
 [ $# -le 2 ] || die "usage: program.sh [SEED] [CASES]"
 seed=${1-1}
-count=${2-4000}
+count=${2-5000}
 jobs=${JOBS-2}
 
 copy_program otzarvim "${OTZARVIM-}"

@@ -8,17 +8,19 @@
 #include <inttypes.h>
 #include <stdio.h>
 
-enum { COLD, HOT, SPECULATED, GUARD_FAILED, INTERPRETED };
+enum { COLD, HOT, SPECULATED, GUARD_FAILED, INTERPRETED, RETIRED };
 
-static const char *const names[] = {"cold", "hot", "speculated", "guard_failed", "interpreted"};
+static const char *const names[] = {"cold", "hot", "speculated", "guard_failed", "interpreted", "retired"};
 
 static const uint8_t model[] = {
-    0, 0, 0, 113, 1, 2, 0, 5, 2, 0, 0, 0, 10,        /* 113 bytes, version 1, kind 2; 5 states, 2 propositions, 10 transitions */
+    0, 0, 0, 125, 1, 2, 0, 6, 2, 0, 0, 0, 11,        /* 125 bytes, version 1, kind 2; 6 states, 2 propositions, 11 transitions */
     0, 0, 0, 0, 0, 0, 0, 0, 0, 0, 0, 1,              /* p0 is compiled, and holds in speculated */
     0, 0, 0, 0, 0, 0, 0, 2,                          /* p1 is interpreted, and holds there */
+    0, 0, 0, 0,                                      /* nothing holds in retired, and no transition leaves it */
     0, 0, 0, 0, 0, 30, 0, 4,                         /* cold to interpreted, 30 instructions */
     0, 1, 0, 0, 0, 90, 0, 2,                         /* hot to speculated */
     0, 1, 0, 0, 0, 25, 0, 4,                         /* hot to interpreted */
+    0, 1, 0, 0, 0, 6, 0, 5,                          /* hot to retired */
     0, 2, 0, 0, 0, 4, 0, 2,                          /* speculated to itself */
     0, 2, 0, 0, 0, 7, 0, 3,                          /* speculated to guard_failed */
     0, 3, 0, 0, 0, 35, 0, 4,                         /* guard_failed to interpreted */

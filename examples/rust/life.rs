@@ -6,16 +6,18 @@
 
 use otzarvim::{Answer, Refusal, Verdict, MOST_GRAPH, MOST_ROUNDS, MOST_VALUES};
 
-const NAMES: [&str; 5] = ["cold", "hot", "speculated", "guard_failed", "interpreted"];
+const NAMES: [&str; 6] = ["cold", "hot", "speculated", "guard_failed", "interpreted", "retired"];
 const GUARD_FAILED: u32 = 3;
 
-const MODEL: [u8; 113] = [
-    0, 0, 0, 113, 1, 2, 0, 5, 2, 0, 0, 0, 10, // 113 bytes, version 1, kind 2; 5 states, 2 propositions, 10 transitions
+const MODEL: [u8; 125] = [
+    0, 0, 0, 125, 1, 2, 0, 6, 2, 0, 0, 0, 11, // 125 bytes, version 1, kind 2; 6 states, 2 propositions, 11 transitions
     0, 0, 0, 0, 0, 0, 0, 0, 0, 0, 0, 1, // p0 is compiled, and holds in speculated
     0, 0, 0, 0, 0, 0, 0, 2, // p1 is interpreted, and holds there
+    0, 0, 0, 0, // nothing holds in retired, and no transition leaves it
     0, 0, 0, 0, 0, 30, 0, 4, // cold to interpreted, 30 instructions
     0, 1, 0, 0, 0, 90, 0, 2, // hot to speculated
     0, 1, 0, 0, 0, 25, 0, 4, // hot to interpreted
+    0, 1, 0, 0, 0, 6, 0, 5, // hot to retired
     0, 2, 0, 0, 0, 4, 0, 2, // speculated to itself
     0, 2, 0, 0, 0, 7, 0, 3, // speculated to guard_failed
     0, 3, 0, 0, 0, 35, 0, 4, // guard_failed to interpreted

@@ -1,4 +1,4 @@
-//! Document 01, "The graph that is built".
+//! Document 01, "The graph that is built"; document 02, request 1, for states without transitions.
 
 use crate::bytes::{limit, Bound, Cover, Graph, Hyperedge, Model, Row, Runs, Target, Transition};
 use crate::refusal::{Fault, Number, CALL};
@@ -119,7 +119,8 @@ fn add_row(graph: &mut Graph, model: &Model, layout: &Layout, row: &Row, source:
 
 /// "until: .. one cover edge with its bound to the helper. Helper: first {right at weight 0}; then
 /// for E, per transition, {left at 0, the successor's helper at its weight}; for A, a single one
-/// {left at 0, then all successors' helpers}."
+/// {left at 0, then all successors' helpers}." Request 1: "the A helper there has only its first
+/// hyperedge".
 fn add_until(graph: &mut Graph, model: &Model, layout: &Layout, row: &Row, ends: (usize, usize)) {
     let Row::Until(runs, bound, left, right) = *row else {
         return;
@@ -141,6 +142,7 @@ fn add_until(graph: &mut Graph, model: &Model, layout: &Layout, row: &Row, ends:
     });
     match runs {
         Runs::Some => next.for_each(|target| graph.add(helper, vec![left.clone(), target])),
+        Runs::All if model.is_dead(state) => {}
         Runs::All => graph.add(helper, std::iter::once(left).chain(next).collect()),
     }
 }

@@ -68,6 +68,11 @@ impl Model {
             .iter()
             .filter(move |step| step.from == state)
     }
+
+    /// "a state without transitions": a run that comes there ends there.
+    pub fn is_dead(&self, state: usize) -> bool {
+        self.leaving(state).next().is_none()
+    }
 }
 
 /// E or A.
@@ -253,7 +258,7 @@ fn covers(cursor: &mut Cursor, nodes: usize, c: usize) -> Result<Vec<Cover>, Fau
 }
 
 /// "Model, kind 2, header 13 bytes: states s (2), propositions p (1), transitions t (4)." "A model
-/// must then have exactly 13 + 4s + 8t bytes". "After all of them, DEAD."
+/// must then have exactly 13 + 4s + 8t bytes". Request 1: "Number 7 is no longer given; t may be 0."
 pub fn model(bytes: &[u8]) -> Result<Model, Fault> {
     let mut cursor = open(MODEL, bytes, 13, 2)?;
     let (s, p, t) = (
@@ -271,14 +276,11 @@ pub fn model(bytes: &[u8]) -> Result<Model, Fault> {
     )?;
     let labels = labels(&mut cursor, s, p)?;
     let transitions = transitions(&mut cursor, s, t)?;
-    let model = Model {
+    Ok(Model {
         propositions: p as u32,
         labels,
         transitions,
-    };
-    let alive = (0..s).all(|state| model.leaving(state).next().is_some());
-    MODEL.demand(alive, Number::Dead, "dead state")?;
-    Ok(model)
+    })
 }
 
 /// "s labels of 4 bytes, where bit i says that proposition i holds"; "Label: a bit at p or above is

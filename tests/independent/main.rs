@@ -1,5 +1,5 @@
-//! The independent test program. It is written from document 01 alone and shares nothing with the
-//! crates: it makes batches of calls for the program `trials` and inputs for the program `otzarvim`,
+//! The independent test program. It is written from document 01 and the requests of document 02 that
+//! have landed (request 1), and shares nothing with the crates: it makes batches of calls for the program `trials` and inputs for the program `otzarvim`,
 //! and says what each must answer.
 
 mod answer;

@@ -1,6 +1,6 @@
 //! The numbers of document 01, "Numbers given back", and where a fault was found.
 
-/// "No. | Name": the numbers, in the order of the table.
+/// "No. | Name": the numbers, in the order of the table. Request 1: 7, DEAD, "is no longer given".
 #[derive(Clone, Copy, PartialEq, Eq, PartialOrd, Ord, Debug)]
 pub enum Number {
     Ok = 0,
@@ -10,7 +10,6 @@ pub enum Number {
     Limit = 4,
     Order = 5,
     Name = 6,
-    Dead = 7,
     Size = 8,
     Room = 9,
     Form = 10,
@@ -90,7 +89,6 @@ pub const RULES: &[(&str, &str, &str)] = &[
     ("model", "from", "MVP"),
     ("model", "order", "MVP"),
     ("model", "to", "MVP"),
-    ("model", "dead state", "MVP"),
     ("formula", "p handed in", "FT"),
     ("formula", "header bytes", "FTVP"),
     ("formula", "length field", "FTVP"),

@@ -1,4 +1,5 @@
-//! Satisfaction by the runs of a model, without any graph: document 01, "Formulas and runs".
+//! Satisfaction by the maximal runs of a model, without any graph: document 01, "Formulas and runs",
+//! and document 02, request 1: runs are "endless, or ending in a state without transitions".
 
 use crate::bytes::{Bound, Model, Row, Runs};
 use crate::rounds::{plus, within, Value};
@@ -8,7 +9,7 @@ pub struct Meaning {
     /// Whether a state satisfies the row.
     pub holds: Vec<Vec<bool>>,
     /// For an until row and each state: for E the least weight of a walk to right through left, for
-    /// A the greatest over all runs; infinity where there is none. Empty for other rows.
+    /// A the greatest over all maximal runs; infinity where there is none. Empty for other rows.
     pub weights: Vec<Vec<Value>>,
 }
 
@@ -56,7 +57,7 @@ fn state_satisfies(
 }
 
 /// "EX: some transition of weight within the bound leads to a state that satisfies the operand. AX:
-/// all such transitions do."
+/// all such transitions do." So at a state without transitions "EX is false, AX is true".
 fn next(model: &Model, runs: Runs, bound: Bound, operand: &[bool], state: usize) -> bool {
     let mut steps = model
         .leaving(state)
@@ -69,8 +70,8 @@ fn next(model: &Model, runs: Runs, bound: Bound, operand: &[bool], state: usize)
 
 /// "E until: on some run from the state there is a position that satisfies right, with the weights
 /// before it summing to within the bound and left holding at each earlier position." Every walk goes
-/// on as a run, so this is a shortest weight: states are closed by rising weight, and what has been
-/// closed lowers the states before it (Dijkstra, backwards).
+/// on as a maximal run, so this is a shortest weight: states are closed by rising weight, and what has
+/// been closed lowers the states before it (Dijkstra, backwards).
 fn least(model: &Model, left: &[bool], right: &[bool]) -> Vec<Value> {
     let mut weight: Vec<Value> = right.iter().map(|holds| holds.then_some(0)).collect();
     let mut open: Vec<bool> = vec![true; model.states()];
@@ -107,7 +108,7 @@ enum Seen {
 /// "A until: on every run." The first position with right is the lightest, and asks least of left.
 /// So a state costs 0 where right holds, and nothing helps where neither holds; otherwise it costs
 /// the worst over its transitions. A walk that comes back to a state before it met right can be
-/// repeated for ever, whatever the weights: a run without right.
+/// repeated for ever, whatever the weights: a run without right. So is one that ends before it met it.
 fn worst(model: &Model, left: &[bool], right: &[bool]) -> Vec<Value> {
     let mut seen = vec![Seen::Never; model.states()];
     (0..model.states())
@@ -129,7 +130,7 @@ fn worst_from(
     }
     let value = if right[state] {
         Some(0)
-    } else if !left[state] {
+    } else if !left[state] || model.is_dead(state) {
         None
     } else {
         model.leaving(state).fold(Some(0), |cost: Value, step| {

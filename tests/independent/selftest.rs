@@ -3,7 +3,7 @@
 
 use crate::answer::{answer, answer_batch, sum, Call, LETTERS};
 use crate::batch::{self, generate};
-use crate::build;
+use crate::build::{self, Layout};
 use crate::bytes::{self, Bound, Formula, Graph, Model, Row, Runs};
 use crate::known::{self, graph, model};
 use crate::message;
@@ -24,6 +24,7 @@ pub fn run(seed: u64) {
     large_graphs();
     let mut random = Random::new(seed);
     runs_by_unrolling(&mut random, 10_000);
+    dead_states(&mut random, 10_000);
     graphs_by_runs(&mut random, 5_000);
     largest_assignments(&mut random, 2_000);
     texts_read_back(&mut random, 3_000);
@@ -184,8 +185,9 @@ fn large_graphs() {
 
 // ---- the meaning of formulas by brute force
 
-/// Runs cut after as many steps as there are states. A longer walk meets a state twice: for E its
-/// detour can be left out, and for A it can be repeated for ever. So the cut runs decide both.
+/// Maximal runs, cut after as many steps as there are states where they haven't ended. A longer walk
+/// meets a state twice: for E its detour can be left out, and for A it can be repeated for ever. So
+/// the cut runs decide both.
 fn runs_by_unrolling(random: &mut Random, times: usize) {
     let mut untils = 0;
     for _ in 0..times {
@@ -225,18 +227,49 @@ fn until_by_walks(model: &Model, holds: &[Vec<bool>], row: &Row, state: usize) -
     }
 }
 
-/// Every way to go on with a walk for so many steps: the states with the weights before them.
+/// Every way to go on with a walk for so many steps, or to where it ends: the states with the weights
+/// before them.
 fn walks(model: &Model, walk: Vec<(usize, u64)>, steps: usize) -> Vec<Vec<(usize, u64)>> {
-    if steps == 0 {
+    let (last, weight) = walk[walk.len() - 1];
+    if steps == 0 || model.is_dead(last) {
         return vec![walk];
     }
-    let (last, weight) = walk[walk.len() - 1];
     let mut found = vec![];
     for step in model.leaving(last) {
         let longer = [&walk[..], &[(step.to, weight + u64::from(step.weight))]].concat();
         found.extend(walks(model, longer, steps - 1));
     }
     found
+}
+
+/// Request 1: "at such a state EX is false, AX is true, E until and A until hold exactly when right
+/// holds, and the A helper there has only its first hyperedge".
+fn dead_states(random: &mut Random, times: usize) {
+    let mut dead = 0;
+    for _ in 0..times {
+        let model = generate::model(random, 5);
+        let size = random.between(2, 9);
+        let rows = generate::formula(random, model.propositions, size);
+        let meaning = sat::meaning(&model, &rows);
+        let built = build::graph(&model, &rows);
+        for state in (0..model.states()).filter(|state| model.is_dead(*state)) {
+            for (row, holds) in rows.iter().zip(&meaning.holds) {
+                match *row {
+                    Row::Next(runs, ..) => assert_eq!(holds[state], runs == Runs::All),
+                    Row::Until(.., right) => assert_eq!(holds[state], meaning.holds[right][state]),
+                    _ => {}
+                }
+            }
+            for until in 0..build::until_rows(&rows).len() {
+                let helper = Layout::of(&model, &rows).helper(state, until);
+                let edges = built.hyperedges.iter();
+                assert_eq!(edges.filter(|edge| edge.source == helper).count(), 1);
+            }
+            dead += 1;
+        }
+    }
+    report("dead states", dead);
+    assert!(dead > times / 4, "hardly any state is dead");
 }
 
 /// The two ways against each other, on larger models and formulas too.

@@ -10,7 +10,7 @@ from typing import Iterator, List, NamedTuple
 from .formula import Formula
 from .mistakes import Mistake, Place
 from .model import Model
-from .paper import DEAD, LENGTH, LIMIT, LIMITS, NAME, PROGRAM_INPUT, PROPOSITIONS
+from .paper import LENGTH, LIMIT, LIMITS, NAME, PROGRAM_INPUT, PROPOSITIONS
 
 
 class Complaint(NamedTuple):
@@ -27,17 +27,11 @@ def _outside(what: str, count: int, place: Place, more: str = "") -> Iterator[Co
 
 
 def of_model(model: Model, named: int = 0) -> Iterator[Complaint]:
-    """Counts outside their limits, and states without a transition.
-
-    So many of the propositions are states that the formula names.
-    """
+    """Counts outside their limits. So many of the propositions are states that the formula names."""
     place = Place(model.path)
     yield from _outside("states", len(model.states), place)
     yield from _outside("propositions", len(model.propositions), place, f" ({named} for states that the formula names)" if named else "")
     yield from _outside("transitions", len(model.transitions), place)
-    for state in model.dead():
-        name = model.states[state]
-        yield Complaint(DEAD, Mistake(model.place(state), f"state {name} has no transition (if it stays as it is: {name} -> {name} 0)"))
 
 
 def of_formula(formula: Formula, propositions: int, place: Place) -> Iterator[Complaint]:

@@ -1,7 +1,7 @@
 """From message bytes back to models and formulas.
 
 Faults are looked for in document 01's order and the first is raised, with its byte and number. Raw
-passes over what text can say too: counts outside their limits, dead states, propositions by number.
+passes over what text can say too: counts outside their limits, propositions by number.
 """
 
 from __future__ import annotations
@@ -15,7 +15,6 @@ from .model import Model, Transition
 from .names import plain_name
 from .paper import (
     BOUNDED,
-    DEAD,
     FORM,
     FORMULA_HEADER,
     FORMULA_KIND,
@@ -103,9 +102,6 @@ def decode_model(data: bytes, path: str = "message", start: int = 0, raw: bool =
         model.transitions.append(Transition(source, weight, target))
         before = source
         at += record
-    dead = model.dead()
-    if dead and not raw:
-        raise message.fault(DEAD, 0, f"state {dead[0]} has no transition")
     return model
 
 

@@ -5,8 +5,6 @@ from __future__ import annotations
 from dataclasses import dataclass, field
 from typing import FrozenSet, List
 
-from .mistakes import Place
-
 
 @dataclass(frozen=True)
 class Transition:
@@ -21,7 +19,7 @@ class Transition:
 class Model:
     """State i is named `states[i]` and has the propositions `labels[i]`.
 
-    Transitions stand in the order of the file. `lines[i]` is the line that first names state i.
+    Transitions stand in the order of the file. A state may have none.
     """
 
     states: List[str] = field(default_factory=list)
@@ -29,16 +27,6 @@ class Model:
     labels: List[FrozenSet[int]] = field(default_factory=list)
     transitions: List[Transition] = field(default_factory=list)
     path: str = field(default="model", compare=False)
-    lines: List[int] = field(default_factory=list, compare=False)
-
-    def place(self, state: int) -> Place:
-        """Where the file first names a state."""
-        return Place(self.path, self.lines[state] if state < len(self.lines) else None)
-
-    def dead(self) -> List[int]:
-        """The states without a transition."""
-        sources = {step.source for step in self.transitions}
-        return [state for state in range(len(self.states)) if state not in sources]
 
     def label_names(self, state: int) -> List[str]:
         """The propositions of a state by name, in the order of their numbers."""

@@ -38,7 +38,6 @@ class _Reader:
             self.numbers[name] = len(self.model.states)
             self.model.states.append(name)
             self.model.labels.append(frozenset())
-            self.model.lines.append(line)
         return self.numbers[name]
 
     def add_proposition(self, name: str, line: int) -> int:

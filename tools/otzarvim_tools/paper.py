@@ -96,7 +96,7 @@ REFUSALS: Dict[int, Refusal] = {
         Refusal(LIMIT, "LIMIT", "a count is outside what is allowed"),
         Refusal(ORDER, "ORDER", "a transition starts at a state below that of the one before it"),
         Refusal(NAME, "NAME", "a state, proposition or operand that doesn't exist"),
-        Refusal(DEAD, "DEAD", "a state has no transition"),
+        Refusal(DEAD, "DEAD", "a state has no transition; no longer given, since runs may stop"),
         Refusal(
             SIZE,
             "SIZE",

@@ -91,5 +91,6 @@ def graph_size(model: Model, formula: Formula) -> Size:
                 size.add(1, *[2] * degree)
             elif row.operator == Operator.A_UNTIL:
                 size.covers += 1
-                size.add(1, 1 + degree)
+                # at a state without transitions the helper has its first hyperedge only
+                size.add(1, *[1 + degree] * bool(degree))
     return size

@@ -1,5 +1,5 @@
 #!/usr/bin/env python3
-"""A stand-in for the program, written from document 01 alone; it shares nothing with the package.
+"""A stand-in for the program, written from document 01 and request 1 alone; it shares nothing with the package.
 
 It is there for answers: of refusals it gives 2 for input that is too long, 6 for a proposition that the
 model doesn't have, 8 and 9. All else it trusts.
@@ -69,7 +69,8 @@ def graph(labels, leads, rows):
                 covers[node] = (bound, a + base)
                 steps = [(w, b + base) for w, b in leads[a]]
                 rest = [[(0, l), step] for step in steps] if operator == 8 else [[(0, l)] + steps]
-                hypers[a + base] = [[(0, q)]] + rest
+                # where nothing follows, the first stands alone
+                hypers[a + base] = [[(0, q)]] + (rest if steps else [])
     return hypers, covers
 
 

@@ -1,4 +1,4 @@
-"""Untils by runs, straight from document 01's words: no graph, no rounds, nothing of the package.
+"""Untils by maximal runs, straight from the words of document 01 and of request 1: no graph, no rounds, nothing of the package.
 
 A model is a dict from a state to its (weight, next state) pairs; `left` and `right` are sets of states.
 A place on a run is a state and the cost so far; without a bound the cost doesn't matter and stays 0.
@@ -35,13 +35,13 @@ def e_until(leads, left, right, bound=None):
 
 
 def a_until(leads, left, right, bound=None):
-    """The states without a run that fails: from all places short of right, those with no way to fail are struck."""
+    """The states without a run that fails: from all places short of right, those with no way to fail are struck. A run that ends there fails."""
     bad = {place for place in _places(leads, bound) if place[0] not in right}
     while True:
         fewer = {
             place
             for place in bad
-            if place[0] not in left or any(after is None or after in bad for after in _steps(leads, place, bound))
+            if place[0] not in left or not leads[place[0]] or any(after is None or after in bad for after in _steps(leads, place, bound))
         }
         if fewer == bad:
             return {state for state in leads if (state, 0) not in bad}

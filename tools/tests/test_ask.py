@@ -99,12 +99,9 @@ class Asking(Case):
 
     def test_mistakes_end_with_2_and_their_place(self):
         bad = self.write("bad.otz", "a -> b 1\nb -> c 1\nb -> 3\n")
-        dead = self.write("dead.otz", "a -> b 1\nb -> c 1\na -> d 0")
         binary = self.write("binary", b"\xff")
         for words, said in (
             ((bad, "true"), f"{bad}:3: not a transition"),
-            ((dead, "true"), f"{dead}:2: state c has no transition"),
-            ((dead, "true"), f"{dead}:3: state d has no transition"),
             ((binary, "true"), f"{binary}: not text"),
             ((self.folder / "none", "true"), "none: No such file"),
             ((self.model, "(p0 &"), "formula:1:6: "),
@@ -132,10 +129,18 @@ class Asking(Case):
         self.assertEqual((status, err), (2, f"{full}: 33 propositions: 0 to 32 are allowed (1 for states that the formula names)\n"))
         self.assertEqual(self.otz("ask", full, "p31", "--program", FAKE)[0], 0)
 
+    def test_states_without_transitions_are_asked_about(self):
+        model = self.write("ends.otz", "a -> b 1\na -> a 2")
+        for asked, a, b in (
+            ("EX true", "yes", "no"), ("AX false", "no", "yes"), ("E[true U<=1 b]", "yes", "yes"), ("A[true U b]", "no", "yes"), ("A[true U a]", "yes", "no"),
+        ):
+            status, out, _ = self.otz("ask", model, asked, "--program", FAKE)
+            self.assertEqual((status, out.split("\n\n")[1]), (0, f"a  {a}\nb  {b}\n"), asked)
+        alone = self.write("alone.otz", "state a")
+        self.assertEqual(self.otz("ask", alone, "A[true U !a]", "--program", FAKE)[1].splitlines()[-1], "a  no")
+
     def test_raw_leaves_refusing_to_the_program(self):
-        dead = self.write("dead.otz", "a -> b 1")
         for model, formula, number, said in (
-            (dead, "true", 7, f"{dead}:1: state b has no transition"),
             (self.model, "p9", 6, "there is no proposition p9"),
             (self.model, "EX " * 64 + "p0", 4, "65 rows: 1 to 64 are allowed"),
             (self.write("empty.otz", ""), "true", 4, "0 states: 1 to 256 are allowed"),
@@ -180,11 +185,11 @@ class Files(Case):
         self.assertEqual(self.otz("show", out, "--only", "formula")[::2], (2, f"{out}: there is no formula here\n"))
 
     def test_mistakes(self):
-        dead, out = self.write("dead.otz", "a -> b 1"), self.folder / "out"
-        self.assertEqual(self.otz("compile", dead, "-o", out)[0], 2)
+        none, out = self.write("none.otz", ""), self.folder / "out"
+        self.assertEqual(self.otz("compile", none, "-o", out)[0], 2)
         self.assertFalse(out.exists())
-        self.assertEqual(self.otz("compile", dead, "-o", out, "--raw")[0], 0)
-        self.assertIn("refusal 7, DEAD", self.otz("show", out)[2])
-        self.assertEqual(self.otz("show", out, "--raw")[1], "state s0\nstate s1\ns0 -> s1 1\n")
-        self.assertEqual(self.otz("compile", dead, "-o", self.folder / "no" / "out", "--raw")[0], 2)
+        self.assertEqual(self.otz("compile", none, "-o", out, "--raw")[0], 0)
+        self.assertIn("refusal 4, LIMIT", self.otz("show", out)[2])
+        self.assertEqual(self.otz("show", out, "--raw")[1], "")
+        self.assertEqual(self.otz("compile", none, "-o", self.folder / "no" / "out", "--raw")[0], 2)
         self.assertEqual(self.otz("nonsense")[0], 2)

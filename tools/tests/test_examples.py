@@ -19,13 +19,14 @@ LIFE = ROOT / "examples" / "formula_life.otz"
 # The example again, by hand.
 LEADS = {
     "cold": [(30, "interpreted")],
-    "hot": [(90, "speculated"), (25, "interpreted")],
+    "hot": [(90, "speculated"), (25, "interpreted"), (6, "retired")],
     "speculated": [(4, "speculated"), (7, "guard_failed")],
     "guard_failed": [(35, "interpreted"), (12, "cold")],
     "interpreted": [(20, "interpreted"), (1, "cold"), (2, "hot")],
+    "retired": [],
 }
 ALL = set(LEADS)
-INTERPRETED, COMPILED = {"interpreted"}, {"speculated"}
+INTERPRETED, COMPILED, RETIRED = {"interpreted"}, {"speculated"}, {"retired"}
 
 
 class Life(Case):
@@ -55,14 +56,15 @@ class Life(Case):
 
     def test_a_lucky_run_from_speculation(self):
         # by hand: 7 for the failed guard, then 35
-        for bound, by_hand in ((42, ALL), (41, ALL - {"speculated"})):
+        for bound, by_hand in ((42, ALL - RETIRED), (41, ALL - RETIRED - {"speculated"})):
             by_runs = e_until(LEADS, ALL, INTERPRETED, bound)
             self.assertEqual(by_runs, by_hand)
             self.assertEqual(self.answer(f"E[true U<={bound} interpreted]"), by_hand)
 
     def test_how_soon_native_code_can_run(self):
         # by hand: 30, 2 and 90 from cold; 35 and then 92 from a failed guard
-        for bound, by_hand in ((122, ALL - {"guard_failed"}), (121, ALL - {"guard_failed", "cold"}), (127, ALL), (126, ALL - {"guard_failed"})):
+        alive = ALL - RETIRED
+        for bound, by_hand in ((122, alive - {"guard_failed"}), (121, alive - {"guard_failed", "cold"}), (127, alive), (126, alive - {"guard_failed"})):
             by_runs = e_until(LEADS, ALL, COMPILED, bound)
             self.assertEqual(by_runs, by_hand)
             self.assertEqual(self.answer(f"E[true U<={bound} compiled]"), by_hand)
@@ -78,12 +80,26 @@ class Life(Case):
             self.assertEqual("speculated" in by_runs, bound == 4)
             self.assertEqual(self.answer(f"AX<={bound} compiled"), by_runs)
 
+    def test_runs_that_end(self):
+        # by hand: from hot a run may end before the formula runs again, from retired it has ended
+        by_hand = ALL - RETIRED - {"hot"}
+        self.assertEqual(a_until(LEADS, ALL, COMPILED | INTERPRETED), by_hand)
+        self.assertEqual(self.answer("A[true U (compiled | interpreted)]"), by_hand)
+        self.assertEqual(a_until(LEADS, ALL, COMPILED | INTERPRETED | RETIRED), ALL)
+        self.assertEqual(self.answer("A[true U (retired | (compiled | interpreted))]"), ALL)
+        # 30, 2 and 6 from cold
+        for bound, by_hand in ((38, ALL - {"speculated", "guard_failed"}), (37, ALL - {"speculated", "guard_failed", "cold"})):
+            self.assertEqual(e_until(LEADS, ALL, RETIRED, bound), by_hand)
+            self.assertEqual(self.answer(f"E[true U<={bound} retired]"), by_hand)
+        self.assertEqual(self.answer("AX false"), RETIRED)
+        self.assertEqual(self.answer("EX true"), ALL - RETIRED)
+
 
 class Pages(Case):
     """Each command on a page is run, and what the page shows below it is what it writes."""
 
     def test_pages(self):
-        for page, least in (("tools/README.md", 5), ("examples/README.md", 7)):
+        for page, least in (("tools/README.md", 5), ("examples/README.md", 11)):
             text = (ROOT / page).read_text()
             shown = 0
             for block in re.findall(r"^```\n(\$ .*?)^```$", text, re.M | re.S):

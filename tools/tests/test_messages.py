@@ -30,7 +30,7 @@ UNTIL_BYTES = bytes.fromhex("0000001F 01 03 03  02 00 00 00 00000000  02 01 00 0
 
 def random_model(chance: random.Random) -> Model:
     states, propositions = chance.randint(1, 6), chance.randint(1, 4)
-    steps = [Transition(a, chance.randint(0, 9), chance.randrange(states)) for a in range(states) for _ in range(chance.randint(1, 3))]
+    steps = [Transition(a, chance.randint(0, 9), chance.randrange(states)) for a in range(states) for _ in range(chance.randint(0, 3))]
     labels = [frozenset(i for i in range(propositions) if chance.random() < 0.5) for _ in range(states)]
     return Model([f"s{a}" for a in range(states)], [f"p{i}" for i in range(propositions)], labels, steps)
 
@@ -114,7 +114,6 @@ class Faults(Case):
             (self.change(M_BYTES, 22, 2), "byte 21, in the model: a transition from state 2 of 2 (refusal 6, NAME)"),
             (self.change(M_BYTES, 22, 1), "byte 29, in the model: a transition from state 0 after one from state 1 (refusal 5, ORDER)"),
             (self.change(M_BYTES, 28, 2), "byte 27, in the model: a transition to state 2 of 2"),
-            (self.change(M_BYTES, 38, 0), "state 1 has no transition (refusal 7, DEAD)"),
         ):
             self.mistake(lambda: decode(data, "x.bin"), "x.bin: ", said)
 
@@ -147,8 +146,6 @@ class Faults(Case):
             self.assertEqual(compile_model(shown) + compile_formula(understood), data)
 
     def test_raw_passes_over_what_text_can_say(self):
-        dead = self.change(M_BYTES, 38, 0)
-        self.assertEqual(decode(dead, "x", raw=True)[0].dead(), [1])
         far = M_BYTES + self.change(UNTIL_BYTES, 8, 200)
         self.assertEqual(decode(far, "x", raw=True)[1].text(), "E[p200 U<=2 p1]")
 
@@ -170,9 +167,11 @@ class Limits(Case):
         for count, found in ((65535, []), (65536, [4])):
             self.assertEqual(self.numbers(checks.of_model(Model(["a"], [], [frozenset()], loop * count))), found)
 
-    def test_dead_states_have_their_line(self):
-        (only,) = checks.of_model(model("a -> a 1\na -> b 2"))
-        self.assertEqual((only.number, str(only.mistake)), (7, "m.otz:2: state b has no transition (if it stays as it is: b -> b 0)"))
+    def test_states_without_transitions_are_taken(self):
+        for text in ("a -> a 1\na -> b 2", "state a", "state a\nstate b\nb -> a 0"):
+            self.assertEqual(self.numbers(checks.of_model(model(text))), [])
+            data = compile_model(model(text))
+            self.assertEqual(compile_model(decode(data, "x")[0]), data)
 
     def test_of_formulas(self):
         for count, found in ((64, []), (65, [4])):

@@ -13,7 +13,6 @@ class Reading(Case):
         self.assertEqual(read.propositions, ["y", "x"])
         self.assertEqual(read.labels, [frozenset(), {1}, {0, 1}])
         self.assertEqual(read.transitions, [Transition(0, 1, 1), Transition(2, 0, 0), Transition(1, 2, 2)])
-        self.assertEqual(read.lines, [1, 1, 2])
 
     def test_listed_propositions_come_first(self):
         read = model("propositions: x, y\npropositions z\na: z, x\na -> a 1")

@@ -110,7 +110,7 @@ pub enum Refusal {
     Order,
     /// A node, state, proposition or operand that doesn't exist.
     Name,
-    /// A state with no transition.
+    /// A state with no transition. It is no longer given: a run that comes to such a state ends there.
     Dead,
     /// The graph to be built would pass a limit.
     Size,
@@ -229,7 +229,7 @@ pub enum Rounds {
 /// Whether a state satisfies a formula.
 #[derive(Clone, Copy, Debug, PartialEq, Eq, Hash)]
 pub enum Verdict {
-    /// It does, by its runs.
+    /// It does, by its maximal runs: those that are endless, and those that end in a state without transitions.
     Yes,
     /// It doesn't.
     No,
@@ -310,6 +310,9 @@ pub fn check_graph(message: &[u8]) -> Result<Graph, Refusal> {
 /// assert_eq!(otzarvim::check_model(&model), Ok(Model { states: 1, propositions: 0, transitions: 1 }));
 /// model[24] = 1;
 /// assert_eq!(otzarvim::check_model(&model), Err(Refusal::Name));
+/// // The same state without a transition: runs end there.
+/// let model = [0, 0, 0, 17, 1, 2, 0, 1, 0, 0, 0, 0, 0, 0, 0, 0, 0];
+/// assert_eq!(otzarvim::check_model(&model), Ok(Model { states: 1, propositions: 0, transitions: 0 }));
 /// ```
 pub fn check_model(message: &[u8]) -> Result<Model, Refusal> {
     let mut counts = [0; 3];

@@ -1,5 +1,6 @@
-// The library for programs in C and Rust (include/otzarvim.h): numbers and slices in, the paper's number out, further results
-// in numbers that the caller lends. No function has a `requires`: any bytes and any lengths will do.
+// The library for programs in C and Rust (include/otzarvim.h): numbers and slices in, the paper's number out. No function has a
+// `requires`: any bytes and any lengths will do. The number, the verdict, the count and the length are the answer, and are always
+// written; rooms, counts, rows and states are lent memory, which a refusal leaves as it came.
 ghost use mathlib.Core.Path.{_≡_};
 ghost use Rattle.graph.specs.Message.{readGraph};
 ghost use Rattle.graph.specs.Answers as g;
@@ -17,7 +18,7 @@ ghost use Rattle.export.specs.Results.{graphCounts, modelCounts, formula
 use verdict::AllStates;
 use verdict::Verdict;
 
-// Checks a graph message; lends back its nodes, hyperedges and cover edges.
+// Checks a graph message; gives its nodes, hyperedges and cover edges.
 #[no_mangle]
 pub extern "C" fn otzarvim_graph_check(message: &[u8], counts: &mut [u32; 3]) -> u8
     ensures { λ r. ⌜ r ≡ g.checkedNumber (g.checked (readGraph (now (message .entry)))) ⌝ }
@@ -32,7 +33,7 @@ pub extern "C" fn otzarvim_graph_check(message: &[u8], counts: &mut [u32; 3]) ->
     }
 }
 
-// Checks a model message; lends back its states, propositions and transitions.
+// Checks a model message; gives its states, propositions and transitions.
 #[no_mangle]
 pub extern "C" fn otzarvim_model_check(message: &[u8], counts: &mut [u32; 3]) -> u8
     ensures { λ r. ⌜ r ≡ m.checkedNumber (m.checked (readModel (now (message .entry)))) ⌝ }
@@ -47,7 +48,7 @@ pub extern "C" fn otzarvim_model_check(message: &[u8], counts: &mut [u32; 3]) ->
     }
 }
 
-// Checks a formula message whose propositions are below p; lends back its rows.
+// Checks a formula message whose propositions are below p; gives its rows.
 #[no_mangle]
 pub extern "C" fn otzarvim_formula_check(message: &[u8], p: u32, rows: &mut u32) -> u8
     ensures { λ r. ⌜ r ≡ f.checkedNumber (f.checked (readFormula p (now (message .entry)))) ⌝ }
@@ -62,7 +63,7 @@ pub extern "C" fn otzarvim_formula_check(message: &[u8], p: u32, rows: &mut u32)
     }
 }
 
-// Runs the rounds on a graph message; lends back the count of rounds.
+// Runs the rounds on a graph message; gives the count of rounds.
 #[no_mangle]
 pub extern "C" fn otzarvim_rounds_solve(
     message: &[u8],
@@ -81,7 +82,7 @@ pub extern "C" fn otzarvim_rounds_solve(
     outcome.number()
 }
 
-// Writes the text of a formula message whose propositions are below p; lends back its length.
+// Writes the text of a formula message whose propositions are below p; gives its length.
 #[no_mangle]
 pub extern "C" fn otzarvim_formula_text(
     message: &[u8],
@@ -109,7 +110,7 @@ fn verdict_number(verdict: Verdict) -> u8
     }
 }
 
-// The verdict on a state; lends back the verdict's number, the count of rounds and the length of the graph.
+// The verdict on a state; gives the verdict's number, the count of rounds and the length of the graph.
 #[no_mangle]
 pub extern "C" fn otzarvim_verdict(
     model: &[u8],
@@ -142,7 +143,7 @@ pub extern "C" fn otzarvim_verdict(
     answer.number()
 }
 
-// The graph of a model and a formula alone; lends back its length.
+// The graph of a model and a formula alone; gives its length.
 #[no_mangle]
 pub extern "C" fn otzarvim_graph(
     model: &[u8],
@@ -161,7 +162,7 @@ pub extern "C" fn otzarvim_graph(
     built.number()
 }
 
-// All states at once; lends back the count of rounds, the length of the graph, the place of state 0's number and how many states there are, where it settled.
+// All states at once; gives the count of rounds, the length of the graph, the place of state 0's number and how many states there are, where it settled.
 #[no_mangle]
 pub extern "C" fn otzarvim_settle(
     model: &[u8],

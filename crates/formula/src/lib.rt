@@ -183,6 +183,27 @@ fn judge(p: u32, place: u32, operator: u32, left: u32, right: u32, zero: u32, bo
     Judged::Fine(row_of(operator, left, right, bound))
 }
 
+// The same, with an arm for each kind of operator: so the compiler knows in each which fields are used.
+fn judge_kind(
+    p: u32,
+    place: u32,
+    operator: u32,
+    left: u32,
+    right: u32,
+    zero: u32,
+    bound: u32,
+) -> Judged
+    ensures { λ r. ⌜ r ≡ answers.judged (m.judgeRow p place operator left right zero bound) ⌝ }
+{
+    match operator {
+        0 | 1 => judge(p, place, operator, left, right, zero, bound),
+        2 | 3 => judge(p, place, operator, left, right, zero, bound),
+        4 | 5 => judge(p, place, operator, left, right, zero, bound),
+        6 | 7 => judge(p, place, operator, left, right, zero, bound),
+        _ => judge(p, place, operator, left, right, zero, bound),
+    }
+}
+
 // The header, and that the message is as long as its count says.
 fn header(s: &[u8]) -> Checked
     ensures { λ r. ⌜ r ≡ answers.counted (m.readHeader (now (s .entry))) ⌝ }
@@ -252,7 +273,7 @@ fn one_row(s: &[u8], p: u32, bound: u32, st: State, counts: &mut [u8]) -> Step
     let right = wire::number_at(s, right_at, Width::One);
     let zero_at = at + ZERO_AT;
     let zero = wire::number_at(s, zero_at, Width::One);
-    let row = match judge(p, st.tally, operator, left, right, zero, bound) {
+    let row = match judge_kind(p, st.tally, operator, left, right, zero, bound) {
         Judged::Fine(row) => row,
         Judged::Refused(e) => return Step::Refused(e),
     };

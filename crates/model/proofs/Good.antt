@@ -76,12 +76,12 @@ module _ (s : List ℕ) where
       let l = label-good p st (r .value) (r .first) in
       omega (arith, value-inside 4 s (st .at) (l .label-there), ap (λ (u : State). u .at) (good-same (r .rest)))
 
-  -- a transition moves the position past it
-  pub transitions-stay : (n : ℕ) (st next : State) → one (transitions s n) st ≡ good next → (st .at + transitionWidth ≡ next .at) × (next .at ≤ length s)
+  -- a transition moves the position past it, and leaves a state that exists
+  pub transitions-stay : (n : ℕ) (st next : State) → one (transitions s n) st ≡ good next → (st .at + transitionWidth ≡ next .at) × (next .at ≤ length s) × (next .prev < n)
   transitions-stay n st next e =
       let r = bind-good _ _ e in
       let t = transition-good n st (r .value) (r .first) in
-      rw (← good-same (r .rest)) (refl, omega (arith, value-inside 2 s (st .at + toAt) (t .to-there)))
+      rw (← good-same (r .rest)) (refl, omega (arith, value-inside 2 s (st .at + toAt) (t .to-there)), t .from-named)
 
 -- what a good header says of the bytes
 pub record HeaderAt (s : List ℕ) (k : Counts) : Type 0 where

@@ -1,6 +1,6 @@
 // The check of a model message: the first fault in the paper's order, or the counts of its header.
 ghost use mathlib.Core.Path.{_≡_};
-ghost use Prim.Native.Nat.{ℕ, _+_, _*_, _≤_, _^_};
+ghost use Prim.Native.Nat.{ℕ, _+_, _*_, _≤_, _<_, _^_};
 ghost use lib.ListN.{length};
 ghost use Rattle.wire.specs.declared.Field.the-variants.{Number};
 ghost use Rattle.wire.specs.Field.{fieldAt};
@@ -35,8 +35,11 @@ const STATES: Count = Count {
     most: 256,
 };
 
+// Where the propositions are told: whoever has an accepted model reads them there.
+pub const PROPOSITIONS_AT: usize = 8;
+
 const PROPOSITIONS: Count = Count {
-    at: 8,
+    at: PROPOSITIONS_AT,
     width: Width::One,
     least: 0,
     most: 32,
@@ -129,14 +132,26 @@ fn labels(s: &[u8], p: u32, k: u32, first: State) -> Step
     Step::Next(st)
 }
 
-// One transition of a model with n states, whose last field is there, and so are those before it.
+// One transition of a model with n states, whose last field is there, and so are those before it. Most leave the state that the one
+// before them leaves, which exists.
 fn transition(s: &[u8], n: u32, to: u32, st: State) -> Step
     requires { ⌜ fieldAt 2 (now s) (st .at + toAt) ≡ Number to ⌝ }
+    requires { ⌜ st .prev < n ⌝ }
     ensures { λ r. ⌜ r ≡ step (one (m.transitions (now (s .entry)) n) st) ⌝ }
 {
     let at = st.at;
     let from = wire::number_at(s, at, Width::Two);
     let end = at + TRANSITION;
+    if from == st.prev {
+        if n <= to {
+            return Step::Refused(Refusal::Name);
+        }
+        return Step::Next(State {
+            at: end,
+            prev: from,
+            tally: st.tally,
+        });
+    }
     if n <= from {
         return Step::Refused(Refusal::Name);
     }
@@ -155,7 +170,7 @@ fn transition(s: &[u8], n: u32, to: u32, st: State) -> Step
 
 // The k transitions up to the end of the message: where no last field fits, none is left.
 fn transitions(s: &[u8], n: u32, start: State) -> Step
-    requires { ⌜ start .at ≤ length (now s) ⌝ }
+    requires { ⌜ (start .at ≤ length (now s)) × (start .prev < n) ⌝ }
     ensures { λ r. ⌜ ((k : ℕ) → start .at + k * transitionWidth ≡ length (now (s .entry)) → r ≡ step (run (m.transitions (now (s .entry)) n) k start)) ⌝ }
 {
     let mut st = start;

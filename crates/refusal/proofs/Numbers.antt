@@ -4,7 +4,7 @@ use Prim.Native.Nat.{ℕ, zero, suc, _<_}
 use native.Mathlib.Omega.{arith}
 use Rattle.refusal.specs.Number.{overBudget, numberOf}
 use Rattle.refusal.specs.declared.Refusal.{Refusal}
-use Rattle.refusal.specs.declared.Refusal.the-variants.{Length, Version, Limit, Order, Name, Dead, Size, Room, Form}
+use Rattle.refusal.specs.declared.Refusal.the-variants.{Length, Version, Limit, Order, Name, Size, Room, Form}
 
 -- the refusal of a number; numbers outside the table have none of their own
 refusalOf : ℕ → Refusal
@@ -15,7 +15,7 @@ refusalOf (suc (suc (suc zero))) = Version
 refusalOf (suc (suc (suc (suc zero)))) = Limit
 refusalOf (suc (suc (suc (suc (suc zero))))) = Order
 refusalOf (suc (suc (suc (suc (suc (suc zero)))))) = Name
-refusalOf (suc (suc (suc (suc (suc (suc (suc zero))))))) = Dead
+refusalOf (suc (suc (suc (suc (suc (suc (suc zero))))))) = Form
 refusalOf (suc (suc (suc (suc (suc (suc (suc (suc zero)))))))) = Size
 refusalOf (suc (suc (suc (suc (suc (suc (suc (suc (suc zero))))))))) = Room
 refusalOf (suc (suc (suc (suc (suc (suc (suc (suc (suc (suc n)))))))))) = Form
@@ -27,7 +27,6 @@ back Version = refl
 back Limit = refl
 back Order = refl
 back Name = refl
-back Dead = refl
 back Size = refl
 back Room = refl
 back Form = refl
@@ -43,7 +42,6 @@ number-above Version = omega arith
 number-above Limit = omega arith
 number-above Order = omega arith
 number-above Name = omega arith
-number-above Dead = omega arith
 number-above Size = omega arith
 number-above Room = omega arith
 number-above Form = omega arith

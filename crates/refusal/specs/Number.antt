@@ -1,7 +1,7 @@
--- The numbers given back: 0 is OK, 1 is BUDGET, and each refusal has its own.
+-- The numbers given back: 0 is OK, 1 is BUDGET, and each refusal has its own. 7, DEAD, stays in the table and is no longer given.
 use Prim.Native.Nat.{ℕ}
 use Rattle.refusal.specs.declared.Refusal.{Refusal}
-use Rattle.refusal.specs.declared.Refusal.the-variants.{Length, Version, Limit, Order, Name, Dead, Size, Room, Form}
+use Rattle.refusal.specs.declared.Refusal.the-variants.{Length, Version, Limit, Order, Name, Size, Room, Form}
 
 -- no other number applies
 abbrev pub ok : ℕ
@@ -17,7 +17,6 @@ numberOf Version = 3
 numberOf Limit = 4
 numberOf Order = 5
 numberOf Name = 6
-numberOf Dead = 7
 numberOf Size = 8
 numberOf Room = 9
 numberOf Form = 10

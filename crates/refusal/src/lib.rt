@@ -1,5 +1,5 @@
 // Why a call is refused. The paper's number of each case is one definition, `numberOf`. BUDGET is no case of it: a spent budget is an
-// answer of its own, with its count.
+// answer of its own, with its count. Nor is DEAD, number 7: it is no longer given, since runs may stop.
 ghost use mathlib.Core.Path.{_≡_};
 ghost use Rattle.refusal.specs.Number.{numberOf};
 
@@ -9,7 +9,6 @@ pub enum Refusal {
     Limit,
     Order,
     Name,
-    Dead,
     Size,
     Room,
     Form,
@@ -26,7 +25,6 @@ impl Refusal {
             Refusal::Limit => 4,
             Refusal::Order => 5,
             Refusal::Name => 6,
-            Refusal::Dead => 7,
             Refusal::Size => 8,
             Refusal::Room => 9,
             Refusal::Form => 10,

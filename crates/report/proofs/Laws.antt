@@ -1,4 +1,4 @@
--- Laws of a report: a state's line says yes exactly when the state satisfies the formula by its runs; so for an input that is read and
+-- Laws of a report: a state's line says yes exactly when the state satisfies the formula by its maximal runs; so for an input that is read and
 -- settles. A budget of n (c + 1) would give the same output. Assumes nothing.
 use Prim.Native.Nat.{ℕ, _+_, _*_, _<_}
 use mathlib.Core.List.{List}

@@ -130,7 +130,7 @@ fn answer(m: &[u8], f: &[u8], bytes: &mut [u8], values: &mut [u64], out: &mut [u
     let budget = verdict::nodes(m, f);
     match verdict::settle(m, f, budget, bytes, values) {
         AllStates::Settled(count, _, first, n) => {
-            let p = wire::number_at(m, 8, Width::One);
+            let p = wire::number_at(m, model::PROPOSITIONS_AT, Width::One);
             put_settled(f, p, count, values, first, n, out)
         }
         AllStates::Spent(_, _) => put_refused(out, 1),

@@ -13,6 +13,7 @@ use Rattle.wire.proofs.Fields.{value-inside, value-is}
 use Rattle.wire.proofs.Reading.{bad-then, reading}
 use Rattle.wire.proofs.Exact.{good-bind, good-demand}
 use Rattle.rules.specs.Graph.{Graph, Hyper, Cover, Closed}
+use Rattle.graph.specs.Format.{graphHeader}
 use Rattle.graph.specs.declared.Checked.{Checked}
 use Rattle.graph.specs.declared.Checked.the-variants as Checked
 use Rattle.graph.specs.Message.{readGraph}
@@ -46,7 +47,7 @@ ready-with s g r wf =
       sound = held .sound;
       closed = subst Closed (held .is) (wf .closed);
       storable = subst Storable (held .is) (rounds-fit g wf);
-      hypers-climb = λ i j l k. rising-climbs (hyperLayout s n) (λ x. x .source) 0 _ 14 i j rising l k;
+      hypers-climb = λ i j l k. rising-climbs (hyperLayout s n) (λ x. x .source) 0 _ graphHeader i j rising l k;
       covers-climb = λ i j l k. rising-climbs (coverLayout s n) (λ x. x .source) 0 _ _ i j covers-rising l k;
     }
 
@@ -86,7 +87,7 @@ module _ (s : List ℕ) (g : Graph) (wf : WellFormed g) (e : s ≡ writeGraph g)
   header : HeaderAt s (counts g)
   header = header-good s _ (graph-good {s = s} {g = g} accepted .header)
 
-  pub header-inside : 14 ≤ length s
+  pub header-inside : graphHeader ≤ length s
   header-inside = omega (arith, value-inside 2 s 12 (header .c-counted .there))
 
   pub written-ready : {n h c : ℕ} → n ≡ number 2 s 6 → h ≡ number 4 s 8 → c ≡ number 2 s 12 → Written s g n h c

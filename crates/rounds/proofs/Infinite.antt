@@ -20,33 +20,34 @@ use Rattle.wire.specs.Layout.{items, end, Sound}
 use Rattle.wire.proofs.Layouts.{items-more, sound-more}
 use Rattle.rules.specs.Graph.{Target, Cover}
 use Rattle.rules.specs.Rounds.{Assignment, holds, covered, worst}
+use Rattle.graph.specs.Format.{targetCountAt, hyperWidth, nodeAt, targetWidth, coverTargetAt}
 use Rattle.graph.specs.Layouts.{targetLayout, coverLayout, HyperOk}
 use Rattle.rounds.specs.Room.{held, half, hyperIn, Done}
 use Rattle.rounds.proofs.Room.{half-at}
 use Rattle.wire.proofs.Parts.{∈-items, sound-at}
 
 module _ (s : List ℕ) (n at : ℕ) (b : List ℕ) where
-  pub first-none : number 2 s (at + 2) ≡ 0 → hyperIn s n 0 n at b ≡ set b (n + number 2 s at) 0
+  pub first-none : number 2 s (at + targetCountAt) ≡ 0 → hyperIn s n 0 n at b ≡ set b (n + number 2 s at) 0
   unfolding worst items stored
   first-none e =
       let j = n + number 2 s at in
-      let zero = ap (λ (k : ℕ). stored (worst (held (half n 0 b)) (items (targetLayout s n) k (at + 4)))) e in
+      let zero = ap (λ (k : ℕ). stored (worst (held (half n 0 b)) (items (targetLayout s n) k (at + hyperWidth)))) e in
       ap (set b j) (omega (arith, zero))
 
-  pub first-some : HyperOk s n at → 0 < number 2 s (at + 2) → ((v : ℕ) → v < n → getD b v 0 ≡ infinite) → ((v : ℕ) → getD b v 0 ≤ infinite) → hyperIn s n 0 n at b ≡ b
+  pub first-some : HyperOk s n at → 0 < number 2 s (at + targetCountAt) → ((v : ℕ) → v < n → getD b v 0 ≡ infinite) → ((v : ℕ) → getD b v 0 ≤ infinite) → hyperIn s n 0 n at b ≡ b
   unfolding worst stored
   first-some ok h all fits =
       let j = n + number 2 s at in
       let T = targetLayout s n in
       let x = held (half n 0 b) in
-      let k = number 2 s (at + 2) in
-      let v = number 2 s (at + 4 + 4) in
+      let k = number 2 s (at + targetCountAt) in
+      let v = number 2 s (at + hyperWidth + nodeAt) in
       let named : v < n = sound-more T h (ok .sound) .0 .named in
       let same : 0 + v ≡ v = omega arith in
       let is : x v ≡ inf = meaning-infinite (half-at n 0 b v named ∙ ap (λ (u : ℕ). getD b u 0) same ∙ all v named) in
-      let value : stored (worst x (items T k (at + 4))) ≡ infinite =
-      ap (λ (ts : List Target). stored (worst x ts)) (items-more T k (at + 4) h)
-      ∙ ap (λ (a : Value). stored (greatest (plus (number 4 s (at + 4)) a) (worst x (items T (k - 1) (at + 4 + 6))))) is in
+      let value : stored (worst x (items T k (at + hyperWidth))) ≡ infinite =
+      ap (λ (ts : List Target). stored (worst x ts)) (items-more T k (at + hyperWidth) h)
+      ∙ ap (λ (a : Value). stored (greatest (plus (number 4 s (at + hyperWidth)) a) (worst x (items T (k - 1) (at + hyperWidth + targetWidth))))) is in
       ap (set b j) (omega (arith, value, fits j)) ∙ set-getD b j 0
 
 meets-inf : (b : Bound) → meets b inf ≡ false
@@ -77,7 +78,7 @@ covers-idle s n c middle b sound all = record {
     target-inf x m =
         let r = ∈-items (coverLayout s n) c middle m in
         let ok = sound-at (coverLayout s n) (r .0) (r .1) sound in
-        let u = number 2 s (end (coverLayout s n) (r .0) middle + 6) in
+        let u = number 2 s (end (coverLayout s n) (r .0) middle + coverTargetAt) in
         let same : 0 + u ≡ u = omega arith in
         ap (λ (y : Cover). held (half n 0 b) (y .target)) (r .2)
         ∙ meaning-infinite (half-at n 0 b u (ok .target-named) ∙ ap (λ (w : ℕ). getD b w 0) same ∙ all u (ok .target-named))

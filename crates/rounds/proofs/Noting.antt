@@ -14,6 +14,7 @@ use Rattle.lists.specs.Lists.{_∈_}
 use Rattle.wire.specs.Layout.{items, end}
 use Rattle.rules.specs.Graph.{Target}
 use Rattle.wire.proofs.Layouts.{items-more}
+use Rattle.graph.specs.Format.{graphHeader, targetWidth, coverTargetAt, coverWidth}
 use Rattle.graph.specs.Layouts.{targetLayout, hyperLayout}
 use Rattle.wire.specs.Bytes.{number}
 use Rattle.rounds.specs.Index.{slotOf, unnoted, targetsAt, Spans, Noted, NotedCovers}
@@ -68,7 +69,7 @@ module _ (s : List ℕ) (n : ℕ) where
 
   module _ {j : ℕ} {first last pos : List ℕ} (i q : ℕ) (d : Noted s n j (items (targetLayout s n) i q) first last pos) where
     -- the next of the targets left, and none left
-    pub noted-more : 0 < i → Noted s n j (targetLayout s n .item q ∷ items (targetLayout s n) (i - 1) (q + 6)) first last pos
+    pub noted-more : 0 < i → Noted s n j (targetLayout s n .item q ∷ items (targetLayout s n) (i - 1) (q + targetWidth)) first last pos
     noted-more h = subst (λ (ts : List Target). Noted s n j ts first last pos) (items-more (targetLayout s n) i q h) d
 
     pub noted-end : i ≡ 0 → Noted s n j [] first last pos
@@ -80,7 +81,7 @@ module _ (s : List ℕ) (n : ℕ) where
     noted-turn : {first′ last′ pos′ : List ℕ} → length first′ ≡ 512 → length last′ ≡ 512 → length pos′ ≡ 512
         → ((u : ℕ) → u < 512 → getD first′ u 0 ≤ getD first u 0) → ((u : ℕ) → u < 512 → getD last u 0 ≤ getD last′ u 0)
         → Spans first′ last′ (slotOf n (t₀ .node)) j
-        → ((u : ℕ) → u < 512 → getD first′ u 0 < unnoted → getD pos′ u 0 ≡ end (hyperLayout s n) (getD first′ u 0) 14)
+        → ((u : ℕ) → u < 512 → getD first′ u 0 < unnoted → getD pos′ u 0 ≡ end (hyperLayout s n) (getD first′ u 0) graphHeader)
         → ((u : ℕ) → u < 512 → getD last′ u 0 ≤ j + 1) → Noted s n (j + 1) rest first′ last′ pos′
     noted-turn {first′} {last′} {pos′} f l p falls rises here placed within = record {
       firsts = f;
@@ -121,7 +122,7 @@ module _ (s : List ℕ) (n : ℕ) where
           (rw (sym is) (record { from = low; upto = omega (arith, last-is) })) (d .placed) stays-within
 
       -- the hyperedge is the slot's first
-      pub noted-first : (p : ℕ) → p ≡ end (hyperLayout s n) j 14 → j < getD first u 0 → Noted s n (j + 1) rest (set first u j) (set last u (j + 1)) (set pos u p)
+      pub noted-first : (p : ℕ) → p ≡ end (hyperLayout s n) j graphHeader → j < getD first u 0 → Noted s n (j + 1) rest (set first u j) (set last u (j + 1)) (set pos u p)
       noted-first p at new =
           let inside : u < length first = omega (arith, slot-is, d .firsts) in
           noted-turn (length-set first u j ∙ d .firsts) (length-set last u (j + 1) ∙ d .lasts) (length-set pos u p ∙ d .places)
@@ -129,7 +130,7 @@ module _ (s : List ℕ) (n : ℕ) where
           (rw (sym is) (record { from = omega (arith, getD-set-same first u j 0 inside); upto = omega (arith, last-is) }))
           (λ v l. go v l (ℕ-discrete v u)) stays-within
         where
-          go : (v : ℕ) → v < 512 → Dec (v ≡ u) → getD (set first u j) v 0 < unnoted → getD (set pos u p) v 0 ≡ end (hyperLayout s n) (getD (set first u j) v 0) 14
+          go : (v : ℕ) → v < 512 → Dec (v ≡ u) → getD (set first u j) v 0 < unnoted → getD (set pos u p) v 0 ≡ end (hyperLayout s n) (getD (set first u j) v 0) graphHeader
           go v l (yes e) h = rw (e, getD-set-same first u j 0 (omega (arith, slot-is, d .firsts)), getD-set-same pos u p 0 (omega (arith, slot-is, d .places))) at
           go v l (no e) h = rw (getD-set-other first u v j 0 e, getD-set-other pos u v p 0 e) (d .placed v l (rw (getD-set-other first u v j 0 e) at h))
 
@@ -143,7 +144,7 @@ module _ (s : List ℕ) (n middle : ℕ) where
     within = λ u l. omega (arith, getD-replicate {A = ℕ} 512 u 0 0 l);
   }
 
-  pub covers-more : (j : ℕ) {first last : List ℕ} → NotedCovers s n j middle first last → (u : ℕ) → u ≡ slotOf n (number 2 s (middle + j * 8 + 6))
+  pub covers-more : (j : ℕ) {first last : List ℕ} → NotedCovers s n j middle first last → (u : ℕ) → u ≡ slotOf n (number 2 s (middle + j * coverWidth + coverTargetAt))
       → (low : ℕ) → low ≡ min (getD first u 0) j → NotedCovers s n (j + 1) middle (set first u low) (set last u (j + 1))
   covers-more j {first} {last} d u is low e = record {
     firsts = length-set first u low ∙ d .firsts;
@@ -161,10 +162,10 @@ module _ (s : List ℕ) (n middle : ℕ) where
       inside-first : u < length first
       inside-first = omega (arith, below, d .firsts)
 
-      go : (i : ℕ) → Dec (i < j) → i < j + 1 → Spans (set first u low) (set last u (j + 1)) (slotOf n (number 2 s (middle + i * 8 + 6))) i
+      go : (i : ℕ) → Dec (i < j) → i < j + 1 → Spans (set first u low) (set last u (j + 1)) (slotOf n (number 2 s (middle + i * coverWidth + coverTargetAt))) i
       go i (yes h) l =
           let sp = d .reach i h in
-          let v = slotOf n (number 2 s (middle + i * 8 + 6)) in
+          let v = slotOf n (number 2 s (middle + i * coverWidth + coverTargetAt)) in
           record {
             from = set-at (λ k. k ≤ i) first u low v inside-first (λ q. omega (arith, sp .from, ap (λ (w : ℕ). getD first w 0) q, e)) (λ q. sp .from);
             upto = set-at (λ k. i < k) last u (j + 1) v inside (λ q. l) (λ q. sp .upto);

@@ -20,7 +20,7 @@ use Rattle.wire.specs.Read.{Read, good, bad}
 use Rattle.wire.proofs.Reading.{bind-good, demand-good, good-same}
 use Rattle.rules.specs.Graph.{Graph, heaviest}
 use Rattle.rules.specs.Rounds.{Assignment, rounds}
-use Rattle.rules.specs.Count.{count, First}
+use Rattle.rules.specs.Count.{count}
 use Rattle.rules.proofs.Order.{largest-agree}
 use Rattle.rules.proofs.Size.{Light, value-bound, heaviest-light}
 use Rattle.rules.proofs.Count.{count-first, count-le, count-largest}
@@ -33,7 +33,7 @@ use Rattle.graph.proofs.Exact.{accepted-written}
 use Rattle.rounds.specs.declared.Outcome.the-variants.{Settled, Spent, Refused}
 use Rattle.rounds.specs.Outcome.{held, storedValues, filled, readRounds, ended, outcomeOf, roundsRoom}
 use Rattle.rounds.specs.Ready.{Storable}
-use Rattle.rounds.specs.Promise.{Accepted, Halves, Promise}
+use Rattle.rounds.specs.Promise.{Accepted, Halves, SettledAt, SpentAt, Promise}
 
 -- the stored values one by one
 pub stored-length : (n : ℕ) (x : Assignment) → length (storedValues n x) ≡ n
@@ -86,9 +86,6 @@ module _ (g : Graph) (wf : WellFormed g) (m : ℕ) (b₀ : List ℕ) where
       rw (filled-parts, e) (getD-append-add front back v 0 ∙ stored-at n (rounds g (suc m)) (drop (n + n) b₀) v l) in
       rw behind (meaning-stored (rounds g (suc m) v) (λ k e. rounds-fit g wf (suc m) v k l e))
 
-  pub both-halves : Halves g m (filled g m b₀)
-  both-halves = record { first-half = first-half; second-half = second-half }
-
   -- no finite number in either half is above (n - 1) w
   both-small : (v : ℕ) → v < g .nodes + g .nodes → finite (held (filled g m b₀) v) ≡ true
       → held (filled g m b₀) v ≼ ((g .nodes - 1) * heaviest (g .hypers))
@@ -107,9 +104,27 @@ module _ (g : Graph) (wf : WellFormed g) (m : ℕ) (b₀ : List ℕ) where
           let e : v ≡ g .nodes + u = omega arith in
           rw (e, second-half u (omega arith)) (bound (suc m) u (omega arith))
 
--- the room's numbers of an accepted message
-pub accepted-filled : (s : List ℕ) (g : Graph) (m : ℕ) (b₀ : List ℕ) → s ≡ writeGraph g → WellFormed g → Accepted s (filled g m b₀) g
-accepted-filled s g m b₀ e wf = record { writing = e; well-formed = wf; small = both-small g wf m b₀ }
+  pub both-halves : Halves g m (filled g m b₀)
+  both-halves = record { first-half = first-half; second-half = second-half; small = both-small }
+
+-- what is promised of the rounds on a well-formed graph
+module _ (g : Graph) (wf : WellFormed g) (budget : ℕ) (b₀ : List ℕ) where
+  pub settled-at : count g ≤ budget → SettledAt g budget (filled g (count g) b₀) (count g)
+  settled-at within = record {
+    halves = both-halves g wf (count g) b₀;
+    first = count-first g (wf .closed);
+    within = within;
+    soon = count-le g;
+    sooner = free-count g (wf .closed);
+    largest = largest-agree g (wf .closed) (count-largest g (wf .closed)) (first-half g wf (count g) b₀);
+  }
+
+  pub spent-at : budget < count g → SpentAt g budget (filled g budget b₀) budget
+  spent-at later = record {
+    halves = both-halves g wf budget b₀;
+    spent = refl;
+    later = λ i l. count-first g (wf .closed) .before i (omega arith);
+  }
 
 -- a message that the rounds take: the graph is accepted, and the room is large enough
 pub record RoundsRead (s b : List ℕ) (g : StoredGraph) : Type 0 where
@@ -136,8 +151,8 @@ module _ (s : List ℕ) (budget : ℕ) (b₀ : List ℕ) where
   unfolding ended
   kept-ended g e wf = go (leb (count g) budget) refl
     where
-      first : First g (count g)
-      first = count-first g (wf .closed)
+      accepted : Accepted s g
+      accepted = record { writing = e; well-formed = wf }
 
       go : (t : Bool) → leb (count g) budget ≡ t → Promise s budget b₀ (filled g (min (count g) budget) b₀) (cond t (Settled (count g)) (Spent budget))
       go true h =
@@ -145,17 +160,7 @@ module _ (s : List ℕ) (budget : ℕ) (b₀ : List ℕ) where
           let m : min (count g) budget ≡ count g = omega arith in
           rw m
           (record {
-            settled =
-                λ z. record {
-                  graph = g;
-                  accepted = accepted-filled s g (count g) b₀ e wf;
-                  halves = both-halves g wf (count g) b₀;
-                  first = first;
-                  within = within;
-                  soon = count-le g;
-                  sooner = free-count g (wf .closed);
-                  largest = largest-agree g (wf .closed) (count-largest g (wf .closed)) (first-half g wf (count g) b₀);
-                };
+            settled = λ z. (g, accepted, settled-at g wf budget b₀ within);
             spent = λ z. absurd (omega arith);
             refused = λ z. absurd (omega arith);
           })
@@ -165,14 +170,7 @@ module _ (s : List ℕ) (budget : ℕ) (b₀ : List ℕ) where
           rw m
           (record {
             settled = λ z. absurd (omega arith);
-            spent =
-                λ z. record {
-                  graph = g;
-                  accepted = accepted-filled s g budget b₀ e wf;
-                  halves = both-halves g wf budget b₀;
-                  spent = refl;
-                  later = λ i l. first .before i (omega arith);
-                };
+            spent = λ z. (g, accepted, spent-at g wf budget b₀ later);
             refused = λ z. absurd (omega arith);
           })
 

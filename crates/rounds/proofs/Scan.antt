@@ -17,6 +17,7 @@ use Rattle.wire.proofs.Layouts.{items-more, end-more, end-none, sound-more}
 use Rattle.rules.specs.Graph.{Target, Hyper, Cover}
 use Rattle.rules.specs.Rounds.{Assignment, holds, worst, best, covered}
 use Rattle.value.specs.Coded.{boundOf}
+use Rattle.graph.specs.Format.{targetCountAt, hyperWidth, nodeAt, targetWidth, coverBoundAt, coverTargetAt, coverWidth}
 use Rattle.graph.specs.Layouts.{targetLayout, hyperLayout, coverLayout, HyperOk, CoverOk}
 use Rattle.rounds.specs.Room.{held, Sides, half, hyperIn, Going, Done}
 use Rattle.rounds.proofs.Room.{going-on, going-set}
@@ -24,12 +25,12 @@ use Rattle.rounds.proofs.Room.{going-on, going-set}
 -- the greatest so far, and that of the targets left, make the whole
 module _ (s : List ℕ) (n : ℕ) (x : Assignment) where
   pub worst-turn : (k at most next w : ℕ) → max most (stored (worst x (items (targetLayout s n) k at))) ≡ w → 0 < k
-      → next ≡ max most (stored (plus (number 4 s at) (x (number 2 s (at + 4)))))
-      → max next (stored (worst x (items (targetLayout s n) (k - 1) (at + 6)))) ≡ w
+      → next ≡ max most (stored (plus (number 4 s at) (x (number 2 s (at + nodeAt)))))
+      → max next (stored (worst x (items (targetLayout s n) (k - 1) (at + targetWidth)))) ≡ w
   unfolding worst
   worst-turn k at most next w whole h e =
-      let rest = worst x (items (targetLayout s n) (k - 1) (at + 6)) in
-      let here = stored-greatest (plus (number 4 s at) (x (number 2 s (at + 4)))) rest in
+      let rest = worst x (items (targetLayout s n) (k - 1) (at + targetWidth)) in
+      let here = stored-greatest (plus (number 4 s at) (x (number 2 s (at + nodeAt)))) rest in
       let more = ap (λ (l : List Target). max most (stored (worst x l))) (items-more (targetLayout s n) k at h) in
       omega (arith, here, more)
 
@@ -81,10 +82,10 @@ module _ (x : Assignment) where
 module _ (s : List ℕ) (n from to : ℕ) (x : Assignment) (i p : ℕ) {b₀ b : List ℕ} {all : ℕ → ℕ}
     (g : Going n from to b₀ b (leftHypers x (items (hyperLayout s n) i p)) all) where
   pub hypers-turn : Sides n from to → n + n ≤ length b₀ → 0 < i → HyperOk s n p → held (half n from b) ≡ x
-      → Going n from to b₀ (hyperIn s n from to p b) (leftHypers x (items (hyperLayout s n) (i - 1) (p + 4 + number 2 s (p + 2) * 6))) all
+      → Going n from to b₀ (hyperIn s n from to p b) (leftHypers x (items (hyperLayout s n) (i - 1) (p + hyperWidth + number 2 s (p + targetCountAt) * targetWidth))) all
   hypers-turn sides room h ok this =
       let g′ = subst (λ (l : List Hyper). Going n from to b₀ b (leftHypers x l) all) (items-more (hyperLayout s n) i p h) g in
-      let new = ap (λ (y : Assignment). min (getD b (to + number 2 s p) 0) (stored (worst y (items (targetLayout s n) (number 2 s (p + 2)) (p + 4))))) this in
+      let new = ap (λ (y : Assignment). min (getD b (to + number 2 s p) 0) (stored (worst y (items (targetLayout s n) (number 2 s (p + targetCountAt)) (p + hyperWidth))))) this in
       going-set g′ sides room _ _ (ok .named) (best-here x _ _ _ _ _ refl new) (λ v a ne. best-there x _ _ v a (λ q. ne (sym q)))
 
   pub hypers-end : i ≡ 0 → ((v : ℕ) → getD b v 0 ≤ infinite) → Done n from to b₀ b all
@@ -116,9 +117,9 @@ module _ {s : List ℕ} {n from to k at : ℕ} {b₀ b : List ℕ} {i p : ℕ} (
 
   -- once it is taken in, one less is left, a stride further
   pub left-turn : Sides n from to → n + n ≤ length b₀ → 0 < i → {b′ : List ℕ} → b′ ≡ hyperIn s n from to p b
-      → {stride : ℕ} → stride ≡ 4 + number 2 s (p + 2) * 6 → Left s n from to k at b₀ b′ (i - 1) (p + stride)
+      → {stride : ℕ} → stride ≡ hyperWidth + number 2 s (p + targetCountAt) * targetWidth → Left s n from to k at b₀ b′ (i - 1) (p + stride)
   left-turn sides room h is {stride} e =
-      let next : p + stride ≡ p + 4 + number 2 s (p + 2) * 6 = omega arith in
+      let next : p + stride ≡ p + hyperWidth + number 2 s (p + targetCountAt) * targetWidth = omega arith in
       rw (is, next) (record {
         sound = sound-more _ h (d .sound) .1;
         ends = sym (end-more _ _ _ h) ∙ d .ends;
@@ -134,15 +135,15 @@ module _ {s : List ℕ} {n from to k at : ℕ} {b₀ b : List ℕ} {i p : ℕ} (
 module _ (s : List ℕ) (n from to : ℕ) (x : Assignment) (i p : ℕ) {b₀ b : List ℕ} {all : ℕ → ℕ}
     (g : Going n from to b₀ b (leftCovers x (items (coverLayout s n) i p)) all) where
   abbrev pub Met : Bool → Type 0
-  Met t = meets (boundOf (number 4 s (p + 2))) (x (number 2 s (p + 6))) ≡ t
+  Met t = meets (boundOf (number 4 s (p + coverBoundAt))) (x (number 2 s (p + coverTargetAt))) ≡ t
 
   pub covers-met : Sides n from to → n + n ≤ length b₀ → 0 < i → CoverOk s n p → Met true
-      → Going n from to b₀ (set b (to + number 2 s p) 0) (leftCovers x (items (coverLayout s n) (i - 1) (p + 8))) all
+      → Going n from to b₀ (set b (to + number 2 s p) 0) (leftCovers x (items (coverLayout s n) (i - 1) (p + coverWidth))) all
   covers-met sides room h ok met =
       let g′ = subst (λ (l : List Cover). Going n from to b₀ b (leftCovers x l) all) (items-more (coverLayout s n) i p h) g in
       going-set g′ sides room _ 0 (ok .named) (covered-here x _ _ _ _ refl met) (λ v a ne. covered-there x _ _ v a (λ q. ne (sym q)))
 
-  pub covers-unmet : 0 < i → Met false → Going n from to b₀ b (leftCovers x (items (coverLayout s n) (i - 1) (p + 8))) all
+  pub covers-unmet : 0 < i → Met false → Going n from to b₀ b (leftCovers x (items (coverLayout s n) (i - 1) (p + coverWidth))) all
   covers-unmet h unmet =
       let g′ = subst (λ (l : List Cover). Going n from to b₀ b (leftCovers x l) all) (items-more (coverLayout s n) i p h) g in
       going-on g′ (λ v a l. covered-unmet x _ _ v a unmet)

@@ -10,6 +10,7 @@ use Rattle.lists.specs.Lists.{_∈_}
 use Rattle.wire.specs.Bytes.{number}
 use Rattle.wire.specs.Layout.{items, end}
 use Rattle.rules.specs.Graph.{Graph, Target}
+use Rattle.graph.specs.Format.{graphHeader, coverTargetAt, coverWidth}
 use Rattle.graph.specs.Layouts.{hyperLayout, coverLayout}
 use Rattle.rounds.specs.declared.Marks.{Marks}
 
@@ -23,7 +24,7 @@ unnoted = 4294967295
 
 -- the targets of hyperedge i
 abbrev pub targetsAt : List ℕ → (n i : ℕ) → List Target
-targetsAt s n i = hyperLayout s n .item (end (hyperLayout s n) i 14) .targets
+targetsAt s n i = hyperLayout s n .item (end (hyperLayout s n) i graphHeader) .targets
 
 -- hyperedge i is not before the slot's first, nor behind its last
 pub record Spans (first last : List ℕ) (u i : ℕ) : Type 0 where
@@ -36,14 +37,14 @@ pub record Noted (s : List ℕ) (n j : ℕ) (rest : List Target) (first last pos
   pub lasts : length last ≡ 512
   pub places : length pos ≡ 512
   pub reach : (i : ℕ) (t : Target) → i < j → t ∈ targetsAt s n i → Spans first last (slotOf n (t .node)) i ⊎ ((i + 1 ≡ j) × (t ∈ rest))
-  pub placed : (u : ℕ) → u < 512 → getD first u 0 < unnoted → getD pos u 0 ≡ end (hyperLayout s n) (getD first u 0) 14
+  pub placed : (u : ℕ) → u < 512 → getD first u 0 < unnoted → getD pos u 0 ≡ end (hyperLayout s n) (getD first u 0) graphHeader
   pub within : (u : ℕ) → u < 512 → getD last u 0 ≤ j
 
 -- the first j cover edges from a position are noted
 pub record NotedCovers (s : List ℕ) (n j middle : ℕ) (first last : List ℕ) : Type 0 where
   pub firsts : length first ≡ 512
   pub lasts : length last ≡ 512
-  pub reach : (i : ℕ) → i < j → Spans first last (slotOf n (number 2 s (middle + i * 8 + 6))) i
+  pub reach : (i : ℕ) → i < j → Spans first last (slotOf n (number 2 s (middle + i * coverWidth + coverTargetAt))) i
   pub within : (u : ℕ) → u < 512 → getD last u 0 ≤ j
 
 -- the records of the slots of those of the first i nodes that changed are from a to z
@@ -53,7 +54,7 @@ pub record Marked (n i : ℕ) (first last b : List ℕ) (a z : ℕ) : Type 0 whe
 
 -- no marks; what a slot has noted is marked too
 abbrev pub noMarks : Marks
-noMarks = record { first = unnoted; last = 0; at = 14; low = unnoted; high = 0 }
+noMarks = record { first = unnoted; last = 0; at = graphHeader; low = unnoted; high = 0 }
 
 abbrev pub moreMarks : Marks → (first last at low high : ℕ) → Marks
 moreMarks m first last at low high = record {

@@ -16,42 +16,38 @@ use Rattle.graph.specs.WellFormed.{WellFormed}
 use Rattle.rounds.specs.Outcome.{outcomeNumber, outcomeCount, held}
 use Rattle.rounds.specs.declared.Outcome.{Outcome}
 
--- the message is the writing of the well-formed graph, and no finite number in either half of the room is above (n - 1) w
-pub record Accepted (message room : List ℕ) (graph : StoredGraph) : Type 0 where
+-- the message is the writing of the well-formed graph
+pub record Accepted (message : List ℕ) (graph : StoredGraph) : Type 0 where
   pub writing : message ≡ writeGraph graph
   pub well-formed : WellFormed graph
-  pub small : (v : ℕ) → v < ruled graph .nodes + ruled graph .nodes → finite (held room v) ≡ true
-      → held room v ≼ ((ruled graph .nodes - 1) * heaviest (ruled graph .hypers))
 
--- the first n numbers are round i, the next n are round i + 1
+-- the first n numbers are round i, the next n are round i + 1, and no finite number of the two is above (n - 1) w
 pub record Halves (graph : Graph) (i : ℕ) (room : List ℕ) : Type 0 where
   pub first-half : (v : ℕ) → v < graph .nodes → held room v ≡ rounds graph i v
   pub second-half : (v : ℕ) → v < graph .nodes → held room (graph .nodes + v) ≡ rounds graph (suc i) v
+  pub small : (v : ℕ) → v < graph .nodes + graph .nodes → finite (held room v) ≡ true → held room v ≼ ((graph .nodes - 1) * heaviest (graph .hypers))
 
--- the rounds settled
-pub record SettledAt (message : List ℕ) (budget : ℕ) (room : List ℕ) (reported : ℕ) : Type 0 where
-  pub graph : StoredGraph
-  pub accepted : Accepted message room graph
-  pub halves : Halves (ruled graph) reported room
-  -- the reported count is the first round that the next leaves unchanged; the budget allows it
-  pub first : First (ruled graph) reported
+-- the rounds on a graph settled
+pub record SettledAt (graph : Graph) (budget : ℕ) (room : List ℕ) (reported : ℕ) : Type 0 where
+  pub halves : Halves graph reported room
+  -- the reported count is the first round that the next leaves unchanged
+  pub first : First graph reported
+  -- the budget allows it
   pub within : reported ≤ budget
-  -- n (c + 1) always would allow it, and n where no cycle passes through a cover edge
-  pub soon : reported ≤ ruled graph .nodes * (length (ruled graph .covers) + 1)
-  pub sooner : ¬ CoverCycle (ruled graph) → reported ≤ ruled graph .nodes
+  -- it is at most n (c + 1), and at most n where no cycle passes through a cover edge
+  pub soon : reported ≤ graph .nodes * (length (graph .covers) + 1)
+  pub sooner : ¬ CoverCycle graph → reported ≤ graph .nodes
   -- the first n numbers are the largest assignment that obeys the rules
-  pub largest : Largest (ruled graph) (held room)
+  pub largest : Largest graph (held room)
 
 -- the budget is spent: it is the reported count, and the first round that the next leaves unchanged comes later
-pub record SpentAt (message : List ℕ) (budget : ℕ) (room : List ℕ) (reported : ℕ) : Type 0 where
-  pub graph : StoredGraph
-  pub accepted : Accepted message room graph
-  pub halves : Halves (ruled graph) reported room
+pub record SpentAt (graph : Graph) (budget : ℕ) (room : List ℕ) (reported : ℕ) : Type 0 where
+  pub halves : Halves graph reported room
   pub spent : reported ≡ budget
-  pub later : (i : ℕ) → i ≤ budget → ¬ Settled (ruled graph) i
+  pub later : (i : ℕ) → i ≤ budget → ¬ Settled graph i
 
 -- by the number and the count that the paper gives the outcome: OK, BUDGET, or a refusal, which has count 0 and leaves the room as it came
 pub record Promise (message : List ℕ) (budget : ℕ) (before after : List ℕ) (outcome : Outcome) : Type 0 where
-  pub settled : outcomeNumber outcome ≡ ok → SettledAt message budget after (outcomeCount outcome)
-  pub spent : outcomeNumber outcome ≡ overBudget → SpentAt message budget after (outcomeCount outcome)
+  pub settled : outcomeNumber outcome ≡ ok → (graph : StoredGraph) × Accepted message graph × SettledAt (ruled graph) budget after (outcomeCount outcome)
+  pub spent : outcomeNumber outcome ≡ overBudget → (graph : StoredGraph) × Accepted message graph × SpentAt (ruled graph) budget after (outcomeCount outcome)
   pub refused : overBudget < outcomeNumber outcome → (outcomeCount outcome ≡ 0) × (after ≡ before)

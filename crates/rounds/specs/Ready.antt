@@ -8,6 +8,7 @@ use Rattle.rules.specs.Graph.{Graph, Closed}
 use Rattle.rules.specs.Rounds.{rounds}
 use Rattle.wire.specs.Bytes.{number}
 use Rattle.wire.specs.Layout.{Layout, end}
+use Rattle.graph.specs.Format.{graphHeader}
 use Rattle.graph.specs.Layouts.{hyperLayout, coverLayout, decoded, Scannable}
 
 -- every finite value of every round has a number of its own
@@ -23,5 +24,5 @@ pub record Ready (s : List ℕ) (n h c : ℕ) : Type 0 where
   pub sound : Scannable s n h c
   pub closed : Closed (decoded s n h c)
   pub storable : Storable (decoded s n h c)
-  pub hypers-climb : Climbs s (hyperLayout s n) h 14
-  pub covers-climb : Climbs s (coverLayout s n) c (end (hyperLayout s n) h 14)
+  pub hypers-climb : Climbs s (hyperLayout s n) h graphHeader
+  pub covers-climb : Climbs s (coverLayout s n) c (end (hyperLayout s n) h graphHeader)

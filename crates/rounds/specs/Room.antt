@@ -7,6 +7,7 @@ use Rattle.value.specs.Stored.{stored, infinite}
 use Rattle.wire.specs.Bytes.{number}
 use Rattle.wire.specs.Layout.{items}
 use Rattle.rules.specs.Rounds.{worst}
+use Rattle.graph.specs.Format.{targetCountAt, hyperWidth}
 use Rattle.graph.specs.Layouts.{targetLayout}
 pub use Rattle.rounds.specs.Outcome.{held}
 
@@ -23,7 +24,7 @@ half n from b = take n (drop from b)
 abbrev pub hyperIn : List ℕ → (n from to at : ℕ) → List ℕ → List ℕ
 hyperIn s n from to at b =
     let j = to + number 2 s at in
-    set b j (min (getD b j 0) (stored (worst (held (half n from b)) (items (targetLayout s n) (number 2 s (at + 2)) (at + 4)))))
+    set b j (min (getD b j 0) (stored (worst (held (half n from b)) (items (targetLayout s n) (number 2 s (at + targetCountAt)) (at + hyperWidth)))))
 
 -- b is b₀ but for the n numbers of the next round; what is left to do to each of those makes it what it is to be
 pub record Going (n from to : ℕ) (b₀ b : List ℕ) (left : ℕ → ℕ → ℕ) (all : ℕ → ℕ) : Type 0 where

@@ -9,6 +9,7 @@ ghost use Rattle.wire.specs.Layout.{items, end, Sound};
 ghost use Rattle.value.specs.Value.{plus};
 ghost use Rattle.value.specs.Stored.{stored, infinite};
 ghost use Rattle.rules.specs.Rounds as rules;
+ghost use Rattle.graph.specs.Format.{graphHeader, targetCountAt, hyperWidth, nodeAt, coverWidth};
 ghost use Rattle.graph.specs.Layouts.{targetLayout, hyperLayout, coverLayout, decoded, TargetOk, HyperOk};
 ghost use Rattle.rounds.specs.Room.{held, Sides, half, hyperIn, Done, Cleared, Alike, Same, Beside};
 ghost use Rattle.rounds.specs.Index.{slotOf, unnoted, partOf, Noted, NotedCovers, Raised, noMarks, moreMarks, Published};
@@ -57,10 +58,10 @@ impl Outcome {
 fn target_sum(s: &[u8], n: usize, x: &[u64], at: usize) -> Value
     requires { ⌜ TargetOk (now s) n at ⌝ }
     requires { ⌜ n ≤ length (now x) ⌝ }
-    ensures { λ r. ⌜ r .0 ≡ stored (plus (number 4 (now (s .entry)) at) (held (now (x .entry)) (number 2 (now (s .entry)) (at + 4)))) ⌝ }
+    ensures { λ r. ⌜ r .0 ≡ stored (plus (number 4 (now (s .entry)) at) (held (now (x .entry)) (number 2 (now (s .entry)) (at + nodeAt)))) ⌝ }
 {
     let weight = wire::number_at(s, at, Width::Four);
-    let node = wire::number_at(s, at + 4, Width::Two) as usize;
+    let node = wire::number_at(s, at + graph::NODE_AT, Width::Two) as usize;
     let value = x[node];
     Value(value).add(weight)
 }
@@ -76,11 +77,11 @@ fn worst(s: &[u8], n: usize, x: &[u64], k: u32, at: usize) -> Value
     }
     let mut most = target_sum(s, n, x, at);
     let mut i = k - 1;
-    let mut p = at + 6;
+    let mut p = at + graph::TARGET;
     while 0 < i {
         let sum = target_sum(s, n, x, p);
         most = most.greatest(sum);
-        p += 6;
+        p += graph::TARGET;
         i -= 1;
     }
     most
@@ -89,14 +90,14 @@ fn worst(s: &[u8], n: usize, x: &[u64], k: u32, at: usize) -> Value
 // Takes a hyperedge of k targets at a position into the n values of the next round.
 fn take_hyper(s: &[u8], n: usize, from: usize, to: usize, k: u32, at: usize, room: &mut [u64])
     requires { ⌜ HyperOk (now s) n at ⌝ }
-    requires { ⌜ k ≡ number 2 (now s) (at + 2) ⌝ }
+    requires { ⌜ k ≡ number 2 (now s) (at + targetCountAt) ⌝ }
     requires { ⌜ Sides n from to ⌝ }
     requires { ⌜ n + n ≤ length (now room) ⌝ }
     ensures { λ _. ⌜ now (room .exit) ≡ hyperIn (now (s .entry)) n from to at (now (room .entry)) ⌝ }
 {
     let source = wire::number_at(s, at, Width::Two) as usize;
     let stop = from + n;
-    let value = worst(s, n, &room[from..stop], k, at + 4);
+    let value = worst(s, n, &room[from..stop], k, at + graph::HYPER);
     let j = to + source;
     let before = room[j];
     let least = Value(before).least(value);
@@ -126,9 +127,9 @@ fn take_hypers(
     let mut i = k;
     let mut p = at;
     let mut last: u32 = 0;
-    let mut stride: usize = 4;
+    let mut stride: usize = graph::HYPER;
     while 0 < i {
-        let count = wire::number_at(s, p + 2, Width::Two);
+        let count = wire::number_at(s, p + graph::TARGET_COUNT_AT, Width::Two);
         i -= 1;
         if count == last {
             take_hyper(s, n, from, to, last, p, room);
@@ -136,7 +137,7 @@ fn take_hypers(
         } else {
             take_hyper(s, n, from, to, count, p, room);
             last = count;
-            stride = 4 + (count as usize) * 6;
+            stride = graph::HYPER + (count as usize) * graph::TARGET;
             p += stride;
         }
     }
@@ -156,11 +157,11 @@ fn take_covers(s: &[u8], n: usize, from: usize, to: usize, k: u32, at: usize, ro
     let mut p = at;
     while 0 < i {
         let source = wire::number_at(s, p, Width::Two) as usize;
-        let bound = Bound::coded(wire::number_at(s, p + 2, Width::Four));
-        let target = from + (wire::number_at(s, p + 6, Width::Two) as usize);
+        let bound = Bound::coded(wire::number_at(s, p + graph::COVER_BOUND_AT, Width::Four));
+        let target = from + (wire::number_at(s, p + graph::COVER_TARGET_AT, Width::Two) as usize);
         let value = room[target];
         let own = to + source;
-        p += 8;
+        p += graph::COVER;
         i -= 1;
         if Value(value).within(bound) {
             room[own] = 0;
@@ -174,11 +175,11 @@ fn take_marked(s: &[u8], n: usize, c: u32, middle: usize, a: u32, z: u32, room: 
     requires { ⌜ z ≤ c ⌝ }
     requires { ⌜ n + n ≤ length (now room) ⌝ }
     ensures { λ _. ⌜ Done n 0 n (now (room .entry)) (now (room .exit)) (λ v.
-        cond (rules.covered (held (half n 0 (now (room .entry)))) v (items (coverLayout (now (s .entry)) n) (z - a) (middle + a * 8))) 0
+        cond (rules.covered (held (half n 0 (now (room .entry)))) v (items (coverLayout (now (s .entry)) n) (z - a) (middle + a * coverWidth))) 0
         (getD (now (room .entry)) (n + v) 0)) ⌝ }
 {
     if a < z {
-        let at = middle + (a as usize) * 8;
+        let at = middle + (a as usize) * graph::COVER;
         take_covers(s, n, 0, n, z - a, at, room);
     }
 }
@@ -202,7 +203,7 @@ fn next_round(
     ensures { λ r. ⌜ r ≡ end (hyperLayout (now (s .entry)) n) k at ⌝ }
     ensures { λ _. ⌜ Done n 0 n (now (room .entry)) (now (room .exit)) (λ v.
         min (getD (now (room .entry)) (n + v) 0)
-        (stored (rules.round (partOf (now (s .entry)) n k at (z - a) (middle + a * 8)) (held (half n 0 (now (room .entry)))) v))) ⌝ }
+        (stored (rules.round (partOf (now (s .entry)) n k at (z - a) (middle + a * coverWidth)) (held (half n 0 (now (room .entry)))) v))) ⌝ }
 {
     let past = take_hypers(s, n, 0, n, k, at, room);
     take_marked(s, n, c, middle, a, z, room);
@@ -211,11 +212,11 @@ fn next_round(
 
 // The sources of the hyperedges from number a, at a position, to before number z, at another, are from the first on ..
 fn hypers_from(s: &[u8], n: usize, h: u32, a: u32, z: u32, at: usize) -> usize
-    requires { ⌜ Sound (hyperLayout (now s) n) h 14 ⌝ }
-    requires { ⌜ Climbs (now s) (hyperLayout (now s) n) h 14 ⌝ }
+    requires { ⌜ Sound (hyperLayout (now s) n) h graphHeader ⌝ }
+    requires { ⌜ Climbs (now s) (hyperLayout (now s) n) h graphHeader ⌝ }
     requires { ⌜ z ≤ h ⌝ }
-    requires { ⌜ (a < z → at ≡ end (hyperLayout (now s) n) a 14) ⌝ }
-    ensures { λ r. ⌜ (r ≤ n) × ((j : ℕ) → a ≤ j → j < z → r ≤ number 2 (now (s .entry)) (end (hyperLayout (now (s .entry)) n) j 14)) ⌝ }
+    requires { ⌜ (a < z → at ≡ end (hyperLayout (now s) n) a graphHeader) ⌝ }
+    ensures { λ r. ⌜ (r ≤ n) × ((j : ℕ) → a ≤ j → j < z → r ≤ number 2 (now (s .entry)) (end (hyperLayout (now (s .entry)) n) j graphHeader)) ⌝ }
 {
     if a < z {
         return wire::number_at(s, at, Width::Two) as usize;
@@ -225,11 +226,11 @@ fn hypers_from(s: &[u8], n: usize, h: u32, a: u32, z: u32, at: usize) -> usize
 
 // .. and before what this gives.
 fn hypers_to(s: &[u8], n: usize, h: u32, a: u32, z: u32, past: usize) -> usize
-    requires { ⌜ Sound (hyperLayout (now s) n) h 14 ⌝ }
-    requires { ⌜ Climbs (now s) (hyperLayout (now s) n) h 14 ⌝ }
+    requires { ⌜ Sound (hyperLayout (now s) n) h graphHeader ⌝ }
+    requires { ⌜ Climbs (now s) (hyperLayout (now s) n) h graphHeader ⌝ }
     requires { ⌜ z ≤ h ⌝ }
-    requires { ⌜ (a < z → past ≡ end (hyperLayout (now s) n) z 14) ⌝ }
-    ensures { λ r. ⌜ (r ≤ n) × ((j : ℕ) → a ≤ j → j < z → number 2 (now (s .entry)) (end (hyperLayout (now (s .entry)) n) j 14) < r) ⌝ }
+    requires { ⌜ (a < z → past ≡ end (hyperLayout (now s) n) z graphHeader) ⌝ }
+    ensures { λ r. ⌜ (r ≤ n) × ((j : ℕ) → a ≤ j → j < z → number 2 (now (s .entry)) (end (hyperLayout (now (s .entry)) n) j graphHeader) < r) ⌝ }
 {
     if z <= a {
         return 0;
@@ -249,7 +250,7 @@ fn covers_from(s: &[u8], n: usize, c: u32, middle: usize, a: u32, z: u32) -> usi
     ensures { λ r. ⌜ (r ≤ n) × ((j : ℕ) → a ≤ j → j < z → r ≤ number 2 (now (s .entry)) (end (coverLayout (now (s .entry)) n) j middle)) ⌝ }
 {
     if a < z {
-        let at = middle + (a as usize) * 8;
+        let at = middle + (a as usize) * graph::COVER;
         return wire::number_at(s, at, Width::Two) as usize;
     }
     n
@@ -264,7 +265,7 @@ fn covers_to(s: &[u8], n: usize, c: u32, middle: usize, a: u32, z: u32) -> usize
     if z <= a {
         return 0;
     }
-    let at = middle + ((z - 1) as usize) * 8;
+    let at = middle + ((z - 1) as usize) * graph::COVER;
     let last = wire::number_at(s, at, Width::Two) as usize;
     last + 1
 }
@@ -290,19 +291,19 @@ fn note(
     last: &mut [u32; 512],
     pos: &mut [usize; 512],
 )
-    requires { ⌜ Sound (targetLayout (now s) n) k (p + 4) ⌝ }
-    requires { ⌜ p + 4 ≤ length (now s) ⌝ }
-    requires { ⌜ p ≡ end (hyperLayout (now s) n) j 14 ⌝ }
+    requires { ⌜ Sound (targetLayout (now s) n) k (p + hyperWidth) ⌝ }
+    requires { ⌜ p + hyperWidth ≤ length (now s) ⌝ }
+    requires { ⌜ p ≡ end (hyperLayout (now s) n) j graphHeader ⌝ }
     requires { ⌜ j < unnoted ⌝ }
-    requires { ⌜ Noted (now s) n (j + 1) (items (targetLayout (now s) n) k (p + 4)) (now first) (now last) (now pos) ⌝ }
+    requires { ⌜ Noted (now s) n (j + 1) (items (targetLayout (now s) n) k (p + hyperWidth)) (now first) (now last) (now pos) ⌝ }
     ensures { λ _. ⌜ Noted (now (s .entry)) n (j + 1) [] (now (first .exit)) (now (last .exit)) (now (pos .exit)) ⌝ }
 {
     let mut i = k;
-    let mut q = p + 4;
+    let mut q = p + graph::HYPER;
     while 0 < i {
-        let v = wire::number_at(s, q + 4, Width::Two) as usize;
+        let v = wire::number_at(s, q + graph::NODE_AT, Width::Two) as usize;
         let u = slot(n, v);
-        q += 6;
+        q += graph::TARGET;
         i -= 1;
         last[u] = j + 1;
         let old = first[u];
@@ -316,7 +317,7 @@ fn note(
 // Takes a hyperedge of k targets at a position into the second half from a first half that is infinite: only one without targets gives anything.
 fn take_first(s: &[u8], n: usize, k: u32, at: usize, room: &mut [u64])
     requires { ⌜ HyperOk (now s) n at ⌝ }
-    requires { ⌜ k ≡ number 2 (now s) (at + 2) ⌝ }
+    requires { ⌜ k ≡ number 2 (now s) (at + targetCountAt) ⌝ }
     requires { ⌜ n + n ≤ length (now room) ⌝ }
     requires { ⌜ ((v : ℕ) → v < n → getD (now room) v 0 ≡ infinite) ⌝ }
     ensures { λ _. ⌜ now (room .exit) ≡ hyperIn (now (s .entry)) n 0 n at (now (room .entry)) ⌝ }
@@ -330,20 +331,20 @@ fn take_first(s: &[u8], n: usize, k: u32, at: usize, room: &mut [u64])
 
 // Takes all hyperedges into the second half from an infinite first, and gives the position past them. No target is read.
 fn first_round(s: &[u8], n: usize, h: u32, room: &mut [u64]) -> usize
-    requires { ⌜ Sound (hyperLayout (now s) n) h 14 ⌝ }
+    requires { ⌜ Sound (hyperLayout (now s) n) h graphHeader ⌝ }
     requires { ⌜ n + n ≤ length (now room) ⌝ }
     requires { ⌜ ((v : ℕ) → v < n → getD (now room) v 0 ≡ infinite) ⌝ }
-    ensures { λ r. ⌜ r ≡ end (hyperLayout (now (s .entry)) n) h 14 ⌝ }
+    ensures { λ r. ⌜ r ≡ end (hyperLayout (now (s .entry)) n) h graphHeader ⌝ }
     ensures { λ _. ⌜ Done n 0 n (now (room .entry)) (now (room .exit)) (λ v.
         min (getD (now (room .entry)) (n + v) 0)
-        (stored (rules.best (held (half n 0 (now (room .entry)))) v (items (hyperLayout (now (s .entry)) n) h 14)))) ⌝ }
+        (stored (rules.best (held (half n 0 (now (room .entry)))) v (items (hyperLayout (now (s .entry)) n) h graphHeader)))) ⌝ }
 {
     let mut i = h;
-    let mut p: usize = 14;
+    let mut p: usize = graph::HEADER;
     let mut last: u32 = 0;
-    let mut stride: usize = 4;
+    let mut stride: usize = graph::HYPER;
     while 0 < i {
-        let count = wire::number_at(s, p + 2, Width::Two);
+        let count = wire::number_at(s, p + graph::TARGET_COUNT_AT, Width::Two);
         i -= 1;
         if count == last {
             take_first(s, n, last, p, room);
@@ -351,7 +352,7 @@ fn first_round(s: &[u8], n: usize, h: u32, room: &mut [u64]) -> usize
         } else {
             take_first(s, n, count, p, room);
             last = count;
-            stride = 4 + (count as usize) * 6;
+            stride = graph::HYPER + (count as usize) * graph::TARGET;
             p += stride;
         }
     }
@@ -367,16 +368,16 @@ fn note_hypers(
     last: &mut [u32; 512],
     pos: &mut [usize; 512],
 )
-    requires { ⌜ Sound (hyperLayout (now s) n) h 14 ⌝ }
+    requires { ⌜ Sound (hyperLayout (now s) n) h graphHeader ⌝ }
     requires { ⌜ Noted (now s) n 0 [] (now first) (now last) (now pos) ⌝ }
     ensures { λ _. ⌜ Noted (now (s .entry)) n h [] (now (first .exit)) (now (last .exit)) (now (pos .exit)) ⌝ }
 {
     let mut j: u32 = 0;
-    let mut p: usize = 14;
+    let mut p: usize = graph::HEADER;
     let mut before: u32 = 0;
-    let mut stride: usize = 4;
+    let mut stride: usize = graph::HYPER;
     while j < h {
-        let count = wire::number_at(s, p + 2, Width::Two);
+        let count = wire::number_at(s, p + graph::TARGET_COUNT_AT, Width::Two);
         if count == before {
             note(s, n, j, p, before, first, last, pos);
             p += stride;
@@ -384,7 +385,7 @@ fn note_hypers(
         } else {
             note(s, n, j, p, count, first, last, pos);
             before = count;
-            stride = 4 + (count as usize) * 6;
+            stride = graph::HYPER + (count as usize) * graph::TARGET;
             p += stride;
             j += 1;
         }
@@ -407,11 +408,11 @@ fn note_covers(
     let mut j: u32 = 0;
     let mut p = middle;
     while j < c {
-        let v = wire::number_at(s, p + 6, Width::Two) as usize;
+        let v = wire::number_at(s, p + graph::COVER_TARGET_AT, Width::Two) as usize;
         let u = slot(n, v);
         let old = first[u];
         first[u] = lesser(old, j);
-        p += 8;
+        p += graph::COVER;
         j += 1;
         last[u] = j;
     }
@@ -434,7 +435,7 @@ impl Marks {
         Marks {
             first: 4294967295,
             last: 0,
-            at: 14,
+            at: graph::HEADER,
             low: 4294967295,
             high: 0,
         }
@@ -665,7 +666,7 @@ fn run_on(
     room: &mut [u64],
 ) -> Outcome
     requires { ⌜ Ready (now s) n h c ⌝ }
-    requires { ⌜ middle ≡ end (hyperLayout (now s) n) h 14 ⌝ }
+    requires { ⌜ middle ≡ end (hyperLayout (now s) n) h graphHeader ⌝ }
     requires { ⌜ n + n ≤ length (now room) ⌝ }
     requires { ⌜ AtRound (decoded (now s) n h c) budget 1 (now room) (now room) ⌝ }
     ensures { λ r. ⌜ r ≡ ended (decoded (now (s .entry)) n h c) budget ⌝ }
@@ -718,7 +719,7 @@ pub fn run(s: &[u8], n: usize, h: u32, c: u32, budget: u32, room: &mut [u64]) ->
         return Outcome::Spent(0);
     }
     raise(n, room);
-    next_round(s, n, h, 14, c, middle, 0, c, room);
+    next_round(s, n, h, graph::HEADER, c, middle, 0, c, room);
     if same(n, 0, n, room) {
         return Outcome::Settled(1);
     }

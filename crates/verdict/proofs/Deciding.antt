@@ -1,4 +1,4 @@
--- The verdict is yes exactly when the state satisfies the formula by its runs. Assumes nothing.
+-- The verdict is yes exactly when the state satisfies the formula by its maximal runs. Assumes nothing.
 use Prim.Native.Nat.{ℕ, _+_, _-_, _≤_, _<_, min}
 use mathlib.Core.List.{List}
 use mathlib.Core.Logic.{_↔_}

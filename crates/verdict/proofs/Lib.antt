@@ -2,7 +2,7 @@
 --     Reading    the reading of a question, from the answers of the two checks; the messages of one that is read
 --     Fitting    a built graph that passes no limit is well-formed, and its message is read back
 --     Settling   what building and settling gives is what the definitions say
---     Deciding   yes exactly when the state satisfies the formula by its runs
+--     Deciding   yes exactly when the state satisfies the formula by its maximal runs
 --     Finished   what an answer says of the graph and the two rooms, and how the verdict on a state is read there
 --     Promised   what the customer is promised follows from the definitions
 --     Building   the graph alone: what is answered, what is left in the room, and what is promised of it

@@ -13,13 +13,10 @@ use Rattle.wire.specs.Bytes.{Bytes}
 use Rattle.wire.specs.Read.{Read, good, bad, _>>=_}
 use Rattle.wire.proofs.Reading.{reading, good-then, bad-then}
 use Rattle.rules.specs.Graph.{Graph}
-use Rattle.rules.specs.Count.{count}
-use Rattle.rules.proofs.Order.{largest-agree}
-use Rattle.rules.proofs.Count.{count-first, count-largest}
 use Rattle.graph.specs.WellFormed.{WellFormed}
-use Rattle.graph.specs.Write.{writeGraph}
 use Rattle.rounds.specs.Outcome.{filled}
-use Rattle.rounds.proofs.Promised.{both-halves, accepted-filled}
+use Rattle.rounds.specs.Promise.{SettledAt}
+use Rattle.rounds.proofs.Promised.{settled-at, spent-at}
 use Rattle.model.proofs.Exact as model
 use Rattle.formula.proofs.Exact as formula
 use Rattle.reduction.proofs.Depths.{built-count}
@@ -28,7 +25,7 @@ use Rattle.verdict.specs.declared.AllStates.{AllStates}
 use Rattle.verdict.specs.declared.AllStates.the-variants as AllStates
 use Rattle.verdict.specs.Question.{Question, readQuestion, graphFor, rootNode}
 use Rattle.verdict.specs.Answer.{roomed, readSettled, readAsked, answerOf, allOf, bytesOf, valuesOf}
-use Rattle.verdict.specs.Promise.{Asks, Leaves, Settles, Spends, Refuses, Promise, PromiseAll}
+use Rattle.verdict.specs.Promise.{Asks, Leaves, Spends, Refuses, Promise, PromiseAll}
 use Rattle.verdict.proofs.Reading.{question-parts}
 use Rattle.verdict.proofs.Fitting.{fits-well, stands}
 use Rattle.verdict.proofs.Deciding.{root-inside, yes-when, no-when, all-when}
@@ -74,29 +71,23 @@ module _ (m f : List ℕ) (budget : ℕ) (b v : List ℕ) (q : Question) (asked 
   well ran = fits-well q (asked .model-fits) (asked .formula-fits) (ran .fitting)
 
   leaves : {k n : ℕ} → Ran q budget b v k n → Leaves q b v b′ v′ k n
-  leaves {k} {n} ran = record {
+  leaves ran = record {
     graph = stands q (asked .model-fits) (asked .formula-fits) (ran .fitting) b (ran .long-is) (ran .bytes-are);
     two-rounds = ran .values-are;
-    halves = rw (ran .values-are) (both-halves g (well ran) k v);
-    small = rw (ran .values-are) (accepted-filled (writeGraph g) g k v refl (well ran) .small);
   }
 
-  settles : {k n first states : ℕ} → Finished q budget b v k n first states → Settles q budget v′ k
-  settles done =
-      let wf = well (done .ran) in
-      record {
-        first = rw (done .count-is) (count-first g (wf .closed));
-        within = done .within;
-        soon = rw (done .count-is) (built-count (asked .model-fits) (asked .formula-fits));
-        largest = rw (done .ran .values-are, done .count-is) (largest-agree g (wf .closed) (count-largest g (wf .closed)) (both-halves g wf (count g) v .first-half));
-      }
+  settled : {k n first states : ℕ} → Finished q budget b v k n first states → SettledAt g budget v′ k
+  settled done = rw (done .ran .values-are, done .count-is) (settled-at g (well (done .ran)) budget v (rw (done .count-is) at (done .within)))
+
+  -- a built graph has no cycle through a cover edge
+  soon : {k n first states : ℕ} → Finished q budget b v k n first states → k ≤ g .nodes
+  soon done = rw (done .count-is) (built-count (asked .model-fits) (asked .formula-fits))
 
   spends : {k n : ℕ} → Stopped q budget b v k n → Spends m f budget b v b′ v′ k n
   spends stop = record {
     question = q;
     asked = asked;
-    spent = stop .spent;
-    later = λ i l. count-first g (well (stop .ran) .closed) .before i (omega (arith, stop .later));
+    spent = rw (stop .ran .values-are, stop .spent) (spent-at g (well (stop .ran)) budget v (stop .later));
     leaves = leaves (stop .ran);
   }
 
@@ -118,8 +109,9 @@ module _ (m f : List ℕ) (budget : ℕ) (b v : List ℕ) (q : Question) (asked 
               asked = asked;
               says = ap (λ (x : ℕ). AllStates.Settled k n x states) (done .first-is) ∙ ap (λ (x : ℕ). AllStates.Settled k n (rootNode q 0) x) (done .states-are);
               inside = rw (done .ran .values-are) (all-inside k);
-              yes = rw (done .ran .values-are) (all-when q (asked .model-fits) (asked .formula-fits) k v (settles done .first .settled));
-              settles = settles done;
+              yes = rw (done .ran .values-are) (all-when q (asked .model-fits) (asked .formula-fits) k v (settled done .first .settled));
+              settled = settled done;
+              soon = soon done;
               leaves = leaves (done .ran);
             };
         spends = λ z. absurd (omega arith);
@@ -135,16 +127,17 @@ module _ (m f : List ℕ) (budget : ℕ) (b v : List ℕ) (q : Question) (asked 
     where
       go : (s : AllStates) → Ended q budget b v s → Promise m f state budget b v b′ v′ (decided q state s)
       go (AllStates.Settled k n first states) done =
-          let settled = settles done .first .settled in
+          let unchanged = settled done .first .settled in
           record {
             decides =
                 λ z. record {
                   question = q;
                   asked = asked;
                   named = named;
-                  yes = yes-when q (asked .model-fits) (asked .formula-fits) k settled state named;
-                  otherwise = no-when q (asked .model-fits) (asked .formula-fits) k settled state named;
-                  settles = settles done;
+                  yes = yes-when q (asked .model-fits) (asked .formula-fits) k unchanged state named;
+                  otherwise = no-when q (asked .model-fits) (asked .formula-fits) k unchanged state named;
+                  settled = settled done;
+                  soon = soon done;
                   leaves = leaves (done .ran);
                 };
             spends = λ z. absurd (omega arith);

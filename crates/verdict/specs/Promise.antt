@@ -1,21 +1,16 @@
 -- What the customer is promised of a verdict, in the words of the demands. A name with a stroke is a room after the call; `reported` is
 -- the count and `returned` the length that are given back.
-use Prim.Native.Nat.{ℕ, _+_, _-_, _*_, _≤_, _<_}
+use Prim.Native.Nat.{ℕ, _+_, _≤_, _<_}
 use mathlib.Core.List.{List, _++_}
-use mathlib.Core.Bool.{true}
 use mathlib.Core.Path.{_≡_}
 use mathlib.Core.Logic.{_↔_}
 use lib.ListN.{length, getD, take, drop}
 use Rattle.refusal.specs.Number.{ok, overBudget}
-use Rattle.value.specs.Value.{finite, _≼_}
 use Rattle.wire.specs.Read.{good}
-use Rattle.rules.specs.Graph.{heaviest}
-use Rattle.rules.specs.Rounds.{Largest, Settled}
-use Rattle.rules.specs.Count.{First}
 use Rattle.graph.specs.Message.{readGraph}
 use Rattle.graph.specs.Write.{writeGraph}
-use Rattle.rounds.specs.Outcome.{filled, held}
-use Rattle.rounds.specs.Promise.{Halves}
+use Rattle.rounds.specs.Outcome.{filled}
+use Rattle.rounds.specs.Promise.{SettledAt, SpentAt}
 use Rattle.model.specs.Write.{writeModel}
 use Rattle.model.specs.WellFormed as models
 use Rattle.formula.specs.Formula.{rootOf}
@@ -40,7 +35,7 @@ pub record Asks (model formula : List ℕ) (question : Question) : Type 0 where
   pub formula-written : formula ≡ writeFormula (question .rows)
   pub formula-fits : formulas.WellFormed (question .model .propositions) (question .rows)
 
--- the state satisfies the formula by its runs
+-- the state satisfies the formula by its maximal runs
 abbrev pub Satisfies : Question → (state : ℕ) → Type 0
 Satisfies question state = Sat (systemOf (question .model)) (rootOf (question .rows)) state
 
@@ -59,23 +54,8 @@ pub record Leaves (question : Question) (bytes values bytes′ values′ : List 
   pub graph : Stands question bytes bytes′ returned
   -- the values are the reported round and the next, the rest as it came
   pub two-rounds : values′ ≡ filled (ruledFor question) reported values
-  pub halves : Halves (ruledFor question) reported values′
-  -- no finite value of the two is above (n - 1) w
-  pub small : (v : ℕ) → v < ruledFor question .nodes + ruledFor question .nodes → finite (held values′ v) ≡ true
-      → held values′ v ≼ ((ruledFor question .nodes - 1) * heaviest (ruledFor question .hypers))
 
--- the graph of the question settled
-pub record Settles (question : Question) (budget : ℕ) (values′ : List ℕ) (reported : ℕ) : Type 0 where
-  -- the count is the first round that the next leaves unchanged
-  pub first : First (ruledFor question) reported
-  -- the budget allows it
-  pub within : reported ≤ budget
-  -- it is at most n
-  pub soon : reported ≤ ruledFor question .nodes
-  -- the settled values are the largest assignment that obeys the rules
-  pub largest : Largest (ruledFor question) (held values′)
-
--- a verdict: yes exactly when the state satisfies the formula by its runs, else no
+-- a verdict: yes exactly when the state satisfies the formula by its maximal runs, else no
 pub record Decides (model formula : List ℕ) (state budget : ℕ) (bytes values bytes′ values′ : List ℕ) (verdict : Verdict) (reported returned : ℕ) : Type 0 where
   -- the model and the formula
   pub question : Question
@@ -87,8 +67,10 @@ pub record Decides (model formula : List ℕ) (state budget : ℕ) (bytes values
   pub yes : (verdict ≡ Verdict.Yes) ↔ Satisfies question state
   -- no exactly when it does not
   pub otherwise : (verdict ≡ Verdict.No) ↔ (¬ Satisfies question state)
-  -- the count is the first unchanged round, and the values are settled
-  pub settles : Settles question budget values′ reported
+  -- the count is the first unchanged round, and the values are settled, as for rounds on the graph
+  pub settled : SettledAt (ruledFor question) budget values′ reported
+  -- the count is at most n
+  pub soon : reported ≤ ruledFor question .nodes
   -- the graph and the last two rounds stand in the rooms
   pub leaves : Leaves question bytes values bytes′ values′ reported returned
 
@@ -104,8 +86,10 @@ pub record DecidesAll (model formula : List ℕ) (budget : ℕ) (bytes values by
   pub inside : rootNode question 0 + question .model .states ≤ length values′
   -- it is 0 exactly for a state that satisfies the formula
   pub yes : (state : ℕ) → state < question .model .states → (getD values′ (rootNode question 0 + state) 0 ≡ 0) ↔ Satisfies question state
-  -- the count is the first unchanged round, and the values are settled
-  pub settles : Settles question budget values′ (allCount answer)
+  -- the count is the first unchanged round, and the values are settled, as for rounds on the graph
+  pub settled : SettledAt (ruledFor question) budget values′ (allCount answer)
+  -- the count is at most n
+  pub soon : allCount answer ≤ ruledFor question .nodes
   -- the graph and the last two rounds stand in the rooms
   pub leaves : Leaves question bytes values bytes′ values′ (allCount answer) (allLength answer)
 
@@ -115,10 +99,8 @@ pub record Spends (model formula : List ℕ) (budget : ℕ) (bytes values bytes�
   pub question : Question
   -- the messages are their writings
   pub asked : Asks model formula question
-  -- the budget is the reported count
-  pub spent : reported ≡ budget
-  -- the first round that the next leaves unchanged comes later
-  pub later : (i : ℕ) → i ≤ budget → ¬ Settled (ruledFor question) i
+  -- the budget is the reported count, and the first unchanged round comes later, as for rounds on the graph
+  pub spent : SpentAt (ruledFor question) budget values′ reported
   -- the graph and the last two rounds stand in the rooms
   pub leaves : Leaves question bytes values bytes′ values′ reported returned
 

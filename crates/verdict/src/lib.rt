@@ -181,9 +181,9 @@ fn settle_question(
     };
     let first = n * (k - 1);
     let message = &bytes[..long];
-    let nodes = wire::number_at(message, 6, Width::Two) as usize;
-    let hypers = wire::number_at(message, 8, Width::Four);
-    let covers = wire::number_at(message, 12, Width::Two);
+    let nodes = wire::number_at(message, graph::NODES_AT, Width::Two) as usize;
+    let hypers = wire::number_at(message, graph::HYPERS_AT, Width::Four);
+    let covers = wire::number_at(message, graph::COVERS_AT, Width::Two);
     match rounds::run(message, nodes, hypers, covers, budget, values) {
         Outcome::Settled(count) => AllStates::Settled(count, long, first, n),
         Outcome::Spent(count) => AllStates::Spent(count, long),

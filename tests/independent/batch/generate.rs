@@ -67,10 +67,14 @@ fn cover(random: &mut Random, nodes: usize) -> Cover {
 }
 
 /// A model of at most so many states. Half of the models go forward to a last state, so that A
-/// untils hold on them.
+/// untils hold on them. Half of them may have dead states, few of those many.
 pub fn model(random: &mut Random, most: usize) -> Model {
     let states = random.between(1, most);
-    model_of(random, states, |random, _| random.pick(&[1, 1, 1, 2, 2, 3]))
+    let alive: &[usize] = &[1, 1, 1, 2, 2, 3];
+    let some_dead: &[usize] = &[0, 1, 1, 1, 2, 2, 3];
+    let many_dead: &[usize] = &[0, 0, 1, 2];
+    let degrees = random.pick(&[alive, alive, alive, some_dead, some_dead, many_dead]);
+    model_of(random, states, |random, _| random.pick(degrees))
 }
 
 /// A model of so many states; `degree` says how many transitions leave each.
@@ -109,10 +113,12 @@ fn transition(random: &mut Random, states: usize, from: usize, forward: bool) ->
     }
 }
 
-/// A model of exactly so many states and transitions; there are no fewer transitions than states.
+/// A model of exactly so many states and transitions. In half of them no state is dead, where there
+/// are transitions enough.
 pub fn crowd(random: &mut Random, states: usize, transitions: usize) -> Model {
-    let mut degrees = vec![1; states];
-    for _ in states..transitions {
+    let each = usize::from(transitions >= states && random.once_in(2));
+    let mut degrees = vec![each; states];
+    for _ in each * states..transitions {
         degrees[random.below(states)] += 1;
     }
     model_of(random, states, |_, from| degrees[from])

@@ -359,6 +359,7 @@ fn many_states() -> Vec<Vec<u8>> {
             known::until(Runs::All, None),
         ] {
             inputs.push(joined(&chain(states, 2), &rows));
+            inputs.push(joined(&ending(chain(states, 2)), &rows));
         }
     }
     for (states, levels) in [(16, 5), (64, 10), (215, 3), (256, 2)] {
@@ -383,6 +384,13 @@ fn chain(states: usize, weight: u32) -> Model {
         .map(|state| if state < last { 1 } else { 2 })
         .collect();
     model(2, &labels, &(0..states).map(step).collect::<Vec<_>>())
+}
+
+/// The model without the transitions of its last state.
+pub fn ending(mut model: Model) -> Model {
+    let last = model.states() - 1;
+    model.transitions.retain(|step| step.from != last);
+    model
 }
 
 /// States in a ring, the first with p0.

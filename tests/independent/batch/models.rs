@@ -7,7 +7,13 @@ use crate::known::{self, model};
 use crate::message::{self, Message};
 
 pub fn calls() -> Vec<Call> {
-    let parts = [refusals(), labels(), dead_states(), large()];
+    let parts = [
+        refusals(),
+        labels(),
+        dead_states(),
+        faulty_and_dead(),
+        large(),
+    ];
     let messages: Vec<Vec<u8>> = parts.into_iter().flatten().collect();
     messages
         .iter()
@@ -57,7 +63,7 @@ pub fn labels() -> Vec<Vec<u8>> {
     messages
 }
 
-/// "7 DEAD: a state with no transition": each state in turn, all, and all but one.
+/// "a state without transitions" is taken: each state in turn, all, and all but one.
 pub fn dead_states() -> Vec<Vec<u8>> {
     let ring = |states: usize, dead: &dyn Fn(usize) -> bool| {
         let alive = (0..states).filter(|state| !dead(*state));
@@ -75,6 +81,22 @@ pub fn dead_states() -> Vec<Vec<u8>> {
         ring(5, &|_| false),
     ]);
     messages
+}
+
+/// A dead state in a message that is refused for something else: before it, at it and after it.
+fn faulty_and_dead() -> Vec<Vec<u8>> {
+    let dead = message::model(&model(1, &[1, 0, 1], &[(0, 1, 1), (2, 4, 1)]));
+    let none = message::model(&model(1, &[1, 0, 1], &[]));
+    let judged = |bytes: &[u8]| bytes::model(bytes).err();
+    let parts = [&dead, &none].map(|base| {
+        [
+            vec![base.bytes.clone()],
+            sweep::fields(base, &judged),
+            sweep::records(base),
+        ]
+        .concat()
+    });
+    parts.concat()
 }
 
 /// So many states, and transitions from each in turn until there are so many.
@@ -101,6 +123,8 @@ fn large() -> Vec<Vec<u8>> {
         written(full(256, 256)),
         written(full(257, 257)),
         written(last_dead),
+        written(full(256, 0)),
+        written(full(257, 0)),
         written(full(256, 8_062)),
         vec![0; 65_536],
     ]

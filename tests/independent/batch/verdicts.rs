@@ -2,6 +2,7 @@
 
 use super::formulas::{self, nested, tower};
 use super::generate::EXTREMES;
+use super::inputs::ending;
 use super::models;
 use super::sweep;
 use crate::answer::{Call, MOST_BYTES, MOST_VALUES};
@@ -17,6 +18,7 @@ pub fn calls() -> Vec<Call> {
     let parts = [
         known_questions(),
         operators(),
+        dead_ends(),
         extremes(),
         refusals(),
         two_messages(),
@@ -125,7 +127,8 @@ fn known_questions() -> Vec<Call> {
         Row::Next(Runs::Some, Some(1), 3),
         Row::Until(Runs::All, None, 2, 4),
     ]);
-    calls.extend(two_models().iter().flat_map(|model| around(model, &deep)));
+    let models = two_models().into_iter().chain(dead_ended());
+    calls.extend(models.flat_map(|model| around(&model, &deep)));
     calls
 }
 
@@ -156,8 +159,27 @@ fn two_models() -> [Model; 2] {
     [model(2, &labels, &forward), model(2, &labels, &cycles)]
 }
 
+/// The same two where nothing leaves some of the states, and one of dead states alone.
+fn dead_ended() -> [Model; 3] {
+    let without = |mut model: Model, dead: &[usize]| {
+        model.transitions.retain(|step| !dead.contains(&step.from));
+        model
+    };
+    let [forward, cycles] = two_models();
+    let all = without(forward.clone(), &[0, 1, 2, 3, 4]);
+    [without(forward, &[3]), without(cycles, &[0, 2]), all]
+}
+
 /// Every operator over every two leaves, with bounds on both sides of the weights.
 fn operators() -> Vec<Call> {
+    let formulas = over_leaves();
+    let ask = |(index, rows): (usize, &Formula)| {
+        two_models().map(|model| asked_of(&model, rows, index % 5))
+    };
+    formulas.iter().enumerate().flat_map(ask).collect()
+}
+
+fn over_leaves() -> Vec<Formula> {
     let leaves = [Row::True, Row::False, Row::Has(0), Row::HasNot(1)];
     let bounds: [Bound; 5] = [Some(0), Some(1), Some(2), Some(3), None];
     let mut formulas: Vec<Formula> = leaves.iter().map(|leaf| vec![leaf.clone()]).collect();
@@ -180,10 +202,41 @@ fn operators() -> Vec<Call> {
             formulas.push(vec![left.clone(), right.clone(), Row::Or(0, 1)]);
         }
     }
+    formulas
+}
+
+/// Request 1: "at such a state EX is false, AX is true, E until and A until hold exactly when right
+/// holds". The same formulas where runs end; walks of two steps to an end, and to one that right
+/// doesn't hold at; a fork of which one way ends and the other is endless; and single states.
+fn dead_ends() -> Vec<Call> {
     let ask = |(index, rows): (usize, &Formula)| {
-        two_models().map(|model| asked_of(&model, rows, index % 5))
+        dead_ended().map(|model| asked_of(&model, rows, (index + index / 5) % 5))
     };
-    formulas.iter().enumerate().flat_map(ask).collect()
+    let mut calls: Vec<Call> = over_leaves().iter().enumerate().flat_map(ask).collect();
+    for bound in [Some(0), Some(2), Some(3), Some(4), Some(5), Some(6), None] {
+        for runs in [Runs::Some, Runs::All] {
+            let rows = known::until(runs, bound);
+            // where right holds: at the end, before it, at both, nowhere; and left nowhere
+            for labels in [[1, 1, 2], [1, 2, 0], [1, 2, 2], [1, 1, 1], [0, 0, 2]] {
+                let walk = model(2, &labels, &[(0, 3, 1), (1, 2, 2)]);
+                let models = [walk, fork(&labels, None), fork(&labels, Some(1))];
+                calls.extend(models.map(|model| asked_of(&model, &rows, 0)));
+            }
+            // one state, with and without left and right
+            for label in 0..4 {
+                calls.push(asked_of(&model(2, &[label], &[]), &rows, 0));
+            }
+        }
+    }
+    calls
+}
+
+/// Two ways from state 0: to state 1, which is dead or goes on for ever, and to state 2, which is
+/// dead.
+fn fork(labels: &[u32], goes_on: Option<u32>) -> Model {
+    let mut steps = vec![(0, 3, 1), (0, 5, 2)];
+    steps.extend(goes_on.map(|weight| (1, weight, 1)));
+    model(2, labels, &steps)
 }
 
 /// Extreme weights and bounds: one transition under EX and AX, and the sum of two under untils.
@@ -205,6 +258,8 @@ fn extremes() -> Vec<Call> {
             for bound in fitting {
                 calls.push(sum_under(weight, second, Runs::Some, Some(bound)));
                 calls.push(sum_under(weight, second, Runs::All, Some(bound)));
+                calls.push(sum_to_the_end(weight, second, Runs::Some, Some(bound)));
+                calls.push(sum_to_the_end(weight, second, Runs::All, Some(bound)));
             }
         }
     }
@@ -213,6 +268,12 @@ fn extremes() -> Vec<Call> {
 
 fn sum_under(first: u32, second: u32, runs: Runs, bound: Bound) -> Call {
     let steps = [(0, first, 1), (1, second, 2), (2, 0, 2)];
+    asked_of(&model(2, &[1, 1, 2], &steps), &known::until(runs, bound), 0)
+}
+
+/// The same on a run that ends.
+fn sum_to_the_end(first: u32, second: u32, runs: Runs, bound: Bound) -> Call {
+    let steps = [(0, first, 1), (1, second, 2)];
     asked_of(&model(2, &[1, 1, 2], &steps), &known::until(runs, bound), 0)
 }
 
@@ -271,8 +332,7 @@ fn formula_changes() -> Vec<Vec<u8>> {
 
 /// Messages that break each rule, one for each: of the model and of the formula.
 fn rule_breakers() -> (Vec<Vec<u8>>, Vec<Vec<u8>>) {
-    let models = [model_changes(), models::dead_states()].concat();
-    let models = sweep::one_for_each_rule(&models, &|bytes| bytes::model(bytes).err());
+    let models = sweep::one_for_each_rule(&model_changes(), &|bytes| bytes::model(bytes).err());
     let formulas = formula_changes();
     let formulas = sweep::one_for_each_rule(&formulas, &|bytes| bytes::formula(2, bytes).err());
     let rules = |subject: &str| {
@@ -447,6 +507,7 @@ fn sizes() -> Vec<Call> {
         }
         calls.push(asked_in_full_rooms(&loops(6_898), &rows));
     }
+    calls.extend(sizes_with_a_dead_state());
     // far past h and targets, with the most transitions of one state that a message can hold
     for runs in [Runs::Some, Runs::All] {
         calls.push(asked_in_full_rooms(&loops(8_189), &tower(runs, None, 64)));
@@ -461,6 +522,28 @@ fn sizes() -> Vec<Call> {
             &loops(2_730),
             &passing(Runs::All, &[2_730, 2_730, 2_730, last]),
         ));
+    }
+    calls
+}
+
+/// The same limits where a second state is dead: its A helper has one hyperedge with one target, and
+/// one more of either would be SIZE.
+fn sizes_with_a_dead_state() -> Vec<Call> {
+    let mut calls = vec![];
+    // h: 1,074 · 60 + 1,088 + 4 + (2 + 1) and one more are 65,535 and 65,536;
+    // targets: 4,226 · 60 + 4,281 + (2 + 4,300) + 1 and one more are 262,144 and 262,145
+    for (runs, transitions, most, last) in [
+        (Runs::Some, 1_089, 1_074, 1_088),
+        (Runs::All, 4_300, 4_226, 4_281),
+    ] {
+        for last in [last, last + 1] {
+            let mut rows = passing(runs, &[vec![most; 60], vec![last]].concat());
+            rows.push(Row::True);
+            rows.push(Row::Until(Runs::All, None, rows.len() - 2, rows.len() - 1));
+            let mut with_dead = loops(transitions);
+            with_dead.labels.push(0);
+            calls.push(asked_in_full_rooms(&with_dead, &rows));
+        }
     }
     calls
 }
@@ -496,7 +579,8 @@ fn full_rooms() -> Vec<Call> {
     calls
 }
 
-/// The most states, in a row: many rounds, with states and budgets around the last.
+/// The most states, in a row: many rounds, with states and budgets around the last. The last goes on
+/// for ever, or is dead. And all of them dead.
 fn large() -> Vec<Call> {
     let states = 256;
     let step = |state: usize| (state, u32::MAX, (state + 1).min(states - 1));
@@ -504,22 +588,25 @@ fn large() -> Vec<Call> {
         .map(|state| if state + 1 < states { 1 } else { 2 })
         .collect();
     let row = model(2, &labels, &(0..states).map(step).collect::<Vec<_>>());
+    let dead = model(2, &labels, &[]);
     let rows = [
         known::until(Runs::Some, None),
         known::until(Runs::Some, Some(u32::MAX - 1)),
         known::until(Runs::All, None),
     ];
     let mut calls = vec![];
-    for (state, rows) in rows.iter().enumerate() {
-        let call = asked_of(&row, rows, state);
-        let needs = needs(&call.messages[0], &call.messages[1]).expect("a question");
-        for budget in [needs.count - 1, needs.count, needs.count + 1] {
-            let mut again = call.clone();
-            again.numbers[1] = budget;
-            calls.push(again);
+    for model in [ending(row.clone()), row, dead] {
+        for (state, rows) in rows.iter().enumerate() {
+            let call = asked_of(&model, rows, state);
+            let needs = needs(&call.messages[0], &call.messages[1]).expect("a question");
+            for budget in [needs.count - 1, needs.count, needs.count + 1] {
+                let mut again = call.clone();
+                again.numbers[1] = budget;
+                calls.push(again);
+            }
+            calls.push(call);
+            calls.extend([254, 255, 256, 257].map(|state| asked_of(&model, rows, state)));
         }
-        calls.push(call);
-        calls.extend([254, 255, 256, 257].map(|state| asked_of(&row, rows, state)));
     }
     calls
 }

@@ -39,7 +39,7 @@ fn large(random: &mut Random) -> Vec<u8> {
     let transitions = match random.below(8) {
         0 => most,
         1 => most + 1,
-        2 => random.between(states, most),
+        2 => random.between(0, most),
         _ => (random.between(1, 3) * states).min(most),
     };
     let mut model = generate::crowd(random, states, transitions);

@@ -21,6 +21,13 @@ use Rattle.build.proofs.Writing.{untils-few}
 use Rattle.build.proofs.build.Statement.{statement}
 use Rattle.build.proofs.build.Tie as tie
 
+-- the places that the facts below look back to
+abbrev start : tie.After-table → tie.Start
+start c = c .before .before .before .before .before .before
+
+abbrev after-total-size : tie.Else2 → tie.After-total-size
+after-total-size c = c .before .before .before .before .before
+
 abbrev modelIn : tie.Start → Model
 modelIn s = heldModel (now (s .args .m)) (s .args .n) (s .args .p) (s .args .t)
 
@@ -60,7 +67,7 @@ slice-aggregate-total-size c = search needs
 
 total-size-requires : tie.Need-total-size-requires
 total-size-requires c κs =
-    let s = c .before .before .before .before .before .before in
+    let s = start c in
     (s .pre .0, ((omega (arith, c .before .starts .ensures .0, states-few (s .pre .0)), c .before .starts .ensures .1), s .pre .1))
 
 add-nodes : tie.Need-add-nodes
@@ -110,10 +117,10 @@ returns-2 c =
     room-refused _ _ _ (fit (m .before .before)) (bytes-short (counted (m .before .before .before .before)) _ _ (rw (← (m .message-length .ensures)) (c .if2 .taken)))
 
 cast-if3 : tie.Need-cast-if3
-cast-if3 c = omega (arith, nodes-few (c .before .before .before .before .before))
+cast-if3 c = omega (arith, nodes-few (after-total-size c))
 
 mul-if3 : tie.Need-mul-if3
-mul-if3 c = omega (arith, nodes-few (c .before .before .before .before .before))
+mul-if3 c = omega (arith, nodes-few (after-total-size c))
 
 returns-3 : tie.Need-returns-3
 returns-3 c =
@@ -121,7 +128,7 @@ returns-3 c =
     room-refused _ _ _ (fit (m .before .before)) (values-short (counted (m .before .before .before .before)) _ _ (c .if3 .taken))
 
 -- and there is room for it
-room-for : (c : tie.Else3) → let s = begun (c .before .before .before .before .before .before) in roomy (graphOf (modelIn s) (rowsIn s)) (now (s .args .room)) (s .args .values) ≡ true
+room-for : (c : tie.Else3) → let s = begun (after-total-size (c .before)) in roomy (graphOf (modelIn s) (rowsIn s)) (now (s .args .room)) (s .args .values) ≡ true
 room-for c =
     let m = c .before .before in
     graph-roomy (counted (m .before .before .before .before)) _ _ (rw (← (m .message-length .ensures)) (c .before .if2 .left)) (c .if3 .left)

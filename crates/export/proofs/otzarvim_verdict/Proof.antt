@@ -7,6 +7,10 @@ use Rattle.export.specs.Results.{verdictNumber}
 use Rattle.export.proofs.otzarvim_verdict.Statement.{statement}
 use Rattle.export.proofs.otzarvim_verdict.Tie as tie
 
+-- the places that the facts below look back to
+abbrev after-decide : tie.After-verdict → tie.After-decide
+after-decide c = c .before .before .before .before .before
+
 decide-requires : tie.Need-decide-requires
 decide-requires c κs = search needs
 
@@ -37,7 +41,7 @@ returns c =
     let count = length .before in
     let number = count .before in
     let verdict = number .before in
-    let answer = verdict .before .before .before .before .before .decide .ensures in (
+    let answer = after-decide verdict .decide .ensures in (
       c .number .ensures ∙ ap answerNumber (answer .0),
       (
         answer .1 .0,

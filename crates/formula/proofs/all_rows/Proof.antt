@@ -1,7 +1,7 @@
 -- `formula::all_rows` meets its contract: the run of the i rows that are left, up to the end, is the whole run, and the uses counted and those that they make are all uses.
 use Prim.Native.Nat.{ℕ, _+_, _*_, _-_, _≤_}
 use mathlib.Core.List.{List}
-use mathlib.Core.Path.{_≡_, refl}
+use mathlib.Core.Path.{_≡_, refl, ap}
 use denote.Ref.{now}
 use lib.ListN.{length, getD}
 use borrow.Author.Needs.{needs}
@@ -36,6 +36,13 @@ Inv-loop s p counts₀ st₀ counts st =
 
 abbrev μ-loop : tie.MeasureT-loop
 μ-loop s p counts₀ st₀ counts st = length s - st .at
+
+-- the places that the facts below look back to
+abbrev at-loop : tie.After-one-row Inv-loop μ-loop → tie.At-loop Inv-loop μ-loop
+at-loop c = c .before .before .before .before .before .before .before
+
+abbrev after-one-row : tie.After-known-told2 Inv-loop μ-loop → tie.After-one-row Inv-loop μ-loop
+after-one-row c = c .before .before .before .before .before
 
 loop-holds : tie.Need-loop-holds Inv-loop μ-loop
 loop-holds c =
@@ -106,14 +113,14 @@ returns-2 c =
 
 loop-less : tie.Need-loop-less Inv-loop μ-loop
 loop-less c =
-    let t = c .before .before .before .before .before in
+    let t = after-one-row c in
     let stay = rows-stay _ _ _ _ (step-next _ (by (t .one-row .ensures .0) (c .before .read2 .given .1))) in
     omega (arith, stay .0, stay .1)
 
 loop-again : tie.Need-loop-again Inv-loop μ-loop
 loop-again c =
-    let t = c .before .before .before .before .before in
-    let l = t .before .before .before .before .before .before .before in
+    let t = after-one-row c in
+    let l = at-loop t in
     let inv = l .loop .inv in
     let s = now (l .before .before .before .args .s) in
     let at = l .loop .st .at in
@@ -130,7 +137,9 @@ loop-again c =
             i = left .i - 1;
             long = omega (arith, left .long, stay .0, stay .1);
             same = turn-next _ _ (left .i) _ (left .same) (omega (arith, left .long, stay .0, stay .1)) (t .one-row .ensures .0) is;
-            all-uses = λ j. rw (stay .0) (omega (arith, left .all-uses j, more j, uses-more s j (left .i) at (omega (arith, left .long, stay .0, stay .1))));
+            all-uses = λ j.
+                let moved = ap (λ (p : ℕ). uses j (items (rowLayout s) (left .i - 1) p)) (stay .0) in
+                omega (arith, moved, left .all-uses j, more j, uses-more s j (left .i) at (omega (arith, left .long, stay .0, stay .1)));
           },
     )
 

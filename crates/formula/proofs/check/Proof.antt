@@ -28,13 +28,20 @@ use Rattle.formula.proofs.Answered.{counted-formula, counted-refused}
 use Rattle.formula.proofs.check.Statement.{statement}
 use Rattle.formula.proofs.check.Tie as tie
 
+-- the places that the facts below look back to
+abbrev entered : tie.After-known-told → tie.Start
+entered c = c .before .before .before .before .before .before
+
+abbrev after-known-told : tie.After-enum-told2 → tie.After-known-told
+after-known-told c = c .before .before .before .before .before
+
 -- the header is good
-head-good : (c : tie.After-known-told) → readHeader (now (c .before .before .before .before .before .before .args .s)) ≡ good (c .before .head .given .0 .0)
+head-good : (c : tie.After-known-told) → readHeader (now (entered c .args .s)) ≡ good (c .before .head .given .0 .0)
 head-good c = counted-formula _ (by (c .before .before .before .header .ensures) (c .before .head .given .1))
 
 -- the reading of all rows
 abbrev all-read : tie.After-known-told → Read State
-all-read k = let a = k .before .before .before .before .before .before .args in run (rows (now (a .s)) (a .p)) (k .before .head .given .0 .0) (start formulaHeader)
+all-read k = let a = entered k .args in run (rows (now (a .s)) (a .p)) (k .before .head .given .0 .0) (start formulaHeader)
 
 -- the rows that were read, and how often each of them is an operand
 record Rows (s counts : List ℕ) (p f : ℕ) : Type 0 where
@@ -43,12 +50,12 @@ record Rows (s counts : List ℕ) (p f : ℕ) : Type 0 where
   long : length got ≡ f
   uses-are : (i : ℕ) → getD counts i 0 ≡ uses i got
 
-rows-got : (c : tie.After-enum-told2) → let r = c .before .before .before in let k = r .before .before in let a = k .before .before .before .before .before .before .args in
+rows-got : (c : tie.After-enum-told2) → let r = c .before .before .before in let k = r .before .before in let a = entered k .args in
     Rows (now (a .s)) (r .all-rows .last .1 .1 .1 .0) (a .p) (k .before .head .given .0 .0)
 rows-got c =
     let r = c .before .before .before in
     let k = r .before .before in
-    let a = k .before .before .before .before .before .before .args in
+    let a = entered k .args in
     let told = c .enum-told2 .given .1 in
     let long = sym (header-good _ _ (head-good k) .long) in
     let ran = run-good _ _ _ _ (step-next (all-read k) (by {b = step (all-read k)} (r .all-rows .ensures .0 _ long) told)) in
@@ -100,7 +107,7 @@ slice-aggregate-used-once c = search needs
 
 used-once-requires : tie.Need-used-once-requires
 used-once-requires c κs =
-    let head = header-good _ _ (head-good (c .before .before .before .before .before .before)) in
+    let head = header-good _ _ (head-good (after-known-told (c .before))) in
     (c .before .before .before .counts2 .given, head .f-counted .no-less, head .f-counted .no-more)
 
 returns-4 : tie.Need-returns-4
@@ -108,7 +115,7 @@ unfolding readFormula checked
 returns-4 c =
     let u = c .before in
     let t = u .before .before in
-    let k = t .before .before .before .before .before in
+    let k = after-known-told t in
     let rs = rows-got t in
     let unused : usedOnce (rs .got) ≡ false = by (u .used-once .ensures (rs .got) (rs .long) (rs .uses-are)) (not-true _ (c .if2 .taken)) in
     simp (reading, le-leb _ _ (k .before .before .before .before .if1 .left), head-good k, rs .there, unused)
@@ -118,7 +125,7 @@ unfolding readFormula checked
 returns-5 c =
     let u = c .before in
     let t = u .before .before in
-    let k = t .before .before .before .before .before in
+    let k = after-known-told t in
     let rs = rows-got t in
     let used : usedOnce (rs .got) ≡ true = by (u .used-once .ensures (rs .got) (rs .long) (rs .uses-are)) (not-false _ (c .if2 .left)) in
     simp (reading, le-leb _ _ (k .before .before .before .before .if1 .left), head-good k, rs .there, used, rs .long)

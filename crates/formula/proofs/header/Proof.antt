@@ -16,11 +16,15 @@ use Rattle.formula.specs.Answers.{counted}
 use Rattle.formula.proofs.header.Statement.{statement}
 use Rattle.formula.proofs.header.Tie as tie
 
+-- the places that the facts below look back to
+abbrev start : tie.After-known-told2 → tie.Start
+start c = c .before .before .before .before .before .before .before .before
+
 -- the start is good, and the count
 opened : (c : tie.After-enum-told) → readStart (now (c .before .before .before .before .args .s)) formulaHead ≡ good tt
 opened c = opened-good _ (by (c .before .before .«open» .ensures) (c .enum-told .given .1))
 
-f-read : (c : tie.After-known-told2) → readCount (now (c .before .before .before .before .before .before .before .before .args .s)) rowsCount ≡ good (c .before .f .given .0 .0)
+f-read : (c : tie.After-known-told2) → readCount (now (start c .args .s)) rowsCount ≡ good (c .before .f .given .0 .0)
 f-read c = counted-good _ (by (c .before .before .before .read-count .ensures) (c .before .f .given .1))
 
 open-requires : tie.Need-open-requires

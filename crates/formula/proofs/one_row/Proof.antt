@@ -21,6 +21,13 @@ use Rattle.formula.proofs.Accepted.{row-is}
 use Rattle.formula.proofs.one_row.Statement.{statement}
 use Rattle.formula.proofs.one_row.Tie as tie
 
+-- the places that the facts below look back to
+abbrev start-of-number-at3 : tie.After-number-at3 → tie.Start
+start-of-number-at3 c = c .before .before .before .before .before
+
+abbrev after-number-at4 : tie.After-slice-known2 → tie.After-number-at4
+after-number-at4 c = c .before .before .before .before .before .before .before .before
+
 -- where the function starts
 abbrev start : tie.After-number-at4 → tie.Start
 start c = c .before .before .before .before .before .before
@@ -44,7 +51,7 @@ fields-judged c =
 row-read : (c : tie.After-known-told) → let a = start (c .before .before .before .before) .args in readRow (now (a .s)) (a .p) (a .st) ≡ good (c .before .row .given .0 .0)
 row-read c =
     let j = c .before .before .before in
-    fields-judged (j .before) ∙ judged-fine (judgement (j .before)) (by {b = judged (judgement (j .before))} (j .judge .ensures) (c .before .row .given .1))
+    fields-judged (j .before) ∙ judged-fine (judgement (j .before)) (by {b = judged (judgement (j .before))} (j .judge-kind .ensures) (c .before .row .given .1))
 
 number-at-requires : tie.Need-number-at-requires
 number-at-requires c κs = omega (arith, inside (c .before .before))
@@ -62,13 +69,13 @@ number-at-requires-3 : tie.Need-number-at-requires-3
 number-at-requires-3 c κs = omega (arith, inside (c .before .before .before .before))
 
 add-zero-at : tie.Need-add-zero-at
-add-zero-at c = omega (arith, inside (c .before .before .before .before .before))
+add-zero-at c = omega (arith, inside (start-of-number-at3 c))
 
 number-at-requires-4 : tie.Need-number-at-requires-4
-number-at-requires-4 c κs = omega (arith, inside (c .before .before .before .before .before))
+number-at-requires-4 c κs = omega (arith, inside (start-of-number-at3 c))
 
-judge-requires : tie.Need-judge-requires
-judge-requires c κs = search needs
+judge-kind-requires : tie.Need-judge-kind-requires
+judge-kind-requires c κs = search needs
 
 enum-known-row : tie.Need-enum-known-row
 enum-known-row c = search needs
@@ -80,7 +87,7 @@ returns : tie.Need-returns
 unfolding step
 returns c =
     let j = c .before .before .before in
-    let refused = judged-refused (judgement (j .before)) (by {b = judged (judgement (j .before))} (j .judge .ensures) (c .before .e .given .1)) in
+    let refused = judged-refused (judgement (j .before)) (by {b = judged (judgement (j .before))} (j .judge-kind .ensures) (c .before .e .given .1)) in
     (simp (reading, fields-judged (j .before), refused), λ next e. not-next e)
 
 count-row-requires : tie.Need-count-row-requires
@@ -90,10 +97,10 @@ count-row-requires c κs =
     (λ l m. omega (arith, row-good _ _ _ _ (row-read k) .fine .names .earlier m, pre .0, pre .1), pre .2)
 
 add-end : tie.Need-add-end
-add-end c = let a = start (c .before .before .before .before .before .before .before .before) in omega (arith, a .good, inside a)
+add-end c = let a = start (after-number-at4 c) in omega (arith, a .good, inside a)
 
 add-place : tie.Need-add-place
-add-place c = omega (arith, start (c .before .before .before .before .before .before .before .before .before) .pre .1 .0)
+add-place c = omega (arith, start (after-number-at4 (c .before)) .pre .1 .0)
 
 same-length : tie.Need-same-length
 same-length c = search needs
@@ -116,7 +123,7 @@ one-row-spec =
     number-at-requires-3
     add-zero-at
     number-at-requires-4
-    judge-requires
+    judge-kind-requires
     enum-known-row
     enum-known-e
     returns

@@ -19,14 +19,18 @@ use Rattle.graph.proofs.Good.{cover-short}
 use Rattle.graph.proofs.cover.Statement.{statement}
 use Rattle.graph.proofs.cover.Tie as tie
 
+-- the places that the facts below look back to
+abbrev start : tie.After-known-told → tie.Start
+start c = c .before .before .before .before .before
+
 -- the fields that are there: the target, and so the source and the bound before it
-target-there : (c : tie.After-known-told) → let a = c .before .before .before .before .before .args in fieldAt 2 (now (a .s)) (a .st .at + coverTargetAt) ≡ Number (c .before .target .given .0 .0)
+target-there : (c : tie.After-known-told) → let a = start c .args in fieldAt 2 (now (a .s)) (a .st .at + coverTargetAt) ≡ Number (c .before .target .given .0 .0)
 target-there c = by (c .before .before .before .read .ensures) (c .before .target .given .1)
 
-bound-there : (c : tie.After-known-told) → let a = c .before .before .before .before .before .args in fieldAt 4 (now (a .s)) (a .st .at + coverBoundAt) ≡ Number (number 4 (now (a .s)) (a .st .at + coverBoundAt))
+bound-there : (c : tie.After-known-told) → let a = start c .args in fieldAt 4 (now (a .s)) (a .st .at + coverBoundAt) ≡ Number (number 4 (now (a .s)) (a .st .at + coverBoundAt))
 bound-there c = field-value 4 _ _ (omega (arith, value-inside 2 _ _ (target-there c)))
 
-source-there : (c : tie.After-number-at) → let a = c .before .before .before .before .before .before .args in fieldAt 2 (now (a .s)) (a .st .at) ≡ Number (c .number-at .result)
+source-there : (c : tie.After-number-at) → let a = start (c .before) .args in fieldAt 2 (now (a .s)) (a .st .at) ≡ Number (c .number-at .result)
 source-there c = fits-there 2 _ _ (omega (arith, value-inside 2 _ _ (target-there (c .before)))) (c .number-at .ensures)
 
 add-target-at : tie.Need-add-target-at

@@ -15,17 +15,24 @@ use Rattle.graph.specs.Answers.{counted}
 use Rattle.graph.proofs.header.Statement.{statement}
 use Rattle.graph.proofs.header.Tie as tie
 
+-- the places that the facts below look back to
+abbrev start-of-known-told2 : tie.After-known-told2 → tie.Start
+start-of-known-told2 c = c .before .before .before .before .before .before .before .before
+
+abbrev start : tie.After-known-told4 → tie.Start
+start c = start-of-known-told2 (c .before .before .before .before)
+
 -- the start is good, and each count
 opened : (c : tie.After-enum-told) → readStart (now (c .before .before .before .before .args .s)) graphHead ≡ good tt
 opened c = opened-good _ (by (c .before .before .«open» .ensures) (c .enum-told .given .1))
 
-n-read : (c : tie.After-known-told2) → readCount (now (c .before .before .before .before .before .before .before .before .args .s)) nodesCount ≡ good (c .before .n .given .0 .0)
+n-read : (c : tie.After-known-told2) → readCount (now (start-of-known-told2 c .args .s)) nodesCount ≡ good (c .before .n .given .0 .0)
 n-read c = counted-good _ (by (c .before .before .before .read-count .ensures) (c .before .n .given .1))
 
-h-read : (c : tie.After-known-told4) → readCount (now (c .before .before .before .before .before .before .before .before .before .before .before .before .args .s)) hypersCount ≡ good (c .before .h .given .0 .0)
+h-read : (c : tie.After-known-told4) → readCount (now (start c .args .s)) hypersCount ≡ good (c .before .h .given .0 .0)
 h-read c = counted-good _ (by (c .before .before .before .read-count2 .ensures) (c .before .h .given .1))
 
-c-read : (c : tie.After-known-told6) → readCount (now (c .before .before .before .before .before .before .before .before .before .before .before .before .before .before .before .before .args .s)) coversCount ≡ good (c .before .c .given .0 .0)
+c-read : (c : tie.After-known-told6) → readCount (now (start (c .before .before .before .before) .args .s)) coversCount ≡ good (c .before .c .given .0 .0)
 c-read c = counted-good _ (by (c .before .before .before .read-count3 .ensures) (c .before .c .given .1))
 
 open-requires : tie.Need-open-requires

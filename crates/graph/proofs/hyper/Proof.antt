@@ -19,11 +19,15 @@ use Rattle.graph.proofs.Good.{hyper-short}
 use Rattle.graph.proofs.hyper.Statement.{statement}
 use Rattle.graph.proofs.hyper.Tie as tie
 
+-- the places that the facts below look back to
+abbrev start : tie.After-known-told → tie.Start
+start c = c .before .before .before .before .before
+
 -- the fields that are there: the count, and so the source before it
-count-there : (c : tie.After-known-told) → let a = c .before .before .before .before .before .args in fieldAt 2 (now (a .s)) (a .st .at + targetCountAt) ≡ Number (c .before .count .given .0 .0)
+count-there : (c : tie.After-known-told) → let a = start c .args in fieldAt 2 (now (a .s)) (a .st .at + targetCountAt) ≡ Number (c .before .count .given .0 .0)
 count-there c = by (c .before .before .before .read .ensures) (c .before .count .given .1)
 
-source-there : (c : tie.After-number-at) → let a = c .before .before .before .before .before .before .args in fieldAt 2 (now (a .s)) (a .st .at) ≡ Number (c .number-at .result)
+source-there : (c : tie.After-number-at) → let a = start (c .before) .args in fieldAt 2 (now (a .s)) (a .st .at) ≡ Number (c .number-at .result)
 source-there c = fits-there 2 _ _ (omega (arith, value-inside 2 _ _ (count-there (c .before)))) (c .number-at .ensures)
 
 add-count-at : tie.Need-add-count-at

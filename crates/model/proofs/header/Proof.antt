@@ -16,17 +16,24 @@ use Rattle.model.specs.Answers.{counted}
 use Rattle.model.proofs.header.Statement.{statement}
 use Rattle.model.proofs.header.Tie as tie
 
+-- the places that the facts below look back to
+abbrev start-of-known-told2 : tie.After-known-told2 → tie.Start
+start-of-known-told2 c = c .before .before .before .before .before .before .before .before
+
+abbrev start : tie.After-known-told4 → tie.Start
+start c = start-of-known-told2 (c .before .before .before .before)
+
 -- the start is good, and each count
 opened : (c : tie.After-enum-told) → readStart (now (c .before .before .before .before .args .s)) modelHead ≡ good tt
 opened c = opened-good _ (by (c .before .before .«open» .ensures) (c .enum-told .given .1))
 
-n-read : (c : tie.After-known-told2) → readCount (now (c .before .before .before .before .before .before .before .before .args .s)) statesCount ≡ good (c .before .n .given .0 .0)
+n-read : (c : tie.After-known-told2) → readCount (now (start-of-known-told2 c .args .s)) statesCount ≡ good (c .before .n .given .0 .0)
 n-read c = counted-good _ (by (c .before .before .before .read-count .ensures) (c .before .n .given .1))
 
-p-read : (c : tie.After-known-told4) → readCount (now (c .before .before .before .before .before .before .before .before .before .before .before .before .args .s)) propositionsCount ≡ good (c .before .p .given .0 .0)
+p-read : (c : tie.After-known-told4) → readCount (now (start c .args .s)) propositionsCount ≡ good (c .before .p .given .0 .0)
 p-read c = counted-good _ (by (c .before .before .before .read-count2 .ensures) (c .before .p .given .1))
 
-t-read : (c : tie.After-known-told6) → readCount (now (c .before .before .before .before .before .before .before .before .before .before .before .before .before .before .before .before .args .s)) transitionsCount ≡ good (c .before .t .given .0 .0)
+t-read : (c : tie.After-known-told6) → readCount (now (start (c .before .before .before .before) .args .s)) transitionsCount ≡ good (c .before .t .given .0 .0)
 t-read c = counted-good _ (by (c .before .before .before .read-count3 .ensures) (c .before .t .given .1))
 
 open-requires : tie.Need-open-requires

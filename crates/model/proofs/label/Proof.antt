@@ -14,8 +14,12 @@ use Rattle.model.specs.Message.{readLabel}
 use Rattle.model.proofs.label.Statement.{statement}
 use Rattle.model.proofs.label.Tie as tie
 
+-- the places that the facts below look back to
+abbrev start : tie.After-known-told → tie.Start
+start c = c .before .before .before .before .before
+
 -- the field is there
-label-there : (c : tie.After-known-told) → let a = c .before .before .before .before .before .args in fieldAt 4 (now (a .s)) (a .st .at) ≡ Number (c .before .label .given .0 .0)
+label-there : (c : tie.After-known-told) → let a = start c .args in fieldAt 4 (now (a .s)) (a .st .at) ≡ Number (c .before .label .given .0 .0)
 label-there c = by (c .before .before .before .read .ensures) (c .before .label .given .1)
 
 read-requires : tie.Need-read-requires
@@ -38,7 +42,7 @@ returns-2 : tie.Need-returns-2
 unfolding readLabel step
 returns-2 c =
     let l = c .before in
-    let p = l .before .before .before .before .before .args .p in
+    let p = start l .args .p in
     simp (reading, label-there l, le-ltb (l .before .label .given .0 .0) (2 ^ p) (omega arith))
 
 add-end : tie.Need-add-end
@@ -48,7 +52,7 @@ returns-3 : tie.Need-returns-3
 unfolding readLabel step
 returns-3 c =
     let l = c .before in
-    let p = l .before .before .before .before .before .args .p in
+    let p = start l .args .p in
     simp (reading, label-there l, lt-ltb (l .before .label .given .0 .0) (2 ^ p) (omega arith))
 
 pub label-spec : {M : Type 1} → statement M

@@ -12,19 +12,32 @@ use Rattle.report.proofs.Lines.{refused-fits}
 use Rattle.report.proofs.answer.Statement.{statement}
 use Rattle.report.proofs.answer.Tie as tie
 
+-- the places that the facts below look back to
+abbrev after-shared-slice-known2 : tie.After-settle → tie.After-shared-slice-known2
+after-shared-slice-known2 c = c .before .before .before .before .before .before .before
+
+abbrev after-nodes : tie.After-settle → tie.After-nodes
+after-nodes c = c .before .before .before
+
+abbrev after-settle : tie.After-slice-known5 → tie.After-settle
+after-settle c = c .before .before .before .before
+
+abbrev after-settle-of-number : tie.After-number → tie.After-settle
+after-settle-of-number c = after-settle (c .before .before .before .before .before)
+
 abbrev start : tie.After-settle → tie.Start
 start c = c .before .before .before .before .before .before .before .before .before
 
 -- both messages are bytes
 model-bytes : (c : tie.After-settle) → Bytes (now (start c .args .m))
-model-bytes c i = omega (arith, c .before .before .before .before .before .before .before .before .shared-slice-known .given i)
+model-bytes c i = omega (arith, after-shared-slice-known2 c .before .shared-slice-known .given i)
 
 formula-bytes : (c : tie.After-settle) → Bytes (now (start c .args .f))
-formula-bytes c i = omega (arith, c .before .before .before .before .before .before .before .shared-slice-known2 .given i)
+formula-bytes c i = omega (arith, after-shared-slice-known2 c .shared-slice-known2 .given i)
 
 -- the budget is the number of nodes of what is read
-n-rounds : (c : tie.After-settle) → c .before .before .before .nodes .result ≡ nodesOf (readQuestion (now (start c .args .m)) (now (start c .args .f)))
-n-rounds c = c .before .before .before .nodes .ensures
+n-rounds : (c : tie.After-settle) → after-nodes c .nodes .result ≡ nodesOf (readQuestion (now (start c .args .m)) (now (start c .args .f)))
+n-rounds c = after-nodes c .nodes .ensures
 
 nodes-requires : tie.Need-nodes-requires
 nodes-requires c κs = search needs
@@ -57,7 +70,7 @@ enum-told : tie.Need-enum-told
 enum-told c = search needs
 
 put-refused-requires : tie.Need-put-refused-requires
-put-refused-requires c κs = refused-fits _ (start (c .before .before .before .before .before .before .before) .pre)
+put-refused-requires c κs = refused-fits _ (start (after-settle (c .before .before .before)) .pre)
 
 enum-known-e : tie.Need-enum-known-e
 enum-known-e c = search needs
@@ -66,7 +79,7 @@ number-requires : tie.Need-number-requires
 number-requires c κs = search needs
 
 put-refused-requires-2 : tie.Need-put-refused-requires-2
-put-refused-requires-2 c κs = refused-fits _ (start (c .before .before .before .before .before .before .before .before .before) .pre)
+put-refused-requires-2 c κs = refused-fits _ (start (after-settle-of-number c) .pre)
 
 same-length : tie.Need-same-length
 same-length c = search needs
@@ -98,7 +111,7 @@ same-length-6 c = search needs
 returns-2 : tie.Need-returns-2
 returns-2 c =
     let told = c .before .before .before .before in
-    let q = told .before .before .before .before .before .before in
+    let q = after-settle (told .before .before) in
     let is = output-spent _ _ _ _ (n-rounds q) (by (told .enum-told .given .1) (q .settle .ensures .0)) in
     (said (c .before .before .put-refused .ensures) is refl refl, (q .settle .ensures .1 .0, q .settle .ensures .1 .1 .0 ∙ left-is _ _ _ _ (n-rounds q)))
 
@@ -116,7 +129,7 @@ returns-3 c =
     let put = c .before .before in
     let number = put .before in
     let known = number .before .before in
-    let q = known .before .before .before .before .before .before .before in
+    let q = after-settle (known .before .before .before) in
     let is = output-refused _ _ _ _ (n-rounds q) (by (known .before .e .given .1) (q .settle .ensures .0)) in
     (said (rw (number .number .ensures) at (put .put-refused2 .ensures)) is refl refl, (q .settle .ensures .1 .0, q .settle .ensures .1 .1 .0 ∙ left-is _ _ _ _ (n-rounds q)))
 

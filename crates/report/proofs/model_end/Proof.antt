@@ -15,11 +15,15 @@ use Rattle.report.specs.Output.{readCut}
 use Rattle.report.proofs.model_end.Statement.{statement}
 use Rattle.report.proofs.model_end.Tie as tie
 
+-- the places that the facts below look back to
+abbrev else1 : tie.After-known-told → tie.Else1
+else1 c = c .before .before .before .before
+
 -- the input is not too long, and its length field is there
 short : (c : tie.Else1) → leb (length (now (c .before .before .args .input))) 8192 ≡ true
 short c = le-leb _ _ (c .if1 .left)
 
-total-there : (c : tie.After-known-told) → fieldAt 4 (now (c .before .before .before .before .before .before .args .input)) 0 ≡ Number (c .before .total .given .0 .0)
+total-there : (c : tie.After-known-told) → fieldAt 4 (now (else1 c .before .before .args .input)) 0 ≡ Number (c .before .total .given .0 .0)
 total-there c = by (c .before .before .before .read .ensures) (c .before .total .given .1)
 
 returns : tie.Need-returns
@@ -44,14 +48,14 @@ cast-if2 c = search needs
 
 returns-3 : tie.Need-returns-3
 unfolding readCut cutOf
-returns-3 c = simp (reading, short (c .before .before .before .before .before), total-there (c .before), lt-leb _ _ (c .if2 .taken))
+returns-3 c = simp (reading, short (else1 (c .before)), total-there (c .before), lt-leb _ _ (c .if2 .taken))
 
 cast-t3 : tie.Need-cast-t3
 cast-t3 c = search needs
 
 returns-4 : tie.Need-returns-4
 unfolding readCut cutOf
-returns-4 c = simp (reading, short (c .before .before .before .before .before), total-there (c .before), le-leb _ _ (c .if2 .left))
+returns-4 c = simp (reading, short (else1 (c .before)), total-there (c .before), le-leb _ _ (c .if2 .left))
 
 pub model-end-spec : {M : Type 1} → statement M
 model-end-spec =

@@ -7,6 +7,10 @@ use Rattle.report.proofs.Lines.{word-fits}
 use Rattle.report.proofs.put_line.Statement.{statement}
 use Rattle.report.proofs.put_line.Tie as tie
 
+-- the places that the facts below look back to
+abbrev after-put-number : tie.After-put-word → tie.After-put-number
+after-put-number c = c .before .before .before .before .before
+
 put-number-requires : tie.Need-put-number-requires
 put-number-requires c κs = let s = c .before .before .before in word-fits (now (s .args .word)) (s .args .n) (s .args .at) (s .pre)
 
@@ -24,7 +28,7 @@ same-length c = search needs
 returns : tie.Need-returns
 returns c =
     let end = c .before .before in
-    end .before .before .before .before .before .put-number .ensures then end .put-word .ensures
+    after-put-number end .put-number .ensures then end .put-word .ensures
 
 pub put-line-spec : {M : Type 1} → statement M
 put-line-spec = tie.close (tie.spec put-number-requires slice-aggregate-put-word put-word-requires same-length returns)

@@ -14,6 +14,10 @@ use Rattle.report.proofs.Texts.{ended-fit}
 use Rattle.report.proofs.put_settled.Statement.{statement}
 use Rattle.report.proofs.put_settled.Tie as tie
 
+-- the places that the facts below look back to
+abbrev after-put-text : tie.After-put-word → tie.After-put-text
+after-put-text c = c .before .before .before .before .before
+
 -- the parts fit
 fit : (c : tie.After-shared-slice-known) → let a = c .before .args in let t = textIn (readFormula (a .p) (now (a .f))) in let size = length (now (a .out)) in
     (0 + length (t ++ (10 ∷ [])) ≤ size) × (0 + length (line t ++ roundsLine (a .count)) ≤ size)
@@ -37,14 +41,14 @@ put-word-requires c κs =
 put-rounds-requires : tie.Need-put-rounds-requires
 put-rounds-requires c κs =
     let word = c .before .before .before in
-    let put = word .before .before .before .before .before in
+    let put = after-put-text word in
     fits (put .put-text .ensures then word .put-word .ensures) _ (fit (put .before .before .before .before) .1)
 
 put-states-requires : tie.Need-put-states-requires
 put-states-requires c κs =
     let count = c .before .before .before in
     let word = count .before .before .before .before in
-    let put = word .before .before .before .before .before in
+    let put = after-put-text word in
     let begin = put .before .before .before .before in
     (begin .before .pre .0 .0, fits (put .put-text .ensures then word .put-word .ensures then count .put-rounds .ensures) _ (fit begin .2))
 
@@ -57,7 +61,7 @@ returns c =
     let states = c .before .before in
     let count = states .before .before .before .before in
     let word = count .before .before .before .before in
-    let put = word .before .before .before .before .before in
+    let put = after-put-text word in
     put .put-text .ensures then word .put-word .ensures then count .put-rounds .ensures then states .put-states .ensures
 
 pub put-settled-spec : {M : Type 1} → statement M

@@ -22,6 +22,10 @@ Inv-loop out₀ at values first n next₀ a₀ out next a = SpanLeft (lineOf val
 abbrev μ-loop : tie.MeasureT-loop
 μ-loop out₀ at values first n next₀ a₀ out next a = n - a
 
+-- the places that the facts below look back to
+abbrev start : tie.After-shared-slice-known2 Inv-loop μ-loop → tie.Start Inv-loop μ-loop
+start c = c .before .before .before .before .before
+
 loop-holds : tie.Need-loop-holds Inv-loop μ-loop
 unfolding statesLines
 loop-holds c = span-begun _ _ _ _ refl (c .before .before .pre .1)
@@ -36,7 +40,7 @@ mul-yes : tie.Need-mul-yes Inv-loop μ-loop
 mul-yes c = search needs
 
 shared-slice-read-yes : tie.Need-shared-slice-read-yes Inv-loop μ-loop
-shared-slice-read-yes c = omega (arith, c .before .before .before .before .before .pre .0)
+shared-slice-read-yes c = omega (arith, start c .pre .0)
 
 put-state-requires : tie.Need-put-state-requires Inv-loop μ-loop
 put-state-requires c κs =

@@ -11,6 +11,19 @@ use Rattle.report.proofs.Reported.{end-inside, end-reads, end-refused, 
 use Rattle.report.proofs.report.Statement.{statement}
 use Rattle.report.proofs.report.Tie as tie
 
+-- the places that the facts below look back to
+abbrev start : tie.After-model-end → tie.Start
+start c = c .before .before .before .before .before .before
+
+abbrev else1 : tie.After-number → tie.Else1
+else1 c = c .before .before .before .before .before .before
+
+abbrev after-known-told2 : tie.After-answer → tie.After-known-told2
+after-known-told2 c = c .before .before .before .before .before .before
+
+abbrev after-answer : tie.After-slice-known7 → tie.After-answer
+after-answer c = c .before .before .before .before .before .before
+
 returns : tie.Need-returns
 returns c = none-reported _ _ _ _ (c .if1 .taken)
 
@@ -24,17 +37,17 @@ number-requires : tie.Need-number-requires
 number-requires c κs = search needs
 
 put-refused-requires : tie.Need-put-refused-requires
-put-refused-requires c κs = refused-fits _ (c .before .before .before .before .before .before .if1 .left)
+put-refused-requires c κs = refused-fits _ (else1 c .if1 .left)
 
 enum-known-k : tie.Need-enum-known-k
 enum-known-k c = search needs
 
 -- the model ends inside the input
-inside : (c : tie.After-known-told2) → c .before .k .given .0 .0 ≤ length (now (c .before .before .before .before .before .before .before .before .before .args .input))
+inside : (c : tie.After-known-told2) → c .before .k .given .0 .0 ≤ length (now (start (c .before .before .before) .args .input))
 inside c = end-inside _ (by (c .before .k .given .1) (c .before .before .before .model-end .ensures))
 
 slice-aggregate-answer : tie.Need-slice-aggregate-answer
-slice-aggregate-answer c = sym (length-take-le _ (now (c .before .before .before .before .before .before .before .before .before .before .args .input)) (inside (c .before)))
+slice-aggregate-answer c = sym (length-take-le _ (now (start (c .before .before .before .before) .args .input)) (inside (c .before)))
 
 sub-answer : tie.Need-sub-answer
 sub-answer c = inside (c .before)
@@ -71,10 +84,10 @@ same-length-4 c = search needs
 
 returns-3 : tie.Need-returns-3
 returns-3 c =
-    let put = c .before .before .before .before .before .before in
-    let known = put .before .before .before .before .before .before in
+    let put = after-answer c in
+    let known = after-known-told2 put in
     let end = known .before .before .before in
-    let s = end .before .before .before .before .before .before in
+    let s = start end in
     let is = end-reads (now (s .args .input)) _ _ (by (known .before .k .given .1) (end .model-end .ensures)) in
     as-reported _ _ _ _ _ is (end .before .if1 .left) (put .answer .ensures .0) (put .answer .ensures .1 .0) (put .answer .ensures .1 .1)
 

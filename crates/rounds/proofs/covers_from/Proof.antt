@@ -6,6 +6,7 @@ use native.Mathlib.Omega.{arith}
 use borrow.Author.Needs.{needs}
 use Rattle.wire.specs.Bytes.{number}
 use Rattle.wire.specs.Layout.{end}
+use Rattle.graph.specs.Format.{coverWidth}
 use Rattle.graph.specs.Layouts.{coverLayout, CoverOk}
 use Rattle.wire.proofs.Stride.{end-wide}
 use Rattle.wire.proofs.Parts.{sound-at}
@@ -13,7 +14,7 @@ use Rattle.rounds.proofs.covers_from.Statement.{statement}
 use Rattle.rounds.proofs.covers_from.Tie as tie
 
 -- the first is sound
-here : (c : tie.Then1) → let a = c .before .before .args in CoverOk (now (a .s)) (a .n) (a .middle + a .a * 8)
+here : (c : tie.Then1) → let a = c .before .before .args in CoverOk (now (a .s)) (a .n) (a .middle + a .a * coverWidth)
 here c =
     let a = c .before .before in
     let L = coverLayout (now (a .args .s)) (a .args .n) in

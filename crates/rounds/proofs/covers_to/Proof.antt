@@ -6,6 +6,7 @@ use native.Mathlib.Omega.{arith}
 use borrow.Author.Needs.{needs}
 use Rattle.wire.specs.Bytes.{number}
 use Rattle.wire.specs.Layout.{end}
+use Rattle.graph.specs.Format.{coverWidth}
 use Rattle.graph.specs.Layouts.{coverLayout, CoverOk}
 use Rattle.wire.proofs.Stride.{end-wide}
 use Rattle.wire.proofs.Parts.{sound-at}
@@ -16,7 +17,7 @@ returns : tie.Need-returns
 returns c = (omega arith, λ j low high. absurd (omega (arith, c .if1 .taken)))
 
 -- the last is sound
-here : (c : tie.Else1) → let a = c .before .before .args in CoverOk (now (a .s)) (a .n) (a .middle + (a .z - 1) * 8)
+here : (c : tie.Else1) → let a = c .before .before .args in CoverOk (now (a .s)) (a .n) (a .middle + (a .z - 1) * coverWidth)
 here c =
     let a = c .before .before in
     let L = coverLayout (now (a .args .s)) (a .args .n) in

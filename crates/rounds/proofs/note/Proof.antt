@@ -9,6 +9,7 @@ use Rattle.wire.specs.Bytes.{number}
 use Rattle.wire.specs.Layout.{items, Sound}
 use Rattle.wire.proofs.Layouts.{items-more, sound-more}
 use Rattle.rules.specs.Graph.{Target}
+use Rattle.graph.specs.Format.{nodeAt}
 use Rattle.graph.specs.Layouts.{targetLayout, TargetOk}
 use Rattle.rounds.specs.Index.{slotOf, Noted}
 use Rattle.rounds.proofs.Noting.{noted-more, noted-end, noted-again, noted-first}
@@ -46,7 +47,7 @@ slot-requires c κs = tt
 
 -- the slot is that of the next target
 slot-named : (c : tie.After-slot Inv-loop μ-loop) → let a = c .before .before .before .before .before .args in
-    c .slot .result ≡ slotOf (a .n) (number 2 (now (a .s)) (c .before .before .before .loop .q + 4))
+    c .slot .result ≡ slotOf (a .n) (number 2 (now (a .s)) (c .before .before .before .loop .q + nodeAt))
 slot-named c = c .slot .ensures .0 ∙ ap (slotOf (c .before .before .before .before .before .args .n)) (c .before .number-at .ensures)
 
 add-q-2 : tie.Need-add-q-2 Inv-loop μ-loop

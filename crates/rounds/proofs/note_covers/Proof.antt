@@ -8,6 +8,7 @@ use borrow.Author.Needs.{needs}
 use lib.ListN.{length}
 use Rattle.wire.specs.Bytes.{number}
 use Rattle.wire.specs.Layout.{Sound}
+use Rattle.graph.specs.Format.{coverTargetAt, coverWidth}
 use Rattle.graph.specs.Layouts.{coverLayout, CoverOk}
 use Rattle.rounds.specs.Index.{slotOf, NotedCovers}
 use Rattle.rounds.proofs.Noting.{covers-more}
@@ -17,7 +18,7 @@ use Rattle.rounds.proofs.note_covers.Statement.{statement}
 use Rattle.rounds.proofs.note_covers.Tie as tie
 
 abbrev Inv-loop : tie.InvT-loop
-Inv-loop s n c middle first₀ last₀ j₀ p₀ first last j p = (j ≤ c) × (p ≡ middle + j * 8) × NotedCovers s n j middle first last
+Inv-loop s n c middle first₀ last₀ j₀ p₀ first last j p = (j ≤ c) × (p ≡ middle + j * coverWidth) × NotedCovers s n j middle first last
 
 abbrev μ-loop : tie.MeasureT-loop
 μ-loop s n c middle first₀ last₀ j₀ p₀ first last j p = c - j
@@ -26,7 +27,7 @@ loop-holds : tie.Need-loop-holds Inv-loop μ-loop
 loop-holds c = (omega arith, omega arith, c .before .pre .1)
 
 -- the next cover edge fits
-here : (c : tie.In-loop Inv-loop μ-loop) → c .before .loop .p + 8 ≤ length (now (c .before .before .before .args .s))
+here : (c : tie.In-loop Inv-loop μ-loop) → c .before .loop .p + coverWidth ≤ length (now (c .before .before .before .args .s))
 here c =
     let a = c .before .before .before in
     let l = c .before .loop in
@@ -82,7 +83,7 @@ loop-again c =
     let a = t .before .before .before .args in
     let l = t .before .loop in
     let u = c .before .before in
-    let at : l .p + 6 ≡ a .middle + l .j * 8 + 6 = omega (arith, l .inv .1) in
+    let at : l .p + coverTargetAt ≡ a .middle + l .j * coverWidth + coverTargetAt = omega (arith, l .inv .1) in
     let is = u .slot .ensures .0 ∙ ap (slotOf (a .n)) (u .before .number-at .ensures ∙ ap (number 2 (now (a .s))) at) in (
       omega (arith, t .loop-test .taken),
       omega (arith, l .inv .1),

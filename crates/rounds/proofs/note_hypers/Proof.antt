@@ -8,6 +8,7 @@ use borrow.Author.Needs.{needs}
 use Rattle.wire.specs.Bytes.{number}
 use Rattle.wire.specs.Layout.{items, end, Sound}
 use Rattle.wire.proofs.Layouts.{end-none}
+use Rattle.graph.specs.Format.{graphHeader, targetCountAt, hyperWidth, targetWidth}
 use Rattle.graph.specs.Layouts.{targetLayout, hyperLayout, HyperOk}
 use Rattle.rounds.specs.Index.{Noted}
 use Rattle.wire.proofs.Parts.{end-next, sound-at}
@@ -17,7 +18,7 @@ use Rattle.rounds.proofs.note_hypers.Tie as tie
 
 abbrev Inv-loop : tie.InvT-loop
 Inv-loop s n h first₀ last₀ pos₀ j₀ p₀ before₀ stride₀ first last pos j p before stride =
-    (j ≤ h) × (p ≡ end (hyperLayout s n) j 14) × Noted s n j [] first last pos × (stride ≡ 4 + before * 6)
+    (j ≤ h) × (p ≡ end (hyperLayout s n) j graphHeader) × Noted s n j [] first last pos × (stride ≡ hyperWidth + before * targetWidth)
 
 abbrev μ-loop : tie.MeasureT-loop
 μ-loop s n h first₀ last₀ pos₀ j₀ p₀ before₀ stride₀ first last pos j p before stride = h - j
@@ -39,27 +40,27 @@ here c =
     subst (HyperOk (now (a .s)) (a .n)) (sym (c .before .loop .inv .1)) (sound-at (hyperLayout (now (a .s)) (a .n)) (c .before .loop .j) (c .loop-test .taken) (start c .pre .0))
 
 -- what is to be noted of it, with a count that is its own
-opened : (c : tie.In-loop Inv-loop μ-loop) (k : ℕ) → k ≡ number 2 (now (start c .args .s)) (c .before .loop .p + 2) → let a = start c .args in let l = c .before .loop in
-    Sound (targetLayout (now (a .s)) (a .n)) k (l .p + 4) × Noted (now (a .s)) (a .n) (l .j + 1) (items (targetLayout (now (a .s)) (a .n)) k (l .p + 4)) (l .first) (l .last) (l .pos)
+opened : (c : tie.In-loop Inv-loop μ-loop) (k : ℕ) → k ≡ number 2 (now (start c .args .s)) (c .before .loop .p + targetCountAt) → let a = start c .args in let l = c .before .loop in
+    Sound (targetLayout (now (a .s)) (a .n)) k (l .p + hyperWidth) × Noted (now (a .s)) (a .n) (l .j + 1) (items (targetLayout (now (a .s)) (a .n)) k (l .p + hyperWidth)) (l .first) (l .last) (l .pos)
 opened c k e =
     let a = start c .args in
     let l = c .before .loop in
     let s = now (a .s) in
-    let counted = ap (λ (k : ℕ). items (targetLayout s (a .n)) k (l .p + 4)) (sym e) in
+    let counted = ap (λ (k : ℕ). items (targetLayout s (a .n)) k (l .p + hyperWidth)) (sym e) in
     (rw e (here c .sound), noted-open s (a .n) (l .inv .2) _ (ap (λ (q : ℕ). hyperLayout s (a .n) .item q .targets) (sym (l .inv .1)) ∙ counted))
 
 -- where the next one stands
 next : (c : tie.In-loop Inv-loop μ-loop) {stride : ℕ} → let a = start c .args in let l = c .before .loop in
-    stride ≡ 4 + number 2 (now (a .s)) (l .p + 2) * 6 → l .p + stride ≡ end (hyperLayout (now (a .s)) (a .n)) (l .j + 1) 14
+    stride ≡ hyperWidth + number 2 (now (a .s)) (l .p + targetCountAt) * targetWidth → l .p + stride ≡ end (hyperLayout (now (a .s)) (a .n)) (l .j + 1) graphHeader
 next c {stride} e =
     let a = start c .args in
     let l = c .before .loop in
     let L = hyperLayout (now (a .s)) (a .n) in
-    let there : l .p + stride ≡ l .p + 4 + number 2 (now (a .s)) (l .p + 2) * 6 = omega arith in
-    there ∙ ap (L .next) (l .inv .1) ∙ sym (end-next L (l .j) 14)
+    let there : l .p + stride ≡ l .p + hyperWidth + number 2 (now (a .s)) (l .p + targetCountAt) * targetWidth = omega arith in
+    there ∙ ap (L .next) (l .inv .1) ∙ sym (end-next L (l .j) graphHeader)
 
 loop-holds : tie.Need-loop-holds Inv-loop μ-loop
-loop-holds c = (omega arith, sym (end-none _ 0 14 refl), c .before .pre .1, refl)
+loop-holds c = (omega arith, sym (end-none _ 0 graphHeader refl), c .before .pre .1, refl)
 
 add-number-at : tie.Need-add-number-at Inv-loop μ-loop
 add-number-at c = omega (arith, here c .inside)
@@ -75,7 +76,7 @@ note-requires c κs =
     (o .0, (here t .inside, (t .before .loop .inv .1, (omega (arith, start t .fits .h), o .1))))
 
 -- the count is that of the hyperedge before
-abbrev counted : (c : tie.After-note Inv-loop μ-loop) → let t = same c .before in t .before .loop .before ≡ number 2 (now (start t .args .s)) (t .before .loop .p + 2)
+abbrev counted : (c : tie.After-note Inv-loop μ-loop) → let t = same c .before in t .before .loop .before ≡ number 2 (now (start t .args .s)) (t .before .loop .p + targetCountAt)
 counted c = sym (c .before .before .before .before .if1 .taken) ∙ same c .number-at .ensures
 
 add-p : tie.Need-add-p Inv-loop μ-loop
@@ -91,7 +92,7 @@ loop-again : tie.Need-loop-again Inv-loop μ-loop
 loop-again c =
     let t = same c .before in
     let l = t .before .loop in
-    (omega arith, next t (l .inv .3 ∙ ap (λ (k : ℕ). 4 + k * 6) (counted c)), c .note .ensures, l .inv .3)
+    (omega arith, next t (l .inv .3 ∙ ap (λ (k : ℕ). hyperWidth + k * targetWidth) (counted c)), c .note .ensures, l .inv .3)
 
 note-requires-2 : tie.Need-note-requires-2 Inv-loop μ-loop
 note-requires-2 c κs =
@@ -119,7 +120,7 @@ loop-less-2 : tie.Need-loop-less-2 Inv-loop μ-loop
 loop-less-2 c = omega arith
 
 loop-again-2 : tie.Need-loop-again-2 Inv-loop μ-loop
-loop-again-2 c = (omega arith, next (other c .before) (ap (λ (k : ℕ). 4 + k * 6) (other c .number-at .ensures)), c .note2 .ensures, refl)
+loop-again-2 c = (omega arith, next (other c .before) (ap (λ (k : ℕ). hyperWidth + k * targetWidth) (other c .number-at .ensures)), c .note2 .ensures, refl)
 
 returns : tie.Need-returns Inv-loop μ-loop
 returns c =

@@ -8,11 +8,18 @@ use Rattle.rounds.proofs.Begin.{Begin, begin, shown-refused, shown-room
 use Rattle.rounds.proofs.solve.Statement.{statement}
 use Rattle.rounds.proofs.solve.Tie as tie
 
+-- the places that the facts below look back to
+abbrev start : tie.After-known-told2 → tie.Start
+start c = c .before .before .before .before .before .before
+
+abbrev after-known-told2 : tie.After-slice-known2 → tie.After-known-told2
+after-known-told2 c = c .before .before .before .before .before
+
 -- the message is bytes, and is accepted
 bytes : (c : tie.After-check) → Bytes (now (c .before .before .before .args .message))
 bytes c i = omega (arith, c .before .before .shared-slice-known .given i)
 
-begun : (c : tie.After-known-told2) → let k = c .before .nodes .given .0 in Begin (now (c .before .before .before .before .before .before .args .message)) (k .0) (k .1 .0) (k .1 .1 .0)
+begun : (c : tie.After-known-told2) → let k = c .before .nodes .given .0 in Begin (now (start c .args .message)) (k .0) (k .1 .0) (k .1 .1 .0)
 begun c = begin _ (bytes (c .before .before .before)) (by (c .before .before .before .check .ensures) (c .before .nodes .given .1))
 
 check-requires : tie.Need-check-requires
@@ -45,7 +52,7 @@ same-length c = search needs
 returns-3 : tie.Need-returns-3
 returns-3 c =
     let r = c .before .before in
-    shown-ran _ _ _ (bytes (c .before .before .before .before .before .before .before .before)) (begun (c .before .before .before .before .before)) _ _ (c .before .before .before .before .if1 .left) (r .run .ensures .0) (r .run .ensures .1)
+    shown-ran _ _ _ (bytes (after-known-told2 c .before .before .before)) (begun (after-known-told2 c)) _ _ (c .before .before .before .before .if1 .left) (r .run .ensures .0) (r .run .ensures .1)
 
 pub solve-spec : {M : Type 1} → statement M
 solve-spec =

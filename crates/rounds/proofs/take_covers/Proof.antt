@@ -14,6 +14,7 @@ use Rattle.wire.specs.Bytes.{number}
 use Rattle.wire.specs.Layout.{items, Sound}
 use Rattle.wire.proofs.Layouts.{sound-more}
 use Rattle.value.specs.Coded.{boundOf}
+use Rattle.graph.specs.Format.{coverBoundAt, coverTargetAt}
 use Rattle.graph.specs.Layouts.{coverLayout, CoverOk}
 use Rattle.rounds.specs.Room.{held, half, Going}
 use Rattle.rounds.proofs.Room.{sides-from, sides-to, half-at}
@@ -54,18 +55,18 @@ asked : (c : tie.After-within Inv-loop μ-loop) →
     let a = c .before .before .before .before .before .before .before .before .before .before .args in
     let s = now (a .s) in
     let p = c .before .before .before .before .before .before .before .loop .p in
-    c .within .result ≡ meets (boundOf (number 4 s (p + 2))) (held (half (a .n) (a .from) (now (a .room))) (number 2 s (p + 6)))
+    c .within .result ≡ meets (boundOf (number 4 s (p + coverBoundAt))) (held (half (a .n) (a .from) (now (a .room))) (number 2 s (p + coverTargetAt)))
 asked c =
     let a = c .before .before .before .before .before .before .before .before .before .before .args in
     let s = now (a .s) in
     let l = c .before .before .before .before .before .before .before .loop in
-    let t = number 2 s (l .p + 6) in
+    let t = number 2 s (l .p + coverTargetAt) in
     let same : getD (l .room) (a .from + t) 0 ≡ getD (half (a .n) (a .from) (now (a .room))) t 0 =
     sym (half-at (a .n) (a .from) (l .room) t (here (c .before .before .before .before .before .before) .target-named)) ∙ ap (λ (xs : List ℕ). getD xs t 0) (l .inv .1 .this) in
     let bound = c .before .before .before .coded .ensures ∙ ap boundOf (c .before .before .before .before .number-at2 .ensures) in
     c .within .ensures
     ∙ ap₂ (λ (b : Bound) (v : ℕ). meets b (held (l .room) (a .from + v))) bound (c .before .before .number-at3 .ensures)
-    ∙ ap (λ (k : ℕ). meets (boundOf (number 4 s (l .p + 2))) (meaning k)) same
+    ∙ ap (λ (k : ℕ). meets (boundOf (number 4 s (l .p + coverBoundAt))) (meaning k)) same
 
 number-at-requires : tie.Need-number-at-requires Inv-loop μ-loop
 number-at-requires c κs = omega (arith, here c .inside)

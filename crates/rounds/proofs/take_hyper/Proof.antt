@@ -10,6 +10,7 @@ use Rattle.value.specs.Stored.{stored}
 use Rattle.value.proofs.Stored.{is-stored-le, least-min}
 use Rattle.wire.specs.Layout.{items}
 use Rattle.rules.specs.Rounds as rules
+use Rattle.graph.specs.Format.{hyperWidth}
 use Rattle.graph.specs.Layouts.{targetLayout}
 use Rattle.rounds.specs.Room.{held, half}
 use Rattle.rounds.proofs.Room.{sides-from, sides-to}
@@ -87,8 +88,8 @@ returns c =
     let from = a .args .from in
     let j = a .args .to + c .before .before .before .before .before .number-at .result in
     let part : from + n - from ≡ n = omega arith in
-    let worst : c .before .before .worst .result .0 ≡ stored (rules.worst (held (half n from b)) (items (targetLayout s n) _ (at + 4))) =
-    c .before .before .worst .ensures ∙ ap₂ (λ (m k : ℕ). stored (rules.worst (held (take m (drop from b))) (items (targetLayout s n) k (at + 4)))) part (a .pre .1 .0) in
+    let worst : c .before .before .worst .result .0 ≡ stored (rules.worst (held (half n from b)) (items (targetLayout s n) _ (at + hyperWidth))) =
+    c .before .before .worst .ensures ∙ ap₂ (λ (m k : ℕ). stored (rules.worst (held (take m (drop from b))) (items (targetLayout s n) k (at + hyperWidth)))) part (a .pre .1 .0) in
     let least = c .least .ensures ∙ least-min (getD b j 0) (c .before .before .worst .result .0) (omega (arith, c .before .slice-known2 .given j)) (is-stored-le _ worst) in
     rw (least, worst, c .before .before .before .before .before .number-at .ensures)
 

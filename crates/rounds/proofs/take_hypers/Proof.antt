@@ -6,6 +6,7 @@ use native.Mathlib.Omega.{arith}
 use lib.ListN.{length, getD}
 use borrow.Author.Needs.{needs}
 use Rattle.value.specs.Stored.{infinite}
+use Rattle.graph.specs.Format.{hyperWidth, targetWidth}
 use Rattle.graph.specs.Layouts.{HyperOk}
 use Rattle.rounds.proofs.Scan.{Left, left-all, left-here, left-turn, left-none}
 use Rattle.rounds.proofs.take_hypers.Statement.{statement}
@@ -13,7 +14,7 @@ use Rattle.rounds.proofs.take_hypers.Tie as tie
 
 abbrev Inv-loop : tie.InvT-loop
 Inv-loop s n from to k at room₀ i₀ p₀ last₀ stride₀ room i p last stride =
-    Left s n from to k at room₀ room i p × ((v : ℕ) → getD room v 0 ≤ infinite) × (stride ≡ 4 + last * 6)
+    Left s n from to k at room₀ room i p × ((v : ℕ) → getD room v 0 ≤ infinite) × (stride ≡ hyperWidth + last * targetWidth)
 
 abbrev μ-loop : tie.MeasureT-loop
 μ-loop s n from to k at room₀ i₀ p₀ last₀ stride₀ room i p last stride = i
@@ -63,7 +64,7 @@ loop-again c =
     let t = same c .before in
     let l = t .before .loop in
     let count = sym (c .before .before .before .before .if1 .taken) ∙ same c .number-at .ensures in (
-      left-turn (l .inv .0) (start t .pre .1 .0) (start t .pre .1 .1) (t .loop-test .taken) (c .before .before .take-hyper .ensures) (l .inv .2 ∙ ap (λ (k : ℕ). 4 + k * 6) count),
+      left-turn (l .inv .0) (start t .pre .1 .0) (start t .pre .1 .1) (t .loop-test .taken) (c .before .before .take-hyper .ensures) (l .inv .2 ∙ ap (λ (k : ℕ). hyperWidth + k * targetWidth) count),
       λ v. omega (arith, c .slice-known2 .given v),
       l .inv .2,
     )
@@ -91,7 +92,7 @@ loop-less-2 c = omega arith
 loop-again-2 : tie.Need-loop-again-2 Inv-loop μ-loop
 loop-again-2 c =
     let t = other c .before in (
-      left-turn (t .before .loop .inv .0) (start t .pre .1 .0) (start t .pre .1 .1) (t .loop-test .taken) (c .before .before .take-hyper2 .ensures) (ap (λ (k : ℕ). 4 + k * 6) (other c .number-at .ensures)),
+      left-turn (t .before .loop .inv .0) (start t .pre .1 .0) (start t .pre .1 .1) (t .loop-test .taken) (c .before .before .take-hyper2 .ensures) (ap (λ (k : ℕ). hyperWidth + k * targetWidth) (other c .number-at .ensures)),
       λ v. omega (arith, c .slice-known3 .given v),
       refl,
     )

@@ -5,6 +5,7 @@ use denote.Ref.{now}
 use native.Mathlib.Omega.{arith}
 use borrow.Author.Needs.{needs}
 use lib.ListN.{length}
+use Rattle.graph.specs.Format.{coverWidth}
 use Rattle.graph.specs.Layouts.{coverLayout, CoverOk}
 use Rattle.rounds.specs.Room.{forth}
 use Rattle.rounds.proofs.Next.{none-covered}
@@ -14,7 +15,7 @@ use Rattle.rounds.proofs.take_marked.Statement.{statement}
 use Rattle.rounds.proofs.take_marked.Tie as tie
 
 -- the first of them is sound
-here : (c : tie.Then1) → let a = c .before .before .before .args in a .middle + a .a * 8 + 8 ≤ length (now (a .s))
+here : (c : tie.Then1) → let a = c .before .before .before .args in a .middle + a .a * coverWidth + coverWidth ≤ length (now (a .s))
 here c =
     let a = c .before .before .before in
     let L = coverLayout (now (a .args .s)) (a .args .n) in
@@ -34,7 +35,7 @@ take-covers-requires : tie.Need-take-covers-requires
 take-covers-requires c κs =
     let a = c .before .before .before .before in
     let L = coverLayout (now (a .args .s)) (a .args .n) in (
-      part-sound L (a .args .c) (a .args .middle) (a .args .a) (a .args .z) (a .args .middle + a .args .a * 8) (a .pre .1 .0) (λ l. sym (end-wide L 8 (λ at. refl) (a .args .a) (a .args .middle))) (a .pre .0),
+      part-sound L (a .args .c) (a .args .middle) (a .args .a) (a .args .z) (a .args .middle + a .args .a * coverWidth) (a .pre .1 .0) (λ l. sym (end-wide L 8 (λ at. refl) (a .args .a) (a .args .middle))) (a .pre .0),
       (forth refl refl, a .pre .1 .1),
     )
 

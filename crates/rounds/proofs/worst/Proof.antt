@@ -8,6 +8,7 @@ use Rattle.value.proofs.Stored.{greatest-max, is-stored-le}
 use Rattle.wire.specs.Layout.{items, Sound}
 use Rattle.wire.proofs.Layouts.{sound-more}
 use Rattle.rules.specs.Rounds as rules
+use Rattle.graph.specs.Format.{targetWidth}
 use Rattle.graph.specs.Layouts.{targetLayout, TargetOk}
 use Rattle.rounds.specs.Room.{held}
 use Rattle.rounds.proofs.Scan.{worst-turn, worst-end}
@@ -29,7 +30,7 @@ returns c =
 
 -- the first target is sound, and so are those behind it
 first : (c : tie.Else1 Inv-loop μ-loop) → let a = c .before .before .before .args in
-    TargetOk (now (a .s)) (a .n) (a .at) × Sound (targetLayout (now (a .s)) (a .n)) (a .k - 1) (a .at + 6)
+    TargetOk (now (a .s)) (a .n) (a .at) × Sound (targetLayout (now (a .s)) (a .n)) (a .k - 1) (a .at + targetWidth)
 first c =
     let some : 0 < c .before .before .before .args .k = omega arith in sound-more _ some (c .before .before .before .pre .0)
 

@@ -45,6 +45,64 @@ module _ (t : ℕ) where
   abbrev claims : lts.Claims
   claims = (row.Asked, row.Learnt, put-word.Asked, put-word.Learnt, number.Asked, number.Learnt, below, f.Post, quantifier.Asked, quantifier.Learnt, put-bounded.Asked, put-bounded.Learnt)
 
+  -- the places that the facts below look back to
+  abbrev after-row2 : lts.After-put-number-arg4 claims given f.Post → lts.After-row2 claims given f.Post
+  after-row2 c = c .before .before .before
+
+  abbrev after-row : lts.After-put-number-arg2 claims given f.Post → lts.After-row claims given f.Post
+  after-row c = c .before .before .before
+
+  abbrev after-enum-told2 : lts.After-slice-known3 claims given f.Post → lts.After-enum-told2 claims given f.Post
+  after-enum-told2 c = c .before .before .before .before .before
+
+  abbrev after-enum-told : lts.After-slice-known2 claims given f.Post → lts.After-enum-told claims given f.Post
+  after-enum-told c = c .before .before .before .before .before
+
+  abbrev after-row4-of-put-row-arg3 : lts.After-put-row-arg3 claims given f.Post → lts.After-row4 claims given f.Post
+  after-row4-of-put-row-arg3 c = c .before .before .before .before .before .before .before
+
+  abbrev after-row3-of-put-row-arg : lts.After-put-row-arg claims given f.Post → lts.After-row3 claims given f.Post
+  after-row3-of-put-row-arg c = c .before .before .before .before .before .before .before
+
+  abbrev after-put-quantifier2 : lts.After-put-word-arg18 claims given f.Post → lts.After-put-quantifier2 claims given f.Post
+  after-put-quantifier2 c = c .before .before .before .before
+
+  abbrev after-put-quantifier : lts.After-put-bounded-arg2 claims given f.Post → lts.After-put-quantifier claims given f.Post
+  after-put-quantifier c = c .before .before .before .before
+
+  abbrev after-row3 : lts.After-put-word-arg8 claims given f.Post → lts.After-row3 claims given f.Post
+  after-row3 c = after-row3-of-put-row-arg (c .before .before .before .before .before)
+
+  abbrev after-row4 : lts.After-put-word-arg14 claims given f.Post → lts.After-row4 claims given f.Post
+  after-row4 c = after-row4-of-put-row-arg3 (c .before .before .before .before .before)
+
+  abbrev after-put-row3 : lts.After-put-word7 claims given f.Post → lts.After-put-row3 claims given f.Post
+  after-put-row3 c = c .before .before .before .before .before
+
+  abbrev after-put-row : lts.After-put-word4 claims given f.Post → lts.After-put-row claims given f.Post
+  after-put-row c = c .before .before .before .before .before
+
+  abbrev after-row6 : lts.After-put-bounded-arg4 claims given f.Post → lts.After-row6 claims given f.Post
+  after-row6 c = c .before .before .before .before .before .before .before .before .before .before .before .before .before .before .before .before
+
+  abbrev after-put-row6 : lts.After-put-bounded2 claims given f.Post → lts.After-put-row6 claims given f.Post
+  after-put-row6 c = c .before .before .before .before .before
+
+  abbrev after-row4-of-put-word-arg16 : lts.After-put-word-arg16 claims given f.Post → lts.After-row4 claims given f.Post
+  after-row4-of-put-word-arg16 c = after-row4 (c .before .before .before .before .before .before .before .before .before)
+
+  abbrev after-row3-of-put-word-arg10 : lts.After-put-word-arg10 claims given f.Post → lts.After-row3 claims given f.Post
+  after-row3-of-put-word-arg10 c = after-row3 (c .before .before .before .before .before .before .before .before .before)
+
+  abbrev after-put-row4 : lts.After-put-word8 claims given f.Post → lts.After-put-row4 claims given f.Post
+  after-put-row4 c = c .before .before .before .before .before
+
+  abbrev after-put-row2 : lts.After-put-word5 claims given f.Post → lts.After-put-row2 claims given f.Post
+  after-put-row2 c = c .before .before .before .before .before
+
+  abbrev after-put-row7 : lts.After-put-word10 claims given f.Post → lts.After-put-row7 claims given f.Post
+  after-put-row7 c = c .before .before .before .before .before
+
   -- what is known once the row has been read
   module _ (c : lts.After-row-at claims given f.Post) {x : Row} (e : c .row-at .result ≡ x) where
     abbrev s : List ℕ
@@ -138,7 +196,7 @@ module _ (t : ℕ) where
   slice-aggregate-put-number c = search needs
 
   put-number-requires : lts.Need-put-number-requires claims given f.Post
-  put-number-requires c κs = omega (arith, long (c .before .before .before .before .before) (c .before .before .before .row .given .1))
+  put-number-requires c κs = omega (arith, long (after-row c .before .before) (c .before .before .before .row .given .1))
 
   enum-known-row-2 : lts.Need-enum-known-row-2 claims given f.Post
   enum-known-row-2 c = search needs
@@ -147,7 +205,7 @@ module _ (t : ℕ) where
   slice-aggregate-put-number-2 c = search needs
 
   put-number-requires-2 : lts.Need-put-number-requires-2 claims given f.Post
-  put-number-requires-2 c κs = omega (arith, long (c .before .before .before .before .before) (c .before .before .before .row2 .given .1))
+  put-number-requires-2 c κs = omega (arith, long (after-row2 c .before .before) (c .before .before .before .row2 .given .1))
 
   enum-known-row-3 : lts.Need-enum-known-row-3 claims given f.Post
   enum-known-row-3 c = search needs
@@ -160,25 +218,25 @@ module _ (t : ℕ) where
 
   put-row-requires : lts.Need-put-row-requires claims given f.Post
   put-row-requires c κs =
-      let a = and-asks (c .before .before .before .before .before .before .before) _ first in
-      (a .0, (a .1, omega (arith, and-long (c .before .before .before .before .before .before .before))))
+      let a = and-asks (after-row3-of-put-row-arg c) _ first in
+      (a .0, (a .1, omega (arith, and-long (after-row3-of-put-row-arg c))))
 
   slice-aggregate-put-word-4 : lts.Need-slice-aggregate-put-word-4 claims given f.Post
   slice-aggregate-put-word-4 c = search needs
 
   put-word-requires-4 : lts.Need-put-word-requires-4 claims given f.Post
-  put-word-requires-4 c κs = omega (arith, and-long (c .before .before .before .before .before .before .before .before .before .before .before .before))
+  put-word-requires-4 c κs = omega (arith, and-long (after-row3 c))
 
   put-row-requires-2 : lts.Need-put-row-requires-2 claims given f.Post
   put-row-requires-2 c κs =
-      let a = and-asks (c .before .before .before .before .before .before .before .before .before .before .before .before .before .before .before .before) _ second in
-      (a .0, (a .1, omega (arith, and-long (c .before .before .before .before .before .before .before .before .before .before .before .before .before .before .before .before))))
+      let a = and-asks (after-row3 (c .before .before .before .before)) _ second in
+      (a .0, (a .1, omega (arith, and-long (after-row3 (c .before .before .before .before)))))
 
   slice-aggregate-put-word-5 : lts.Need-slice-aggregate-put-word-5 claims given f.Post
   slice-aggregate-put-word-5 c = search needs
 
   put-word-requires-5 : lts.Need-put-word-requires-5 claims given f.Post
-  put-word-requires-5 c κs = omega (arith, and-long (c .before .before .before .before .before .before .before .before .before .before .before .before .before .before .before .before .before .before .before .before .before))
+  put-word-requires-5 c κs = omega (arith, and-long (after-row3-of-put-word-arg10 c))
 
   enum-known-row-4 : lts.Need-enum-known-row-4 claims given f.Post
   enum-known-row-4 c = search needs
@@ -191,25 +249,25 @@ module _ (t : ℕ) where
 
   put-row-requires-3 : lts.Need-put-row-requires-3 claims given f.Post
   put-row-requires-3 c κs =
-      let a = or-asks (c .before .before .before .before .before .before .before) _ first in
-      (a .0, (a .1, omega (arith, or-long (c .before .before .before .before .before .before .before))))
+      let a = or-asks (after-row4-of-put-row-arg3 c) _ first in
+      (a .0, (a .1, omega (arith, or-long (after-row4-of-put-row-arg3 c))))
 
   slice-aggregate-put-word-7 : lts.Need-slice-aggregate-put-word-7 claims given f.Post
   slice-aggregate-put-word-7 c = search needs
 
   put-word-requires-7 : lts.Need-put-word-requires-7 claims given f.Post
-  put-word-requires-7 c κs = omega (arith, or-long (c .before .before .before .before .before .before .before .before .before .before .before .before))
+  put-word-requires-7 c κs = omega (arith, or-long (after-row4 c))
 
   put-row-requires-4 : lts.Need-put-row-requires-4 claims given f.Post
   put-row-requires-4 c κs =
-      let a = or-asks (c .before .before .before .before .before .before .before .before .before .before .before .before .before .before .before .before) _ second in
-      (a .0, (a .1, omega (arith, or-long (c .before .before .before .before .before .before .before .before .before .before .before .before .before .before .before .before))))
+      let a = or-asks (after-row4 (c .before .before .before .before)) _ second in
+      (a .0, (a .1, omega (arith, or-long (after-row4 (c .before .before .before .before)))))
 
   slice-aggregate-put-word-8 : lts.Need-slice-aggregate-put-word-8 claims given f.Post
   slice-aggregate-put-word-8 c = search needs
 
   put-word-requires-8 : lts.Need-put-word-requires-8 claims given f.Post
-  put-word-requires-8 c κs = omega (arith, or-long (c .before .before .before .before .before .before .before .before .before .before .before .before .before .before .before .before .before .before .before .before .before))
+  put-word-requires-8 c κs = omega (arith, or-long (after-row4-of-put-word-arg16 c))
 
   enum-known-row-5 : lts.Need-enum-known-row-5 claims given f.Post
   enum-known-row-5 c = search needs
@@ -221,12 +279,12 @@ module _ (t : ℕ) where
   slice-aggregate-put-bounded c = search needs
 
   put-bounded-requires : lts.Need-put-bounded-requires claims given f.Post
-  put-bounded-requires c κs = omega (arith, next-long (c .before .before .before .before .before .before .before))
+  put-bounded-requires c κs = omega (arith, next-long (after-put-quantifier c .before .before .before))
 
   put-row-requires-5 : lts.Need-put-row-requires-5 claims given f.Post
   put-row-requires-5 c κs =
-      let a = next-asks (c .before .before .before .before .before .before .before .before .before .before .before) _ first in
-      (a .0, (a .1, omega (arith, next-long (c .before .before .before .before .before .before .before .before .before .before .before))))
+      let a = next-asks (after-put-quantifier (c .before .before .before .before) .before .before .before) _ first in
+      (a .0, (a .1, omega (arith, next-long (after-put-quantifier (c .before .before .before .before) .before .before .before))))
 
   enum-known-row-6 : lts.Need-enum-known-row-6 claims given f.Post
   enum-known-row-6 c = search needs
@@ -238,25 +296,25 @@ module _ (t : ℕ) where
   slice-aggregate-put-word-9 c = search needs
 
   put-word-requires-9 : lts.Need-put-word-requires-9 claims given f.Post
-  put-word-requires-9 c κs = omega (arith, until-long (c .before .before .before .before .before .before .before))
+  put-word-requires-9 c κs = omega (arith, until-long (after-put-quantifier2 c .before .before .before))
 
   put-row-requires-6 : lts.Need-put-row-requires-6 claims given f.Post
   put-row-requires-6 c κs =
-      let a = until-asks (c .before .before .before .before .before .before .before .before .before .before .before) _ first in
-      (a .0, (a .1, omega (arith, until-long (c .before .before .before .before .before .before .before .before .before .before .before))))
+      let a = until-asks (after-put-quantifier2 (c .before .before .before .before) .before .before .before) _ first in
+      (a .0, (a .1, omega (arith, until-long (after-put-quantifier2 (c .before .before .before .before) .before .before .before))))
 
   slice-aggregate-put-bounded-2 : lts.Need-slice-aggregate-put-bounded-2 claims given f.Post
   slice-aggregate-put-bounded-2 c = search needs
 
   put-bounded-requires-2 : lts.Need-put-bounded-requires-2 claims given f.Post
-  put-bounded-requires-2 c κs = omega (arith, until-long (c .before .before .before .before .before .before .before .before .before .before .before .before .before .before .before .before))
+  put-bounded-requires-2 c κs = omega (arith, until-long (after-row6 c))
 
   put-row-requires-7 : lts.Need-put-row-requires-7 claims given f.Post
   put-row-requires-7 c κs =
       let c4 = c .before .before .before in
-      let c3 = c4 .before .before .before .before .before in
+      let c3 = after-put-row6 c4 in
       let c2 = c3 .before .before .before .before in
-      let c1 = c2 .before .before .before .before .before in
+      let c1 = after-put-quantifier2 (c2 .before) in
       let r = c1 .before .before .before in
       let a = until-asks r _ second in
       (a .0, (a .1, laid.fits-before (c1 .put-quantifier2 .ensures then c2 .put-word9 .ensures then c3 .put-row6 .ensures then c4 .put-bounded2 .ensures) _ (word "]") (whole (r .before .before) (r .row6 .given .1))))
@@ -268,32 +326,32 @@ module _ (t : ℕ) where
   put-word-requires-10 c κs =
       let c5 = c .before .before .before .before in
       let c4 = c5 .before .before .before .before in
-      let c3 = c4 .before .before .before .before .before in
+      let c3 = after-put-row6 c4 in
       let c2 = c3 .before .before .before .before in
-      let c1 = c2 .before .before .before .before .before in
+      let c1 = after-put-quantifier2 (c2 .before) in
       let r = c1 .before .before .before in
       laid.fits (c1 .put-quantifier2 .ensures then c2 .put-word9 .ensures then c3 .put-row6 .ensures then c4 .put-bounded2 .ensures then c5 .put-row7 .ensures) (word "]") (whole (r .before .before) (r .row6 .given .1))
 
   returns : lts.Need-returns claims given f.Post
-  returns c = said (c .before .before .put-word .ensures) (text-is (c .before .before .before .before .before .before .before) (c .before .before .before .before .before .enum-told .given .1)) refl refl
+  returns c = said (c .before .before .put-word .ensures) (text-is (after-enum-told c .before .before) (after-enum-told c .enum-told .given .1)) refl refl
 
   same-length : lts.Need-same-length claims given f.Post
   same-length c = laid.same-length (returns c)
 
   returns-2 : lts.Need-returns-2 claims given f.Post
-  returns-2 c = said (c .before .before .put-word2 .ensures) (text-is (c .before .before .before .before .before .before .before) (c .before .before .before .before .before .enum-told2 .given .1)) refl refl
+  returns-2 c = said (c .before .before .put-word2 .ensures) (text-is (after-enum-told2 c .before .before) (after-enum-told2 c .enum-told2 .given .1)) refl refl
 
   same-length-2 : lts.Need-same-length-2 claims given f.Post
   same-length-2 c = laid.same-length (returns-2 c)
 
   returns-3 : lts.Need-returns-3 claims given f.Post
-  returns-3 c = said (c .before .before .put-number .ensures) (text-is (c .before .before .before .before .before .before .before .before) (c .before .before .before .before .before .before .row .given .1)) refl refl
+  returns-3 c = said (c .before .before .put-number .ensures) (text-is (after-row (c .before .before .before) .before .before) (after-row (c .before .before .before) .row .given .1)) refl refl
 
   same-length-3 : lts.Need-same-length-3 claims given f.Post
   same-length-3 c = laid.same-length (returns-3 c)
 
   returns-4 : lts.Need-returns-4 claims given f.Post
-  returns-4 c = said (c .before .before .put-number2 .ensures) (text-is (c .before .before .before .before .before .before .before .before) (c .before .before .before .before .before .before .row2 .given .1)) refl refl
+  returns-4 c = said (c .before .before .put-number2 .ensures) (text-is (after-row2 (c .before .before .before) .before .before) (after-row2 (c .before .before .before) .row2 .given .1)) refl refl
 
   same-length-4 : lts.Need-same-length-4 claims given f.Post
   same-length-4 c = laid.same-length (returns-4 c)
@@ -301,9 +359,9 @@ module _ (t : ℕ) where
   returns-5 : lts.Need-returns-5 claims given f.Post
   returns-5 c =
       let c5 = c .before .before in
-      let c4 = c5 .before .before .before .before .before in
+      let c4 = after-put-row2 c5 in
       let c3 = c4 .before .before .before .before in
-      let c2 = c3 .before .before .before .before .before in
+      let c2 = after-put-row c3 in
       let c1 = c2 .before .before .before .before in
       let r = c1 .before .before .before .before in
       said (c1 .put-word3 .ensures then c2 .put-row .ensures then c3 .put-word4 .ensures then c4 .put-row2 .ensures then c5 .put-word5 .ensures) (text-is (r .before .before) (r .row3 .given .1)) refl refl
@@ -314,9 +372,9 @@ module _ (t : ℕ) where
   returns-6 : lts.Need-returns-6 claims given f.Post
   returns-6 c =
       let c5 = c .before .before in
-      let c4 = c5 .before .before .before .before .before in
+      let c4 = after-put-row4 c5 in
       let c3 = c4 .before .before .before .before in
-      let c2 = c3 .before .before .before .before .before in
+      let c2 = after-put-row3 c3 in
       let c1 = c2 .before .before .before .before in
       let r = c1 .before .before .before .before in
       said (c1 .put-word6 .ensures then c2 .put-row3 .ensures then c3 .put-word7 .ensures then c4 .put-row4 .ensures then c5 .put-word8 .ensures) (text-is (r .before .before) (r .row4 .given .1)) refl refl
@@ -328,7 +386,7 @@ module _ (t : ℕ) where
   returns-7 c =
       let c3 = c .before .before in
       let c2 = c3 .before .before .before .before in
-      let c1 = c2 .before .before .before .before .before in
+      let c1 = after-put-quantifier (c2 .before) in
       let r = c1 .before .before .before in
       said (c1 .put-quantifier .ensures then c2 .put-bounded .ensures then c3 .put-row5 .ensures) (text-is (r .before .before) (r .row5 .given .1)) refl refl
 
@@ -338,11 +396,11 @@ module _ (t : ℕ) where
   returns-8 : lts.Need-returns-8 claims given f.Post
   returns-8 c =
       let c6 = c .before .before in
-      let c5 = c6 .before .before .before .before .before in
+      let c5 = after-put-row7 c6 in
       let c4 = c5 .before .before .before .before in
-      let c3 = c4 .before .before .before .before .before in
+      let c3 = after-put-row6 c4 in
       let c2 = c3 .before .before .before .before in
-      let c1 = c2 .before .before .before .before .before in
+      let c1 = after-put-quantifier2 (c2 .before) in
       let r = c1 .before .before .before in
       said (c1 .put-quantifier2 .ensures then c2 .put-word9 .ensures then c3 .put-row6 .ensures then c4 .put-bounded2 .ensures then c5 .put-row7 .ensures then c6 .put-word10 .ensures) (text-is (r .before .before) (r .row6 .given .1)) refl refl
 

@@ -40,6 +40,13 @@ module _ (t : ℕ) where
   abbrev claims : lts.Claims
   claims = (row.Asked, row.Learnt, decimal.Asked, decimal.Learnt, bound.Asked, bound.Learnt, below, f.Post)
 
+  -- the places that the facts below look back to
+  abbrev after-row-at : lts.After-row-length2 claims given f.Post → lts.After-row-at claims given f.Post
+  after-row-at c = c .before .before .before .before .before
+
+  abbrev after-row-at-of-row-length : lts.After-row-length claims given f.Post → lts.After-row-at claims given f.Post
+  after-row-at-of-row-length c = c .before .before .before .before .before
+
   -- what is known once the row has been read
   module _ (c : lts.After-row-at claims given f.Post) where
     abbrev s : List ℕ
@@ -122,7 +129,7 @@ module _ (t : ℕ) where
   row-length-requires c κs = asks (c .before .before .before .before) (c .before .before .row5 .given .1) _ first
 
   add-result-4 : lts.Need-add-result-4 claims given f.Post
-  add-result-4 c = omega (arith, long (c .before .before .before .before .before) (c .before .before .before .row5 .given .1))
+  add-result-4 c = omega (arith, long (after-row-at-of-row-length c) (c .before .before .before .row5 .given .1))
 
   enum-known-row-6 : lts.Need-enum-known-row-6 claims given f.Post
   enum-known-row-6 c = search needs
@@ -137,13 +144,13 @@ module _ (t : ℕ) where
   row-length-requires-2 c κs = asks (c .before .before .before .before) (c .before .before .row6 .given .1) _ first
 
   add-result-6 : lts.Need-add-result-6 claims given f.Post
-  add-result-6 c = omega (arith, long (c .before .before .before .before .before) (c .before .before .before .row6 .given .1))
+  add-result-6 c = omega (arith, long (after-row-at c) (c .before .before .before .row6 .given .1))
 
   row-length-requires-3 : lts.Need-row-length-requires-3 claims given f.Post
-  row-length-requires-3 c κs = asks (c .before .before .before .before .before) (c .before .before .before .row6 .given .1) _ second
+  row-length-requires-3 c κs = asks (after-row-at c) (c .before .before .before .row6 .given .1) _ second
 
   add-result-7 : lts.Need-add-result-7 claims given f.Post
-  add-result-7 c = omega (arith, long (c .before .before .before .before .before .before) (c .before .before .before .before .row6 .given .1))
+  add-result-7 c = omega (arith, long (after-row-at (c .before)) (c .before .before .before .before .row6 .given .1))
 
   row-length-requires-4 : lts.Need-row-length-requires-4 claims given f.Post
   row-length-requires-4 c κs = ⊎-elim (λ e. asks (c .before) e _ first) (λ e. asks (c .before) e _ first) (two c)
@@ -170,10 +177,10 @@ module _ (t : ℕ) where
   returns-4 c = omega (arith, long (c .before .before .before .before) (c .before .before .row2 .given .1))
 
   returns-5 : lts.Need-returns-5 claims given f.Post
-  returns-5 c = omega (arith, long (c .before .before .before .before .before) (c .before .before .before .row5 .given .1))
+  returns-5 c = omega (arith, long (after-row-at-of-row-length c) (c .before .before .before .row5 .given .1))
 
   returns-6 : lts.Need-returns-6 claims given f.Post
-  returns-6 c = omega (arith, long (c .before .before .before .before .before .before) (c .before .before .before .before .row6 .given .1))
+  returns-6 c = omega (arith, long (after-row-at (c .before)) (c .before .before .before .before .row6 .given .1))
 
   returns-7 : lts.Need-returns-7 claims given f.Post
   returns-7 c = omega (arith, sum (c .before .before))

@@ -9,6 +9,10 @@ use Rattle.wire.proofs.Laid.{nothing, said}
 use Rattle.text.proofs.put_bound.Statement.{statement}
 use Rattle.text.proofs.put_bound.Tie as tie
 
+-- the places that the facts below look back to
+abbrev after-bound : tie.After-slice-known2 → tie.After-bound
+after-bound c = c .before .before .before .before .before .before
+
 enum-known-bound : tie.Need-enum-known-bound
 enum-known-bound c = search needs
 
@@ -27,7 +31,7 @@ same-length : tie.Need-same-length
 same-length c = search needs
 
 returns : tie.Need-returns
-returns c = said (c .before .before .put-number .ensures) (ap boundText (c .before .before .before .before .before .before .bound .given .1)) refl refl
+returns c = said (c .before .before .put-number .ensures) (ap boundText (after-bound c .bound .given .1)) refl refl
 
 returns-2 : tie.Need-returns-2
 returns-2 c = said (nothing _ _ (omega arith)) (ap boundText (c .enum-told .given .1)) refl refl

@@ -4,6 +4,10 @@ use Rattle.wire.proofs.Laid.{_then_}
 use Rattle.text.proofs.put_bounded.Statement.{statement}
 use Rattle.text.proofs.put_bounded.Tie as tie
 
+-- the places that the facts below look back to
+abbrev after-put-bound : tie.After-slice-known4 → tie.After-put-bound
+after-put-bound c = c .before .before .before .before .before .before .before
+
 put-word-requires : tie.Need-put-word-requires
 put-word-requires c κs = search needs
 
@@ -21,8 +25,8 @@ same-length c = search needs
 
 returns : tie.Need-returns
 returns c =
-    let sign = c .before .before .before .before .before .before .before .before .before .before .before .put-word .ensures in
-    let bound = c .before .before .before .before .before .before .before .put-bound .ensures in
+    let sign = after-put-bound c .before .before .before .before .put-word .ensures in
+    let bound = after-put-bound c .put-bound .ensures in
     sign then bound then c .before .before .put-word2 .ensures
 
 pub put-bounded-spec : {M : Type 1} → statement M

@@ -13,13 +13,20 @@ use Rattle.wire.proofs.Laid.{said}
 use Rattle.text.proofs.text.Statement.{statement}
 use Rattle.text.proofs.text.Tie as tie
 
-bytes : (c : tie.After-known-told2) → Bytes (c .before .before .before .before .before .before .args .s .now)
-bytes c i = omega (arith, c .before .before .before .before .before .shared-slice-known .given i)
+-- the places that the facts below look back to
+abbrev after-shared-slice-known : tie.After-known-told2 → tie.After-shared-slice-known
+after-shared-slice-known c = c .before .before .before .before .before
+
+abbrev after-known-told2 : tie.After-slice-known2 → tie.After-known-told2
+after-known-told2 c = c .before .before .before .before .before .before
+
+bytes : (c : tie.After-known-told2) → Bytes (after-shared-slice-known c .before .args .s .now)
+bytes c i = omega (arith, after-shared-slice-known c .shared-slice-known .given i)
 
 -- the root of the accepted message
 root : (c : tie.After-known-told2)
-    → Root (readFormula (c .before .before .before .before .before .before .args .p) (c .before .before .before .before .before .before .args .s .now))
-    (c .before .before .before .before .before .before .args .s .now)
+    → Root (readFormula (after-shared-slice-known c .before .args .p) (after-shared-slice-known c .before .args .s .now))
+    (after-shared-slice-known c .before .args .s .now)
     (c .before .f .given .0 .0)
 root c = checked-root _ _ (bytes c) (by (c .before .before .before .check .ensures) (c .before .f .given .1))
 
@@ -56,7 +63,7 @@ same-length c = search needs
 
 returns-3 : tie.Need-returns-3
 returns-3 c =
-    let r = root (c .before .before .before .before .before .before) in
+    let r = root (after-known-told2 c) in
     written _ _ (r .rows) (r .reads) (said (c .before .before .put-row .ensures) (sym (r .text-is)) refl refl)
 
 pub text-spec : {M : Type 1} → statement M

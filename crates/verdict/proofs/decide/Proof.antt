@@ -19,12 +19,22 @@ use Rattle.verdict.proofs.Answering.{Shown, one-refused, one-unnamed, o
 use Rattle.verdict.proofs.decide.Statement.{statement}
 use Rattle.verdict.proofs.decide.Tie as tie
 
--- the start of the call, before the question was read, and how it was read, before it was settled
+-- the places that the facts below look back to: the start, seen from where the question was read; how it was read, and the start, seen from
+-- where it was settled; and where it was settled, seen from behind, and from where its answer is told
 abbrev start : tie.After-question → tie.Start
 start c = c .before .before .before .before .before
 
 abbrev read : tie.After-settle-question → tie.After-known-told2
 read c = c .before .before .before .before
+
+abbrev begun : tie.After-settle-question → tie.Start
+begun c = start (read c .before .before .before)
+
+abbrev settling : tie.After-slice-known4 → tie.After-settle-question
+settling c = c .before .before .before .before
+
+abbrev settling-told : tie.After-known-told3 → tie.After-settle-question
+settling-told c = settling (c .before .before .before)
 
 -- both messages are bytes
 model-bytes : (c : tie.After-question) → Bytes (now (start c .args .m))
@@ -48,17 +58,17 @@ some-row : (c : tie.After-known-told2) → 1 ≤ length (question c .rows)
 some-row c = held c .rows .well-formed .some-row
 
 -- the state exists
-named : (c : tie.After-settle-question) → c .before .before .before .before .before .before .before .before .before .before .before .before .args .state < question (read c) .model .states
+named : (c : tie.After-settle-question) → begun c .args .state < question (read c) .model .states
 unfolding heldModel
 named c = c .before .before .before .if1 .left
 
 -- the question settled
-done : (c : tie.After-known-told3) → let k = c .before .count .given .0 in let a = c .before .before .before .before .before .before .before .before .before .before .before .before .before .before .before .before .before .before .before .args in
-    Finished (question (read (c .before .before .before .before .before .before .before))) (a .budget) (now (a .bytes)) (now (a .values)) (k .0) (k .1 .0) (k .1 .1 .0) (k .1 .1 .1 .0)
-done c = ended-as _ _ _ _ (by (c .before .count .given .1) (c .before .before .before .before .before .before .before .settle-question .ensures .0))
+done : (c : tie.After-known-told3) → let k = c .before .count .given .0 in let a = begun (settling-told c) .args in
+    Finished (question (read (settling-told c))) (a .budget) (now (a .bytes)) (now (a .values)) (k .0) (k .1 .0) (k .1 .1 .0) (k .1 .1 .1 .0)
+done c = ended-as _ _ _ _ (by (c .before .count .given .1) (settling-told c .settle-question .ensures .0))
 
 -- what the settling answered decides
-decides : (c : tie.After-settle-question) (s : AllStates) {r : Answer} → let a = c .before .before .before .before .before .before .before .before .before .before .before .before .args in
+decides : (c : tie.After-settle-question) (s : AllStates) {r : Answer} → let a = begun c .args in
     c .settle-question .result ≡ s → r ≡ decided (question (read c)) (a .state) s
     → Shown (now (a .m)) (now (a .f)) (a .state) (a .budget) (now (a .bytes)) (now (a .values)) r
     (c .settle-question .last .1 .1 .1 .1 .1 .1 .1 .0) (c .settle-question .last .1 .1 .1 .1 .1 .1 .1 .1 .0)
@@ -87,7 +97,7 @@ enum-known-count : tie.Need-enum-known-count
 enum-known-count c = search needs
 
 add-node : tie.Need-add-node
-add-node c = let settled = c .before .before .before .before .before .before .before in omega (arith, node-small (done c) (some-row (read settled)) _ (named settled))
+add-node c = let settled = settling-told c in omega (arith, node-small (done c) (some-row (read settled)) _ (named settled))
 
 cast-node : tie.Need-cast-node
 cast-node c = search needs
@@ -97,7 +107,7 @@ mul-if2 c = search needs
 
 slice-read-if2 : tie.Need-slice-read-if2
 slice-read-if2 c =
-    let settled = c .before .before .before .before .before .before .before .before in node-inside (done (c .before)) (some-row (read settled)) _ (named settled) (settled .settle-question .ensures .1 .1)
+    let settled = settling-told (c .before) in node-inside (done (c .before)) (some-row (read settled)) _ (named settled) (settled .settle-question .ensures .1 .1)
 
 same-length : tie.Need-same-length
 same-length c = search needs
@@ -107,7 +117,7 @@ same-length-2 c = search needs
 
 returns-2 : tie.Need-returns-2
 returns-2 c =
-    let settled = c .before .before .before .before .before .before .before .before .before in
+    let settled = settling-told (c .before .before) in
     decides settled _ (c .before .before .before .count .given .1)
     (read-yes (done (c .before .before)) (some-row (read settled)) _ (named settled) (settled .settle-question .ensures .1 .1) (c .if2 .taken))
 
@@ -131,7 +141,7 @@ same-length-4 c = search needs
 
 returns-4 : tie.Need-returns-4
 returns-4 c =
-    let settled = c .before .before .before .before .before .before .before .before .before in
+    let settled = settling-told (c .before .before) in
     decides settled _ (c .before .before .before .count .given .1)
     (read-no (done (c .before .before)) (some-row (read settled)) _ (named settled) (settled .settle-question .ensures .1 .1) (c .if2 .left))
 
@@ -142,7 +152,7 @@ same-length-6 : tie.Need-same-length-6
 same-length-6 c = search needs
 
 returns-5 : tie.Need-returns-5
-returns-5 c = decides (c .before .before .before .before .before .before .before) _ (c .before .count2 .given .1) refl
+returns-5 c = decides (settling (c .before .before .before)) _ (c .before .count2 .given .1) refl
 
 same-length-7 : tie.Need-same-length-7
 same-length-7 c = search needs
@@ -151,7 +161,7 @@ same-length-8 : tie.Need-same-length-8
 same-length-8 c = search needs
 
 returns-6 : tie.Need-returns-6
-returns-6 c = decides (c .before .before .before .before .before .before .before) _ (c .before .e2 .given .1) refl
+returns-6 c = decides (settling (c .before .before .before)) _ (c .before .e2 .given .1) refl
 
 pub decide-spec : {M : Type 1} → statement M
 decide-spec =

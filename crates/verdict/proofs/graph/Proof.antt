@@ -9,6 +9,10 @@ use Rattle.verdict.proofs.Building.{graph-refused, graph-built}
 use Rattle.verdict.proofs.graph.Statement.{statement}
 use Rattle.verdict.proofs.graph.Tie as tie
 
+-- the places that the facts below look back to
+abbrev after-question : tie.After-slice-known2 → tie.After-question
+after-question c = c .before .before .before .before .before .before .before
+
 abbrev start : tie.After-question → tie.Start
 start c = c .before .before .before .before
 
@@ -47,7 +51,7 @@ same-length c = search needs
 
 returns-2 : tie.Need-returns-2
 returns-2 c =
-    let q = c .before .before .before .before .before .before .before in
+    let q = after-question c in
     graph-built _ _ (model-bytes q) (formula-bytes q) _ (held (c .before .before .before .before)) (c .before .before .build .ensures)
 
 pub graph-spec : {M : Type 1} → statement M

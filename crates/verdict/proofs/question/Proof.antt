@@ -8,9 +8,13 @@ use Rattle.verdict.proofs.Reading.{ModelRead, model-read, asked-refused
 use Rattle.verdict.proofs.question.Statement.{statement}
 use Rattle.verdict.proofs.question.Tie as tie
 
+-- the places that the facts below look back to
+abbrev after-shared-slice-known2 : tie.After-known-told2 → tie.After-shared-slice-known2
+after-shared-slice-known2 c = c .before .before .before .before
+
 -- the model that is accepted, when the formula is checked
-read : (c : tie.After-known-told2) → let k = c .before .n .given .0 in ModelRead (now (c .before .before .before .before .before .before .args .m)) (k .0) (k .1 .0) (k .1 .1 .0)
-read c = model-read _ (λ i. omega (arith, c .before .before .before .before .before .shared-slice-known .given i)) (by (c .before .before .before .check .ensures) (c .before .n .given .1))
+read : (c : tie.After-known-told2) → let k = c .before .n .given .0 in ModelRead (now (after-shared-slice-known2 c .before .before .args .m)) (k .0) (k .1 .0) (k .1 .1 .0)
+read c = model-read _ (λ i. omega (arith, after-shared-slice-known2 c .before .shared-slice-known .given i)) (by (c .before .before .before .check .ensures) (c .before .n .given .1))
 
 check-requires : tie.Need-check-requires
 check-requires c κs = search needs
@@ -38,7 +42,7 @@ returns-2 c = rows-refused _ _ (read (c .before .before .before .before)) (by (c
 
 returns-3 : tie.Need-returns-3
 returns-3 c =
-    let bytes : Bytes (now (c .before .before .before .before .before .before .before .before .before .before .args .f)) = λ i. omega (arith, c .before .before .before .before .before .before .before .before .shared-slice-known2 .given i) in
+    let bytes : Bytes (now (after-shared-slice-known2 (c .before .before .before .before) .before .before .args .f)) = λ i. omega (arith, after-shared-slice-known2 (c .before .before .before .before) .shared-slice-known2 .given i) in
     asked _ _ (read (c .before .before .before .before)) bytes (by (c .before .before .before .check2 .ensures) (c .before .k .given .1))
 
 pub question-spec : {M : Type 1} → statement M

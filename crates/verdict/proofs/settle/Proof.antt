@@ -9,6 +9,10 @@ use Rattle.verdict.proofs.Answering.{all-refused, all-settled}
 use Rattle.verdict.proofs.settle.Statement.{statement}
 use Rattle.verdict.proofs.settle.Tie as tie
 
+-- the places that the facts below look back to
+abbrev after-known-told2 : tie.After-slice-known4 → tie.After-known-told2
+after-known-told2 c = c .before .before .before .before .before .before .before
+
 abbrev start : tie.After-question → tie.Start
 start c = c .before .before .before .before .before
 
@@ -50,8 +54,8 @@ same-length-2 c = search needs
 
 returns-2 : tie.Need-returns-2
 returns-2 c =
-    let q = c .before .before .before .before .before .before .before .before .before .before in
-    all-settled _ _ (model-bytes q) (formula-bytes q) _ _ _ (held (c .before .before .before .before .before .before .before)) (c .before .before .before .before .settle-question .ensures)
+    let q = after-known-told2 c .before .before .before in
+    all-settled _ _ (model-bytes q) (formula-bytes q) _ _ _ (held (after-known-told2 c)) (c .before .before .before .before .settle-question .ensures)
 
 pub settle-spec : {M : Type 1} → statement M
 settle-spec =

@@ -21,6 +21,10 @@ Inv-loop s at k n₀ i₀ n i = (i ≤ k) × (n ≡ number i s at) × (n < 256 ^
 abbrev μ-loop : tie.MeasureT-loop
 μ-loop s at k n₀ i₀ n i = k - i
 
+-- the places that the facts below look back to
+abbrev start : tie.After-shared-slice-known2 Inv-loop μ-loop → tie.Start Inv-loop μ-loop
+start c = c .before .before .before .before .before
+
 -- a power of 256 below the last stays below 256 ^ 3
 small : (c : tie.In-loop Inv-loop μ-loop) → 256 ^ c .before .loop .i ≤ 256 ^ 3
 small c =
@@ -29,8 +33,8 @@ small c =
 
 -- the byte that is read
 byte : (c : tie.After-shared-slice-known2 Inv-loop μ-loop) →
-    getD (now (c .before .before .before .before .before .args .s)) (c .before .before .before .before .before .args .at + c .before .before .loop .i) 0 < 256
-byte c = omega (arith, c .shared-slice-known2 .given (c .before .before .before .before .before .args .at + c .before .before .loop .i))
+    getD (now (start c .args .s)) (start c .args .at + c .before .before .loop .i) 0 < 256
+byte c = omega (arith, c .shared-slice-known2 .given (start c .args .at + c .before .before .loop .i))
 
 bytes-requires : tie.Need-bytes-requires Inv-loop μ-loop
 bytes-requires c κs = tt

@@ -20,6 +20,13 @@ Inv-loop room₀ at n r h code next₀ a₀ room next a = SpanLeft (coverOf n r 
 abbrev μ-loop : tie.MeasureT-loop
 μ-loop room₀ at n r h code next₀ a₀ room next a = n - a
 
+-- the places that the facts below look back to
+abbrev in-loop-of-store-arg2 : tie.After-store-arg2 Inv-loop μ-loop → tie.In-loop Inv-loop μ-loop
+in-loop-of-store-arg2 c = c .before .before .before .before .before
+
+abbrev in-loop : tie.After-store-arg3 Inv-loop μ-loop → tie.In-loop Inv-loop μ-loop
+in-loop c = in-loop-of-store-arg2 (c .before .before .before .before)
+
 -- the nodes of the until row stand before those of its helper
 row-fits : (c : tie.Start Inv-loop μ-loop) → c .args .n * c .args .r + c .args .n ≤ 4096
 row-fits c = place-fits (c .args .n) (c .args .h) (c .args .r) (c .pre .0 .0) (c .pre .0 .1)
@@ -55,13 +62,13 @@ store-requires : tie.Need-store-requires Inv-loop μ-loop
 store-requires c κs = omega (arith, fits (c .before))
 
 add-store-2 : tie.Need-add-store-2 Inv-loop μ-loop
-add-store-2 c = omega (arith, fits (c .before .before .before .before .before))
+add-store-2 c = omega (arith, fits (in-loop-of-store-arg2 c))
 
 store-requires-2 : tie.Need-store-requires-2 Inv-loop μ-loop
-store-requires-2 c κs = omega (arith, fits (c .before .before .before .before .before))
+store-requires-2 c κs = omega (arith, fits (in-loop-of-store-arg2 c))
 
 add-store-3 : tie.Need-add-store-3 Inv-loop μ-loop
-add-store-3 c = omega (arith, fits (c .before .before .before .before .before .before .before .before .before))
+add-store-3 c = omega (arith, fits (in-loop c))
 
 mul-store-2 : tie.Need-mul-store-2 Inv-loop μ-loop
 mul-store-2 c = omega arith
@@ -70,10 +77,10 @@ add-store-4 : tie.Need-add-store-4 Inv-loop μ-loop
 add-store-4 c = omega arith
 
 store-requires-3 : tie.Need-store-requires-3 Inv-loop μ-loop
-store-requires-3 c κs = omega (arith, fits (c .before .before .before .before .before .before .before .before .before))
+store-requires-3 c κs = omega (arith, fits (in-loop c))
 
 add-next : tie.Need-add-next Inv-loop μ-loop
-add-next c = omega (arith, fits (c .before .before .before .before .before .before .before .before .before .before .before .before))
+add-next c = omega (arith, fits (in-loop (c .before .before .before)))
 
 add-a : tie.Need-add-a Inv-loop μ-loop
 add-a c = omega arith

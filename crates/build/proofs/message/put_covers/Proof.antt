@@ -17,6 +17,10 @@ Inv-loop room₀ at n p f k next₀ row-at₀ h₀ r₀ room next row-at h r = C
 abbrev μ-loop : tie.MeasureT-loop
 μ-loop room₀ at n p f k next₀ row-at₀ h₀ r₀ room next row-at h r = k - r
 
+-- the places that the facts below look back to
+abbrev after-row-at : tie.After-put-cover-states Inv-loop μ-loop → tie.After-row-at Inv-loop μ-loop
+after-row-at c = c .before .before .before .before .before
+
 loop-holds : tie.Need-loop-holds Inv-loop μ-loop
 loop-holds c =
     let s = c .before .before in
@@ -44,7 +48,7 @@ put-cover-states-requires c κs =
 
 add-h : tie.Need-add-h Inv-loop μ-loop
 add-h c =
-    let l = c .before .before .before .before .before .before .before .before .before in
+    let l = after-row-at (c .before .before) .before .before in
     omega (arith, l .loop .inv .near, l .before .before .before .pre .0 .rows-fit)
 
 loop-less : tie.Need-loop-less Inv-loop μ-loop
@@ -53,7 +57,7 @@ loop-less c = omega arith
 loop-again : tie.Need-loop-again Inv-loop μ-loop
 loop-again c =
     let put = c .before .before in
-    let read = put .before .before .before .before .before in
+    let read = after-row-at put in
     let turn = read .before in
     let is = sym (read .row-at .ensures) ∙ put .before .before .before .row .given .1 in
     until-covered _ _ _ (turn .before .loop .inv) (turn .loop-test .taken) is (put .put-cover-states .ensures)

@@ -22,16 +22,23 @@ Inv-loop room₀ at m n p t table f k next₀ row-at₀ h₀ i₀ room next row-
 abbrev μ-loop : tie.MeasureT-loop
 μ-loop room₀ at m n p t table f k next₀ row-at₀ h₀ i₀ room next row-at h i = i
 
+-- the places that the facts below look back to
+abbrev start : tie.In-loop Inv-loop μ-loop → tie.Start Inv-loop μ-loop
+start c = c .before .before .before .before .before .before
+
+abbrev at-loop : tie.After-slice-known2 Inv-loop μ-loop → tie.At-loop Inv-loop μ-loop
+at-loop c = c .before .before .before .before .before .before .before .before .before
+
 -- the next row: an until, or none
 until : (c : tie.After-row Inv-loop μ-loop) →
     let turn = c .before .before .before in
     let v = c .row .given .0 in
-    rowAt (now (turn .before .before .before .before .before .before .args .f)) (turn .before .loop .row-at) ≡ Until (v .0) (v .1 .0) (v .1 .1 .0) (v .1 .1 .1 .0)
+    rowAt (now (start turn .args .f)) (turn .before .loop .row-at) ≡ Until (v .0) (v .1 .0) (v .1 .1 .0) (v .1 .1 .1 .0)
 until c = sym (c .before .before .row-at .ensures) ∙ c .row .given .1
 
 other : (c : tie.At-match-keys2 Inv-loop μ-loop) →
     let turn = c .before .before in
-    isUntil (rowAt (now (turn .before .before .before .before .before .before .args .f)) (turn .before .loop .row-at)) ≡ false
+    isUntil (rowAt (now (start turn .args .f)) (turn .before .loop .row-at)) ≡ false
 other c = ap isUntil (sym (c .before .row-at .ensures)) ∙ other-tag (c .before .row-at .result) (c .match .keys2)
 
 loop-holds : tie.Need-loop-holds Inv-loop μ-loop
@@ -56,13 +63,13 @@ unfolding heldModel
 put-helper-states-requires c κs =
     let row = c .before .before in
     let turn = row .before .before .before in
-    let s = turn .before .before .before .before .before .before in
+    let s = start turn in
     let inv = turn .before .loop .inv in
     let some = turn .loop-test .taken in
     (s .pre .0, (s .pre .1 .0, (until-fit inv some (until row), until-fits inv some (until row))))
 
 add-h : tie.Need-add-h Inv-loop μ-loop
-add-h c = omega (arith, c .before .before .before .before .before .before .before .before .before .loop .inv .few)
+add-h c = omega (arith, at-loop c .loop .inv .few)
 
 loop-less : tie.Need-loop-less Inv-loop μ-loop
 loop-less c = omega arith

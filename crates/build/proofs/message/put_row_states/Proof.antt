@@ -24,20 +24,24 @@ Inv-loop room₀ at m n p t table r row next₀ a₀ room next a =
 abbrev μ-loop : tie.MeasureT-loop
 μ-loop room₀ at m n p t table r row next₀ a₀ room next a = n - a
 
+-- the places that the facts below look back to
+abbrev start : tie.After-shared-slice-known2 Inv-loop μ-loop → tie.Start Inv-loop μ-loop
+start c = c .before .before .before
+
 -- the state's transitions are those between its entry and the next
 own : (c : tie.In-loop Inv-loop μ-loop) →
-    let a = c .before .before .before .before .before .before .args in
+    let a = start (c .before .before .before) .args in
     let table = now (a .table) in
     let i = c .before .loop .a in
     Own (now (a .m)) (a .n) (a .t) i (getD table i 0) (getD table (i + 1) 0 - getD table i 0)
-own c = starts-own (c .before .before .before .before .before .before .pre .1 .0 .1) (c .before .loop .a) (c .loop-test .taken)
+own c = starts-own (start (c .before .before .before) .pre .1 .0 .1) (c .before .loop .a) (c .loop-test .taken)
 
 enum-told : tie.Need-enum-told Inv-loop μ-loop
 enum-told c = search needs
 
 returns : tie.Need-returns Inv-loop μ-loop
 returns c =
-    let s = c .before .before .before .before .before in
+    let s = start (c .before .before) in
     let M = heldModel (now (s .args .m)) (s .args .n) (s .args .p) (s .args .t) in
     until-laid M (s .args .r) (s .args .row) (c .enum-told .given .1) (s .pre .1 .1 .1)
 
@@ -52,7 +56,7 @@ cast-i : tie.Need-cast-i Inv-loop μ-loop
 cast-i c = search needs
 
 mul-first : tie.Need-mul-first Inv-loop μ-loop
-mul-first c = omega (arith, states-few (c .before .before .before .before .before .before .pre .0))
+mul-first c = omega (arith, states-few (start (c .before .before .before) .pre .0))
 
 shared-slice-read-first : tie.Need-shared-slice-read-first Inv-loop μ-loop
 shared-slice-read-first c = omega arith
@@ -61,7 +65,7 @@ add-many : tie.Need-add-many Inv-loop μ-loop
 add-many c = omega arith
 
 mul-many : tie.Need-mul-many Inv-loop μ-loop
-mul-many c = omega (arith, states-few (c .before .before .before .before .before .before .before .pre .0))
+mul-many c = omega (arith, states-few (start (c .before .before .before .before) .pre .0))
 
 shared-slice-read-many : tie.Need-shared-slice-read-many Inv-loop μ-loop
 shared-slice-read-many c = omega arith
@@ -69,12 +73,12 @@ shared-slice-read-many c = omega arith
 sub-many : tie.Need-sub-many Inv-loop μ-loop
 sub-many c =
     let turn = c .before .before in
-    rw add-one (turn .before .before .before .before .before .before .pre .1 .0 .1 .rising (turn .before .loop .a) (turn .loop-test .taken))
+    rw add-one (start (turn .before .before .before) .pre .1 .0 .1 .rising (turn .before .loop .a) (turn .loop-test .taken))
 
 put-row-requires : tie.Need-put-row-requires Inv-loop μ-loop
 put-row-requires c κs =
     let turn = c .before .before .before in
-    let s = turn .before .before .before .before .before .before in
+    let s = start (turn .before .before .before) in
     (s .pre .0, (own turn, (s .pre .1 .1 .0, span-fits (turn .before .loop .inv) (turn .loop-test .taken) refl)))
 
 add-a : tie.Need-add-a Inv-loop μ-loop

@@ -23,29 +23,39 @@ Inv-loop room₀ at m n p t table f k next₀ row-at₀ r₀ room next row-at r 
 abbrev μ-loop : tie.MeasureT-loop
 μ-loop room₀ at m n p t table f k next₀ row-at₀ r₀ room next row-at r = k - r
 
+-- the places that the facts below look back to
+abbrev start-of-loop : tie.After-loop Inv-loop μ-loop → tie.Start Inv-loop μ-loop
+start-of-loop c = c .before .before .before .before .before .before
+
+abbrev start : tie.In-loop Inv-loop μ-loop → tie.Start Inv-loop μ-loop
+start c = c .before .before .before .before .before .before
+
+abbrev at-loop : tie.After-slice-known2 Inv-loop μ-loop → tie.At-loop Inv-loop μ-loop
+at-loop c = c .before .before .before .before .before .before
+
 -- the row is the one at its place
 row-is : (c : tie.After-row-at Inv-loop μ-loop) →
-    c .row-at .result ≡ rowAt (now (c .before .before .before .before .before .before .before .args .f)) (placeOf (c .before .before .loop .r))
+    c .row-at .result ≡ rowAt (now (start (c .before) .args .f)) (placeOf (c .before .before .loop .r))
 row-is c = c .row-at .ensures ∙ ap (rowAt _) (c .before .before .loop .inv .1)
 
 -- its bytes come next, and the other rows' behind them
 abbrev here : tie.After-row-at Inv-loop μ-loop → List ℕ
 here c =
-    let a = c .before .before .before .before .before .before .before .args in
+    let a = start (c .before) .args in
     rowBytes (heldModel (now (a .m)) (a .n) (a .p) (a .t)) (c .before .before .loop .r) (c .row-at .result)
 
 abbrev behind : tie.After-row-at Inv-loop μ-loop → List ℕ
 behind c =
-    let a = c .before .before .before .before .before .before .before .args in
+    let a = start (c .before) .args in
     let r = c .before .before .loop .r + 1 in
     rowsBytes (heldModel (now (a .m)) (a .n) (a .p) (a .t)) r (items (rowLayout (now (a .f))) (a .k - r) (placeOf r))
 
 parts : (c : tie.After-row-at Inv-loop μ-loop) →
-    let a = c .before .before .before .before .before .before .before .args in
+    let a = start (c .before) .args in
     let r = c .before .before .loop .r in
     rowsBytes (heldModel (now (a .m)) (a .n) (a .p) (a .t)) r (items (rowLayout (now (a .f))) (a .k - r) (placeOf r)) ≡ here c ++ behind c
 parts c =
-    let s = c .before .before .before .before .before .before .before in
+    let s = start (c .before) in
     let M = heldModel (now (s .args .m)) (s .args .n) (s .args .p) (s .args .t) in
     let r = c .before .before .loop .r in
     rw (row-is c) (ap (rowsBytes M r) (items-left (rowLayout (now (s .args .f))) rowWidth (λ at. refl) formulaHeader (s .args .k) r (c .before .loop-test .taken)) ∙ rows-more M r _ _)
@@ -58,17 +68,17 @@ loop-holds c =
     (omega arith, omega arith, rw all (all-left _ _ _ (s .pre .1 .1 .1 .1)))
 
 row-at-requires : tie.Need-row-at-requires Inv-loop μ-loop
-row-at-requires c κs = omega (arith, c .before .before .before .before .before .before .pre .1 .1 .0 .long, c .before .loop .inv .1)
+row-at-requires c κs = omega (arith, start c .pre .1 .1 .0 .long, c .before .loop .inv .1)
 
 put-row-states-requires : tie.Need-put-row-states-requires Inv-loop μ-loop
 put-row-states-requires c κs =
     let turn = c .before in
-    let s = turn .before .before .before .before .before .before .before in
+    let s = start (turn .before) in
     let fits = row-fits (s .pre .1 .1 .0) (s .args .n) (turn .before .before .loop .r) (s .pre .1 .1 .1 .0) (turn .before .loop-test .taken) in
     (s .pre .0, (s .pre .1 .0, (rw (row-is turn) fits, left-fits (turn .before .before .loop .inv .2) (here turn) (behind turn) (parts turn))))
 
 add-row-at : tie.Need-add-row-at Inv-loop μ-loop
-add-row-at c = omega (arith, c .before .before .before .before .before .before .loop .inv .1)
+add-row-at c = omega (arith, at-loop c .loop .inv .1)
 
 add-r : tie.Need-add-r Inv-loop μ-loop
 add-r c = omega arith
@@ -90,7 +100,7 @@ returns : tie.Need-returns Inv-loop μ-loop
 unfolding items
 returns c =
     let l = c .before .loop in
-    let none : c .before .before .before .before .before .before .args .k - l .r ≡ 0 = omega arith in
+    let none : start-of-loop c .args .k - l .r ≡ 0 = omega arith in
     none-left (rw (none, rows-none) at (l .inv .2))
 
 pub put-rows-spec : {M : Type 1} → statement M

@@ -17,6 +17,10 @@ use Rattle.build.proofs.Writing.{untils-few, nodes-few, rows-few, helpe
 use Rattle.build.proofs.message.write.Statement.{statement}
 use Rattle.build.proofs.message.write.Tie as tie
 
+-- the places that the facts below look back to
+abbrev start : tie.After-put-header-arg → tie.Start
+start c = c .before .before .before .before .before
+
 -- the four parts
 abbrev header : tie.Start → List ℕ
 header s = let a = s .args in writeHeader (a .long) (a .n * (a .k + a .untils)) (a .hypers) (a .n * a .untils)
@@ -43,25 +47,25 @@ few s = nodes-few (s .pre .0) (s .pre .1 .1 .0) (s .pre .1 .1 .1 .0) (s .pre .1 
 
 add-put-header : tie.Need-add-put-header
 add-put-header c =
-    let s = c .before .before .before .before .before in
+    let s = start c in
     omega (arith, untils-few (s .pre .1 .1 .0), s .pre .1 .1 .0 .rows-fit, s .pre .1 .1 .1 .0)
 
 mul-put-header : tie.Need-mul-put-header
-mul-put-header c = omega (arith, few (c .before .before .before .before .before))
+mul-put-header c = omega (arith, few (start c))
 
 mul-put-header-2 : tie.Need-mul-put-header-2
 mul-put-header-2 c =
-    let s = c .before .before .before .before .before in
+    let s = start c in
     let below : s .args .n * s .args .untils ≤ s .args .n * (s .args .k + s .args .untils) = mul-le-mul-left (s .args .n) (omega arith) in
     omega (arith, few s)
 
 put-header-requires : tie.Need-put-header-requires
-put-header-requires c κs = let s = c .before .before .before .before .before in omega (arith, fit s .0, header-length (s .args .long) (s .args .n * (s .args .k + s .args .untils)) (s .args .hypers) (s .args .n * s .args .untils))
+put-header-requires c κs = let s = start c in omega (arith, fit s .0, header-length (s .args .long) (s .args .n * (s .args .k + s .args .untils)) (s .args .hypers) (s .args .n * s .args .untils))
 
 put-rows-requires : tie.Need-put-rows-requires
 put-rows-requires c κs =
     let head = c .before .before .before in
-    let s = head .before .before .before .before .before .before in
+    let s = start (head .before) in
     let few = rows-few (s .pre .0) (s .pre .1 .1 .0) (s .pre .1 .1 .1 .0) (s .pre .1 .1 .1 .1) in
     (s .pre .0, (s .pre .1 .0, (s .pre .1 .1 .0, (few, fits (head .put-header .ensures) (rows s) (fit s .1)))))
 
@@ -69,7 +73,7 @@ put-helpers-requires : tie.Need-put-helpers-requires
 put-helpers-requires c κs =
     let done = c .before .before .before in
     let head = done .before .before .before .before in
-    let s = head .before .before .before .before .before .before in
+    let s = start (head .before) in
     let fine = helpers-fit (s .pre .0) (s .pre .1 .1 .0) (s .pre .1 .1 .1 .0) (s .pre .1 .1 .1 .1) in
     (s .pre .0, (s .pre .1 .0, (s .pre .1 .1 .0, (fine, fits (head .put-header .ensures then done .put-rows .ensures) (helpers s) (fit s .2)))))
 
@@ -78,7 +82,7 @@ put-covers-requires c κs =
     let last = c .before .before .before in
     let done = last .before .before .before .before in
     let head = done .before .before .before .before in
-    let s = head .before .before .before .before .before .before in
+    let s = start (head .before) in
     let before = head .put-header .ensures then done .put-rows .ensures then last .put-helpers .ensures in
     (s .pre .1 .1 .0, (rw (← (s .pre .1 .1 .1 .0)) (few s), fits before (covers s) (fit s .3)))
 
@@ -91,7 +95,7 @@ returns c =
     let last = end .before .before .before .before in
     let done = last .before .before .before .before in
     let head = done .before .before .before .before in
-    let s = head .before .before .before .before .before .before in
+    let s = start (head .before) in
     let all = head .put-header .ensures then done .put-rows .ensures then last .put-helpers .ensures then end .put-covers .ensures in
     let parts = written-parts (s .pre .0) (s .pre .1 .1 .0) (s .pre .1 .1 .1 .0) (s .pre .1 .1 .1 .1) in
     all .room-is ∙ ap (laid (now (s .args .room)) 0) (sym parts)

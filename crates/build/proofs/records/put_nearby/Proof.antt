@@ -28,6 +28,10 @@ Inv-loop room₀ at m n q v first many close most shift width end next₀ p₀ i
 abbrev μ-loop : tie.MeasureT-loop
 μ-loop room₀ at m n q v first many close most shift width end next₀ p₀ i₀ room next p i = i
 
+-- the places that the facts below look back to
+abbrev in-loop : tie.After-slice-known2 Inv-loop μ-loop → tie.In-loop Inv-loop μ-loop
+in-loop c = c .before .before .before .before .before .before
+
 -- what is to be written, transition by transition, and how long that is
 abbrev whole : tie.Start Inv-loop μ-loop → List ℕ
 whole s = let a = s .args in nearbyBytes (a .q) (a .v) (a .most) (a .shift) (transitionsFrom (now (a .m)) (a .n) (a .first) (a .many))
@@ -103,7 +107,7 @@ put-near-requires c κs =
     near-fits _ _ _ _ _ (λ u. near-long _ _ _) (turn .before .loop .inv) (short turn)
 
 loop-less : tie.Need-loop-less Inv-loop μ-loop
-loop-less c = omega (arith, some (c .before .before .before .before .before .before .before))
+loop-less c = omega (arith, some (in-loop (c .before)))
 
 loop-again : tie.Need-loop-again Inv-loop μ-loop
 loop-again c =
@@ -113,7 +117,7 @@ loop-again c =
     near-stays _ _ _ _ _ (λ u. near-long _ _ _) (turn .before .loop .inv) (short turn) (read .before .number-at .ensures) (read .number-at2 .ensures) (put .put-near .ensures) (c .if1 .taken)
 
 loop-less-2 : tie.Need-loop-less-2 Inv-loop μ-loop
-loop-less-2 c = omega (arith, some (c .before .before .before .before .before .before .before))
+loop-less-2 c = omega (arith, some (in-loop (c .before)))
 
 loop-again-2 : tie.Need-loop-again-2 Inv-loop μ-loop
 loop-again-2 c =

@@ -25,6 +25,13 @@ Inv-loop room₀ at m n q v first many left shift next₀ p₀ i₀ room next p 
 abbrev μ-loop : tie.MeasureT-loop
 μ-loop room₀ at m n q v first many left shift next₀ p₀ i₀ room next p i = i
 
+-- the places that the facts below look back to
+abbrev start : tie.In-loop Inv-loop μ-loop → tie.Start Inv-loop μ-loop
+start c = c .before .before .before .before .before
+
+abbrev in-loop : tie.After-slice-known2 Inv-loop μ-loop → tie.In-loop Inv-loop μ-loop
+in-loop c = c .before .before .before .before .before .before
+
 transition-at-requires : tie.Need-transition-at-requires Inv-loop μ-loop
 transition-at-requires c κs = tt
 
@@ -34,7 +41,7 @@ loop-holds c =
     filling-all _ _ _ (s .pre .0) _ _ _ refl (s .pre .1) (c .transition-at .ensures)
 
 -- the next transition lies inside
-inside : (c : tie.In-loop Inv-loop μ-loop) → c .before .loop .p + transitionWidth ≤ length (now (c .before .before .before .before .before .args .m))
+inside : (c : tie.In-loop Inv-loop μ-loop) → c .before .loop .p + transitionWidth ≤ length (now (start c .args .m))
 inside c = next-readable _ _ _ (c .before .loop .inv) (c .loop-test .taken)
 
 add-number-at : tie.Need-add-number-at Inv-loop μ-loop
@@ -52,7 +59,7 @@ number-at-requires-2 c κs = omega (arith, inside (c .before))
 add-put-step : tie.Need-add-put-step Inv-loop μ-loop
 add-put-step c =
     let turn = c .before .before .before in
-    omega (arith, next-named _ _ _ (turn .before .loop .inv) (turn .loop-test .taken) (c .before .number-at2 .ensures), turn .before .before .before .before .before .pre .0 .shift-fits)
+    omega (arith, next-named _ _ _ (turn .before .loop .inv) (turn .loop-test .taken) (c .before .number-at2 .ensures), start turn .pre .0 .shift-fits)
 
 put-step-requires : tie.Need-put-step-requires Inv-loop μ-loop
 put-step-requires c κs =
@@ -60,7 +67,7 @@ put-step-requires c κs =
     next-fits _ _ _ (turn .before .loop .inv) (turn .loop-test .taken) (c .before .before .number-at .ensures) (c .before .number-at2 .ensures)
 
 add-p : tie.Need-add-p Inv-loop μ-loop
-add-p c = omega (arith, inside (c .before .before .before .before .before .before))
+add-p c = omega (arith, inside (in-loop c))
 
 sub-i : tie.Need-sub-i Inv-loop μ-loop
 sub-i c = omega arith

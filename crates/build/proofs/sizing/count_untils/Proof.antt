@@ -23,11 +23,15 @@ Inv-loop f k p untils₀ at₀ i₀ untils at i =
 abbrev μ-loop : tie.MeasureT-loop
 μ-loop f k p untils₀ at₀ i₀ untils at i = i
 
+-- the places that the facts below look back to
+abbrev start : tie.After-row-at Inv-loop μ-loop → tie.Start Inv-loop μ-loop
+start c = c .before .before .before .before
+
 -- whether the next row is an until
-until : (c : tie.After-enum-told Inv-loop μ-loop) → isUntil (rowAt (now (c .before .before .before .before .before .before .args .f)) (c .before .before .before .before .loop .at)) ≡ true
+until : (c : tie.After-enum-told Inv-loop μ-loop) → isUntil (rowAt (now (start (c .before .before) .args .f)) (c .before .before .before .before .loop .at)) ≡ true
 until c = ap isUntil (sym (c .before .before .row-at .ensures) ∙ c .enum-told .given .1)
 
-other : (c : tie.At-match-keys2 Inv-loop μ-loop) → isUntil (rowAt (now (c .before .before .before .before .before .args .f)) (c .before .before .before .loop .at)) ≡ false
+other : (c : tie.At-match-keys2 Inv-loop μ-loop) → isUntil (rowAt (now (start (c .before) .args .f)) (c .before .before .before .loop .at)) ≡ false
 other c = ap isUntil (sym (c .before .row-at .ensures)) ∙ other-tag (c .before .row-at .result) (c .match .keys2)
 
 loop-holds : tie.Need-loop-holds Inv-loop μ-loop
@@ -48,8 +52,8 @@ enum-told c = search needs
 add-untils : tie.Need-add-untils Inv-loop μ-loop
 add-untils c =
     let l = c .before .before .before .before .loop in
-    let f = now (c .before .before .before .before .before .before .args .f) in
-    let k = c .before .before .before .before .before .before .args .k in
+    let f = now (start (c .before .before) .args .f) in
+    let k = start (c .before .before) .args .k in
     omega (arith, passing-here (rowLayout f) isUntil (l .i) (l .at) (omega arith) (until c), passing-le (rowLayout f) isUntil k formulaHeader)
 
 loop-less : tie.Need-loop-less Inv-loop μ-loop
@@ -58,7 +62,7 @@ loop-less c = omega arith
 loop-again : tie.Need-loop-again Inv-loop μ-loop
 loop-again c =
     let l = c .before .before .before .before .loop in
-    let f = now (c .before .before .before .before .before .before .args .f) in
+    let f = now (start (c .before .before) .args .f) in
     (omega arith, omega (arith, passing-here (rowLayout f) isUntil (l .i) (l .at) (omega arith) (until c)))
 
 loop-less-2 : tie.Need-loop-less-2 Inv-loop μ-loop
@@ -67,7 +71,7 @@ loop-less-2 c = omega arith
 loop-again-2 : tie.Need-loop-again-2 Inv-loop μ-loop
 loop-again-2 c =
     let l = c .before .before .before .loop in
-    let f = now (c .before .before .before .before .before .args .f) in
+    let f = now (start (c .before) .args .f) in
     (omega arith, omega (arith, passing-there (rowLayout f) isUntil (l .i) (l .at) (omega arith) (other c)))
 
 returns : tie.Need-returns Inv-loop μ-loop

@@ -10,6 +10,10 @@ use borrow.Author.Needs.{needs}
 use Rattle.build.proofs.sizing.row_size.Statement.{statement}
 use Rattle.build.proofs.sizing.row_size.Tie as tie
 
+-- the places that the facts below look back to
+abbrev start : tie.After-next-size → tie.Start
+start c = c .before .before .before .before .before .before
+
 enum-told : tie.Need-enum-told
 enum-told c = search needs
 
@@ -80,7 +84,7 @@ returns-6 c = rw (c .enum-told4 .given .1)
 
 returns-7 : tie.Need-returns-7
 returns-7 c =
-    let s = c .before .before .before .before .before .before in
+    let s = start c in
     let v = c .before .before .before .row3 .given .0 in
     let M = heldModel (now (s .args .m)) (s .args .n) (s .args .p) (s .args .t) in
     rw (c .before .before .before .row3 .given .1)

@@ -25,6 +25,10 @@ Inv-loop m n p t table row sum₀ a₀ sum a =
 abbrev μ-loop : tie.MeasureT-loop
 μ-loop m n p t table row sum₀ a₀ sum a = n - a
 
+-- the places that the facts below look back to
+abbrev at-loop : tie.After-shared-slice-known3 Inv-loop μ-loop → tie.At-loop Inv-loop μ-loop
+at-loop c = c .before .before
+
 abbrev heldIn : tie.Start Inv-loop μ-loop → Model
 heldIn c = heldModel (now (c .args .m)) (c .args .n) (c .args .p) (c .args .t)
 
@@ -44,28 +48,28 @@ few c = omega (arith, own c .inside, c .before .before .before .before .pre .0 .
 
 -- the two sizes are the state's, so the sum and the rest make the whole, and the sum is small
 state : (c : tie.After-helper-size Inv-loop μ-loop) →
-    let a = c .before .before .before .before .before .before .before .before in
-    sizeOf (stateEdges (heldIn a) (a .args .row) (c .before .before .before .before .before .loop .a)) ≡ addSize (c .before .row-size .result) (c .helper-size .result)
+    let a = at-loop (c .before .before .before) .before .before .before in
+    sizeOf (stateEdges (heldIn a) (a .args .row) (at-loop (c .before .before .before) .loop .a)) ≡ addSize (c .before .row-size .result) (c .helper-size .result)
 state c =
-    let a = c .before .before .before .before .before .before .before .before in
-    state-size (heldIn a) (a .args .row) (c .before .before .before .before .before .loop .a) (out-own (a .pre .0) (own (c .before .before .before .before))) (c .before .row-size .ensures) (c .helper-size .ensures)
+    let a = at-loop (c .before .before .before) .before .before .before in
+    state-size (heldIn a) (a .args .row) (at-loop (c .before .before .before) .loop .a) (out-own (a .pre .0) (own (c .before .before .before .before))) (c .before .row-size .ensures) (c .helper-size .ensures)
 
 whole : (c : tie.After-helper-size Inv-loop μ-loop) →
-    let a = c .before .before .before .before .before .before .before .before in
-    let l = c .before .before .before .before .before .loop in
+    let a = at-loop (c .before .before .before) .before .before .before in
+    let l = at-loop (c .before .before .before) .loop in
     let f = stateEdges (heldIn a) (a .args .row) in
     addSize (addSize (l .sum) (addSize (c .before .row-size .result) (c .helper-size .result))) (sizeOf (span f (l .a + 1) (a .args .n - (l .a + 1)))) ≡ sizeOf (span f 0 (a .args .n))
 whole c =
-    let a = c .before .before .before .before .before .before .before .before in
-    let l = c .before .before .before .before .before .loop in
+    let a = at-loop (c .before .before .before) .before .before .before in
+    let l = at-loop (c .before .before .before) .loop in
     let one = addSize (c .before .row-size .result) (c .helper-size .result) in
     size-turn (stateEdges (heldIn a) (a .args .row)) (l .a) (a .args .n) (l .sum) one (l .inv .1) (c .before .before .before .before .loop-test .taken) (state c)
 
-fits : (c : tie.After-helper-size Inv-loop μ-loop) → Small 67108864 (addSize (c .before .before .before .before .before .loop .sum) (addSize (c .before .row-size .result) (c .helper-size .result)))
+fits : (c : tie.After-helper-size Inv-loop μ-loop) → Small 67108864 (addSize (at-loop (c .before .before .before) .loop .sum) (addSize (c .before .row-size .result) (c .helper-size .result)))
 unfolding heldModel
 fits c =
-    let a = c .before .before .before .before .before .before .before .before in
-    let l = c .before .before .before .before .before .loop in
+    let a = at-loop (c .before .before .before) .before .before .before in
+    let l = at-loop (c .before .before .before) .loop in
     small-part (addSize (l .sum) (addSize (c .before .row-size .result) (c .helper-size .result))) (sizeOf (span (stateEdges (heldIn a) (a .args .row)) (l .a + 1) (a .args .n - (l .a + 1))))
     (whole c) (states-small (heldIn a) (transitions-few (a .pre .0)) (states-few (a .pre .0)) (a .args .row))
 
@@ -88,7 +92,7 @@ add-many : tie.Need-add-many Inv-loop μ-loop
 add-many c = omega arith
 
 mul-many : tie.Need-mul-many Inv-loop μ-loop
-mul-many c = omega (arith, states-few (c .before .before .before .before .before .pre .0))
+mul-many c = omega (arith, states-few (at-loop c .before .before .before .pre .0))
 
 shared-slice-read-many : tie.Need-shared-slice-read-many Inv-loop μ-loop
 shared-slice-read-many c = omega arith
@@ -96,11 +100,11 @@ shared-slice-read-many c = omega arith
 sub-many : tie.Need-sub-many Inv-loop μ-loop
 sub-many c =
     let l = c .before .before .before .loop in
-    let starts = c .before .before .before .before .before .before .pre .1 .1 in
+    let starts = at-loop (c .before) .before .before .before .pre .1 .1 in
     rw add-one (starts .rising (l .a) (c .before .before .loop-test .taken))
 
 row-size-requires : tie.Need-row-size-requires Inv-loop μ-loop
-row-size-requires c κs = (c .before .before .before .before .before .before .pre .0, own (c .before .before))
+row-size-requires c κs = (at-loop (c .before) .before .before .before .pre .0, own (c .before .before))
 
 cast-helper-size : tie.Need-cast-helper-size Inv-loop μ-loop
 cast-helper-size c = omega (arith, few (c .before .before .before))
@@ -123,7 +127,7 @@ loop-less c = omega arith
 loop-again : tie.Need-loop-again Inv-loop μ-loop
 loop-again c =
     let h = c .before .before in
-    let l = h .before .before .before .before .before .loop in
+    let l = at-loop (h .before .before .before) .loop in
     let sum : c .plus2 .result ≡ addSize (l .sum) (addSize (h .before .row-size .result) (h .helper-size .result)) =
     c .plus2 .ensures ∙ ap (λ (z : Size). addSize z (h .helper-size .result)) (c .before .plus .ensures) ∙ add-assoc (l .sum) (h .before .row-size .result) (h .helper-size .result) in
     (omega arith, rw sum (whole h))

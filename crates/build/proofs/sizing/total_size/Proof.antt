@@ -27,18 +27,22 @@ Inv-loop m n p t table f k sum₀ at₀ i₀ sum at i =
 abbrev μ-loop : tie.MeasureT-loop
 μ-loop m n p t table f k sum₀ at₀ i₀ sum at i = i
 
+-- the places that the facts below look back to
+abbrev start : tie.After-row-at Inv-loop μ-loop → tie.Start Inv-loop μ-loop
+start c = c .before .before .before .before .before .before
+
 abbrev heldIn : tie.Start Inv-loop μ-loop → Model
 heldIn c = heldModel (now (c .args .m)) (c .args .n) (c .args .p) (c .args .t)
 
 -- with the row's size the sum, and the rest, make the whole, and the sum is small
 whole : (c : tie.After-row-total Inv-loop μ-loop) →
-    let a = c .before .before .before .before .before .before .before in
+    let a = start (c .before) in
     let l = c .before .before .before .loop in
     let rest = items (rowLayout (now (a .args .f))) (l .i - 1) (l .at + rowWidth) in
     addSize (addSize (l .sum) (c .row-total .result)) (sizeOf (rowsEdges (heldIn a) rest)) ≡ sizeOf (rowsEdges (heldIn a) (heldRows (now (a .args .f)) (a .args .k)))
 unfolding heldModel
 whole c =
-    let a = c .before .before .before .before .before .before .before in
+    let a = start (c .before) in
     let l = c .before .before .before .loop in
     let L = rowLayout (now (a .args .f)) in
     let here = sym (ap (λ (rows : List Row). addSize (l .sum) (sizeOf (rowsEdges (heldIn a) rows))) (items-more L (l .i) (l .at) (c .before .before .loop-test .taken))) in
@@ -48,7 +52,7 @@ whole c =
 fits : (c : tie.After-row-total Inv-loop μ-loop) → Small 4294967296 (addSize (c .before .before .before .loop .sum) (c .row-total .result))
 unfolding heldModel
 fits c =
-    let a = c .before .before .before .before .before .before .before in
+    let a = start (c .before) in
     let l = c .before .before .before .loop in
     let f = now (a .args .f) in
     let all = rows-small (heldIn a) (transitions-few (a .pre .0)) (states-few (a .pre .0)) (heldRows f (a .args .k)) in
@@ -63,7 +67,7 @@ row-at-requires : tie.Need-row-at-requires Inv-loop μ-loop
 row-at-requires c κs = omega arith
 
 row-total-requires : tie.Need-row-total-requires Inv-loop μ-loop
-row-total-requires c κs = (c .before .before .before .before .before .before .pre .0, c .before .before .before .before .before .before .pre .1 .0)
+row-total-requires c κs = (start c .pre .0, start c .pre .1 .0)
 
 plus-requires : tie.Need-plus-requires Inv-loop μ-loop
 plus-requires c κs = omega (arith, fits c)

@@ -28,6 +28,10 @@ Inv-loop m n first many most at₀ i₀ near₀ at i near =
 abbrev μ-loop : tie.MeasureT-loop
 μ-loop m n first many most at₀ i₀ near₀ at i near = i
 
+-- the places that the facts below look back to
+abbrev start-of-transition-at : tie.After-transition-at Inv-loop μ-loop → tie.Start Inv-loop μ-loop
+start-of-transition-at c = c .before .before .before .before .before
+
 enum-known-bound : tie.Need-enum-known-bound Inv-loop μ-loop
 enum-known-bound c = search needs
 
@@ -45,7 +49,7 @@ transition-at-requires c κs = tt
 
 loop-holds : tie.Need-loop-holds Inv-loop μ-loop
 loop-holds c =
-    let a = c .before .before .before .before .before .args in
+    let a = start-of-transition-at c .args in
     let most = c .before .before .bound .given .0 .0 in
     let same = ap (passing (transitionLayout (now (a .m))) (test most) (a .many)) (c .transition-at .ensures) in
     (omega (arith, c .transition-at .ensures), omega (arith, same))

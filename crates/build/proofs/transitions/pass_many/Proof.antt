@@ -17,6 +17,10 @@ Inv-loop m n p t a first i₀ i =
 abbrev μ-loop : tie.MeasureT-loop
 μ-loop m n p t a first i₀ i = t - i
 
+-- the places that the facts below look back to
+abbrev start : tie.Else1 Inv-loop μ-loop → tie.Start Inv-loop μ-loop
+start c = c .before .before .before .before .before .before
+
 loop-holds : tie.Need-loop-holds Inv-loop μ-loop
 loop-holds c = (omega arith, c .before .pre .1 .0, refl, c .before .pre .1 .1)
 
@@ -37,13 +41,13 @@ returns c = let l = c .before .before .before .before .loop in (l .inv .0, l .in
 
 -- sixteen more leave the state
 more : (c : tie.Else1 Inv-loop μ-loop) →
-    let a = c .before .before .before .before .before .before .args in
+    let a = start c .args in
     let i = c .before .before .before .before .loop .i in
     (leading (a .a) (transitionsFrom (now (a .m)) (a .n) i (a .t - i))
     ≡ 15 + 1 + leading (a .a) (transitionsFrom (now (a .m)) (a .n) (i + (15 + 1)) (a .t - (i + (15 + 1)))))
     × RiseFrom (a .a) (transitionsFrom (now (a .m)) (a .n) (i + (15 + 1)) (a .t - (i + (15 + 1))))
 more c =
-    let a = c .before .before .before .before .before .before .args in
+    let a = start c .args in
     let l = c .before .before .before .before .loop in
     let at = ap (number 2 (now (a .m))) (c .before .before .transition-at .ensures) in
     leading-many (now (a .m)) (a .n) (a .t) (a .a) (l .i) 15 (omega arith) (l .inv .3) (omega (arith, at, c .before .number-at .ensures, c .if1 .left))

@@ -17,6 +17,10 @@ Inv-loop m n p t a first i₀ i =
 abbrev μ-loop : tie.MeasureT-loop
 μ-loop m n p t a first i₀ i = t - i
 
+-- the places that the facts below look back to
+abbrev start : tie.After-transition-at Inv-loop μ-loop → tie.Start Inv-loop μ-loop
+start c = c .before .before .before .before .before
+
 pass-many-requires : tie.Need-pass-many-requires Inv-loop μ-loop
 pass-many-requires c κs = (c .before .pre .0, c .before .pre .1)
 
@@ -27,20 +31,20 @@ transition-at-requires : tie.Need-transition-at-requires Inv-loop μ-loop
 transition-at-requires c κs = tt
 
 number-at-requires : tie.Need-number-at-requires Inv-loop μ-loop
-number-at-requires c κs = omega (arith, c .transition-at .ensures, c .before .before .before .before .before .pre .0 .long)
+number-at-requires c κs = omega (arith, c .transition-at .ensures, start c .pre .0 .long)
 
 -- what was read is where the transition leaves from
 read : (c : tie.After-number-at Inv-loop μ-loop) →
-    let a = c .before .before .before .before .before .before .args in
+    let a = start (c .before) .args in
     c .number-at .result ≡ number 2 (now (a .m)) (transitionAt (a .n) (c .before .before .before .loop .i))
 read c =
-    let a = c .before .before .before .before .before .before .args in
+    let a = start (c .before) .args in
     c .number-at .ensures ∙ ap (number 2 (now (a .m))) (c .before .transition-at .ensures)
 
 returns : tie.Need-returns Inv-loop μ-loop
 returns c =
     let l = c .before .before .before .before .loop in
-    let a = c .before .before .before .before .before .before .before .args in
+    let a = start (c .before .before) .args in
     let other = leading-stop (now (a .m)) (a .n) (a .t) (a .a) (l .i) (omega arith) (omega (arith, read (c .before))) in
     (omega arith, omega arith, omega arith)
 
@@ -53,7 +57,7 @@ loop-less c = omega arith
 loop-again : tie.Need-loop-again Inv-loop μ-loop
 loop-again c =
     let l = c .before .before .before .before .loop in
-    let a = c .before .before .before .before .before .before .before .args in
+    let a = start (c .before .before) .args in
     let more = leading-more (now (a .m)) (a .n) (a .t) (a .a) (l .i) (omega arith) (omega (arith, read (c .before))) in
     (omega arith, omega arith, omega arith)
 
