@@ -110,7 +110,8 @@ uint8_t otzarvim_formula_check(const uint8_t *message, size_t message_length, ui
  * Runs the rounds on a graph message of n nodes, until a round changes nothing or the budget is spent.
  *
  *   message, message_length   the bytes; only read
- *   budget                    how many rounds at most; n * (c + 1) always suffices, with c cover edges
+ *   budget                    how many rounds at most; n * (c + 1) always suffices, with c cover edges, and n
+ *                             where no cycle passes through a cover edge
  *   room, room_length         so many numbers; below 2n is ROOM; OTZARVIM_MOST_VALUES always suffice
  *   count                     gets m, the smaller of the budget and the first round that the next repeats
  *
@@ -161,8 +162,8 @@ uint8_t otzarvim_formula_text(const uint8_t *message, size_t message_length, uin
  *   model, model_length       the bytes of a model message (kind 2); only read
  *   formula, formula_length   the bytes of a formula message (kind 3); only read
  *   state                     which state, counted from 0; one that doesn't exist is NAME
- *   budget                    how many rounds at most; UINT32_MAX always suffices, and so does n * (c + 1)
- *                             where the graph has n nodes and c cover edges
+ *   budget                    how many rounds at most; n always suffices where the graph has n nodes, so
+ *                             OTZARVIM_MOST_NODES does
  *   bytes, bytes_length       so many bytes for the graph's message; OTZARVIM_MOST_GRAPH always suffice
  *   values, values_length     so many numbers for two rounds; OTZARVIM_MOST_VALUES always suffice
  *   verdict                   gets OTZARVIM_YES or OTZARVIM_NO with OK, else OTZARVIM_NONE

@@ -47,7 +47,7 @@ static uint8_t ask(uint8_t bound, uint32_t state)
     uint32_t count;
     size_t length;
     formula[sizeof formula - 1] = bound;
-    uint8_t number = otzarvim_verdict(model, sizeof model, formula, sizeof formula, state, UINT32_MAX, bytes, sizeof bytes, values,
+    uint8_t number = otzarvim_verdict(model, sizeof model, formula, sizeof formula, state, OTZARVIM_MOST_NODES, bytes, sizeof bytes, values,
                                       OTZARVIM_MOST_VALUES, &verdict, &count, &length);
     printf("A[true U<=%u interpreted] from %s: ", bound, names[state]);
     if (number == OTZARVIM_OK)
@@ -65,7 +65,7 @@ int main(void)
     /* All states at once. */
     uint32_t count, states[2];
     size_t length;
-    uint8_t number = otzarvim_settle(model, sizeof model, formula, sizeof formula, UINT32_MAX, bytes, sizeof bytes, values,
+    uint8_t number = otzarvim_settle(model, sizeof model, formula, sizeof formula, OTZARVIM_MOST_NODES, bytes, sizeof bytes, values,
                                      OTZARVIM_MOST_VALUES, &count, &length, states);
     if (number != OTZARVIM_OK)
         return 1;

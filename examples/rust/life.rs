@@ -4,7 +4,7 @@
 //! The bytes are those of
 //! `tools/otz compile examples/formula_life.otz 'A[true U<=42 interpreted]' -o - | od -An -v -tu1`
 
-use otzarvim::{Answer, Refusal, Verdict, MOST_GRAPH, MOST_VALUES};
+use otzarvim::{Answer, Refusal, Verdict, MOST_GRAPH, MOST_ROUNDS, MOST_VALUES};
 
 const NAMES: [&str; 6] = ["cold", "hot", "speculated", "guard_failed", "interpreted", "retired"];
 const GUARD_FAILED: u32 = 3;
@@ -42,7 +42,7 @@ fn main() -> Result<(), Refusal> {
     let (mut bytes, mut values) = (vec![0; MOST_GRAPH], vec![0; MOST_VALUES]);
     for bound in [42, 41] {
         print!("A[true U<={bound} interpreted] from guard_failed: ");
-        match otzarvim::verdict(&MODEL, &formula(bound), GUARD_FAILED, u32::MAX, &mut bytes, &mut values)? {
+        match otzarvim::verdict(&MODEL, &formula(bound), GUARD_FAILED, MOST_ROUNDS, &mut bytes, &mut values)? {
             Answer::Decided { verdict, count, length } => {
                 let word = if verdict == Verdict::Yes { "yes" } else { "no" };
                 println!("{word}, after {count} rounds on a graph of {length} bytes");

@@ -49,9 +49,8 @@ fn answered(input: &[u8]) -> Result<String, Fault> {
     let (graph, _) = verdict::build_in(&model, &rows, GRAPH_ROOM, VALUE_ROOM)?;
     let text = text::text(&rows);
     CALL.demand(text.len() <= TEXT_ROOM, Number::Room, "text room")?;
-    // "budget n(c + 1)"
-    let budget = graph.nodes as u32 * (graph.covers.len() as u32 + 1);
-    let report = rounds::run(&graph, budget);
+    // "The program's budget becomes n": document 02, request 5
+    let report = rounds::run(&graph, graph.nodes as u32);
     CALL.demand(report.settled, Number::Budget, "budget")?;
     verdict::check_by_runs(&model, &rows, &report);
     let mut lines = format!("{text}\nrounds {}\n", report.rounds);

@@ -117,10 +117,39 @@ pub fn run(graph: &Graph, budget: u32) -> Report {
     }
 }
 
-/// The program's budget, n(c + 1), must suffice for every graph.
+/// A budget of n(c + 1) must suffice for every graph; and "on a graph where no cycle passes through a
+/// cover edge the count is at most n" (document 02, request 5).
 fn check_count(graph: &Graph, rounds: u32) {
     let most = graph.nodes as u64 * (graph.covers.len() as u64 + 1);
     assert!(u64::from(rounds) <= most, "{rounds} rounds on {graph:?}");
+    assert!(
+        rounds as usize <= graph.nodes || has_cover_cycle(graph),
+        "{rounds} rounds on {graph:?}"
+    );
+}
+
+/// "a cycle going from a source to any target of its hyperedges or cover edges"
+pub fn has_cover_cycle(graph: &Graph) -> bool {
+    let nodes = edges_by_node(graph);
+    graph
+        .covers
+        .iter()
+        .any(|edge| reached(&nodes, edge.target)[edge.source])
+}
+
+/// The nodes that walks from a node lead to, itself among them.
+fn reached(nodes: &[Edges], from: usize) -> Vec<bool> {
+    let mut seen = vec![false; nodes.len()];
+    let mut waiting = vec![from];
+    while let Some(node) = waiting.pop() {
+        if !seen[node] {
+            seen[node] = true;
+            let along = nodes[node].hyperedges.iter().flat_map(|edge| &edge.targets);
+            waiting.extend(along.map(|target| target.node));
+            waiting.extend(nodes[node].covers.iter().map(|edge| edge.target));
+        }
+    }
+    seen
 }
 
 impl Report {

@@ -75,6 +75,10 @@ fn known_graphs() {
         [spent.at, spent.after].concat(),
         known::rounds_of_g()[2..].concat()
     );
+    for known in known::graphs() {
+        let cycle = rounds::has_cover_cycle(&known.graph);
+        assert_eq!(cycle, known.name == "T12", "{}", known.name);
+    }
     report("known graphs", known::graphs().len());
 }
 

@@ -22,7 +22,7 @@ ENTRIES = {
     "rounds": ("solve",),
     "text": ("text",),
     "build": (),
-    "verdict": ("decide", "settle", "graph"),
+    "verdict": ("decide", "settle", "graph", "nodes"),
     "report": ("report", "program"),
     "export": None,
 }

@@ -102,6 +102,9 @@ pub const MOST_GRAPH: usize = 14 + 65_535 * 4 + 262_144 * 6 + 4_096 * 8;
 /// So many numbers hold two rounds of any graph.
 pub const MOST_VALUES: usize = 2 * 4_096;
 
+/// A budget with which every question settles: no graph has more nodes, and none that is built needs more rounds than it has nodes.
+pub const MOST_ROUNDS: u32 = 4_096;
+
 /// Why a call is refused. Each case has the number that C sees; that of a spent budget, 1, is [`Rounds::Spent`], [`Answer::Spent`]
 /// and [`Answers::Spent`].
 #[derive(Clone, Copy, Debug, PartialEq, Eq, Hash)]
@@ -199,7 +202,7 @@ pub struct Graph {
 }
 
 impl Graph {
-    /// A budget with which the rounds always settle.
+    /// A budget with which the rounds always settle. Where no cycle passes through a cover edge, `nodes` is one too.
     ///
     /// ```
     /// let graph = otzarvim::Graph { nodes: 4, hyperedges: 4, covers: 1 };
@@ -489,7 +492,7 @@ pub fn text_of(message: &[u8], propositions: u32) -> Result<String, Refusal> {
 
 /// Decides whether a state of a model satisfies a formula: checks the model, then the formula with the model's propositions, builds
 /// their graph in `bytes` and runs its rounds in `values`. [`MOST_GRAPH`] bytes and [`MOST_VALUES`] numbers always suffice, and so
-/// does a budget of `u32::MAX`.
+/// does a budget of as many rounds as the graph has nodes, or of [`MOST_ROUNDS`].
 ///
 /// ```
 /// use otzarvim::{Answer, Refusal, Verdict};
@@ -666,9 +669,9 @@ pub fn settle<'a>(
 /// ```
 pub fn satisfies(model: &[u8], formula: &[u8], state: u32) -> Result<bool, Refusal> {
     let (mut bytes, mut values) = rooms();
-    match verdict(model, formula, state, u32::MAX, &mut bytes, &mut values)? {
+    match verdict(model, formula, state, MOST_ROUNDS, &mut bytes, &mut values)? {
         Answer::Decided { verdict, .. } => Ok(verdict == Verdict::Yes),
-        Answer::Spent { .. } => unreachable!("no count of rounds is so large"),
+        Answer::Spent { .. } => unreachable!("no question needs so many rounds"),
     }
 }
 
@@ -687,9 +690,9 @@ pub fn satisfies(model: &[u8], formula: &[u8], state: u32) -> Result<bool, Refus
 /// ```
 pub fn satisfying(model: &[u8], formula: &[u8]) -> Result<Vec<bool>, Refusal> {
     let (mut bytes, mut values) = rooms();
-    match settle(model, formula, u32::MAX, &mut bytes, &mut values)? {
+    match settle(model, formula, MOST_ROUNDS, &mut bytes, &mut values)? {
         Answers::Settled { states, .. } => Ok(states.iter().map(|&number| number == 0).collect()),
-        Answers::Spent { .. } => unreachable!("no count of rounds is so large"),
+        Answers::Spent { .. } => unreachable!("no question needs so many rounds"),
     }
 }
 

@@ -5,6 +5,8 @@ mod sizing;
 mod transitions;
 
 ghost use mathlib.Core.Path.{_≡_};
+ghost use Prim.Native.Nat.{_+_, _*_, _≤_};
+ghost use lib.ListN.{length};
 ghost use Rattle.reduction.specs.Built as built;
 ghost use Rattle.build.specs.Held.{heldModel, heldRows, HoldsModel, HoldsRows};
 ghost use Rattle.build.specs.Built.{builtNumber, builtLength, builtOf, roomOf};
@@ -36,6 +38,15 @@ impl Built {
             Built::Refused(_) => 0,
         }
     }
+}
+
+// The number of nodes of the graph of a model with n states and an accepted formula.
+pub fn count_nodes(n: u32, f: &[u8], k: u32, p: u32) -> u32
+    requires { ⌜ n ≤ 256 ⌝ }
+    requires { ⌜ HoldsRows (now f) k p ⌝ }
+    ensures { λ r. ⌜ r ≡ n * (k + length (built.untils (heldRows (now (f .entry)) k))) ⌝ }
+{
+    n * (k + sizing::count_untils(f, k, p))
 }
 
 // The graph of an accepted model and formula: SIZE and ROOM are decided before anything is written.

@@ -84,6 +84,10 @@ G =
 abbrev T10 : ℕ → List Hyper → StoredGraph
 T10 k more = graph 3 (hyper 1 (to 5 2 ∷ []) ∷ more ++ (hyper 2 [] ∷ [])) (cover 0 (Within k) 1 ∷ [])
 
+-- T12: T10 where 1 has also {(0,0)}
+abbrev pub T12 : StoredGraph
+T12 = T10 5 (hyper 1 (to 0 0 ∷ []) ∷ [])
+
 -- a budget of 1, 2 and 3 is BUDGET on G; of 4 it is OK
 abbrev pub known : List Row
 known =
@@ -98,7 +102,7 @@ known =
     ∷ row (graph 2 (hyper 1 [] ∷ []) (cover 0 Unbounded 1 ∷ [])) 9 0 2 (fin 0 ∷ fin 0 ∷ [])
     ∷ row (T10 5 []) 9 0 3 (fin 0 ∷ fin 5 ∷ fin 0 ∷ [])
     ∷ row (T10 4 []) 9 0 2 (inf ∷ fin 5 ∷ fin 0 ∷ [])
-    ∷ row (T10 5 (hyper 1 (to 0 0 ∷ []) ∷ [])) 9 0 4 (fin 0 ∷ fin 0 ∷ fin 0 ∷ [])
+    ∷ row T12 9 0 4 (fin 0 ∷ fin 0 ∷ fin 0 ∷ [])
     ∷ ask T13 9 0 4 (fin 0 ∷ inf ∷ inf ∷ fin 0 ∷ fin 0 ∷ fin 0 ∷ fin 2 ∷ fin 0 ∷ []) (Yes ∷ Yes ∷ [])
     ∷ ask T14 9 0 3 (fin 0 ∷ inf ∷ inf ∷ fin 0 ∷ inf ∷ fin 0 ∷ fin 2 ∷ fin 0 ∷ []) (No ∷ Yes ∷ [])
     ∷ ask T15 9 0 3 (fin 0 ∷ inf ∷ inf ∷ fin 0 ∷ inf ∷ fin 0 ∷ inf ∷ fin 0 ∷ []) (No ∷ Yes ∷ [])

@@ -6,30 +6,26 @@ use native.Mathlib.Nat.{le-refl}
 use lib.ListN.{length}
 use mathlib.Core.Path.{_≡_, refl, subst}
 use mathlib.Core.Logic.{_⊎_, inl, inr}
-use mathlib.Core.Bool.{Bool, true, false, cond, not}
 use mathlib.Core.List.{List, [], _∷_, map, map-append}
 use Rattle.lists.specs.Lists.{_∈_}
 use Rattle.lists.specs.Making.{span}
 use Rattle.lists.specs.Order.{Rising}
 use Rattle.lists.proofs.Making.{∈-keep}
 use Rattle.lists.proofs.Places.{first, second, place-lt, place-∈, ∈-place}
-use Rattle.lists.proofs.Each.{Each, each-none, each-more, each-map}
+use Rattle.lists.proofs.Each.{Each, each-none, each-more}
 use Rattle.lists.proofs.Order.{Between, done, next, between-append, between-rising}
 use Rattle.rules.specs.Graph.{Hyper, Target, Closed}
 use Rattle.graph.specs.WellFormed as graph
-use Rattle.model.specs.Model.{Model, holds}
+use Rattle.model.specs.Model.{Model}
 use Rattle.model.specs.WellFormed as model
-use Rattle.formula.specs.declared.Quantifier.{Quantifier}
-use Rattle.formula.specs.declared.Quantifier.the-variants.{Some, Every}
 use Rattle.formula.specs.declared.Row.{Row}
-use Rattle.formula.specs.declared.Row.the-variants.{True, False, Proposition, Negation, And, Or, Next, Until}
 use Rattle.formula.specs.Rows.{operands}
 use Rattle.formula.specs.WellFormed as formula
 use Rattle.formula.proofs.Trees.{Ordered, ordered}
 use Rattle.runs.specs.Systems.{Leads}
 use Rattle.runs.proofs.Proper.{Proper, proper}
-use Rattle.reduction.specs.Built.{to, out, near, rowEdges, stepEdges, helperEdges, rowCovers, isUntil, untils, layout, hyper, cover, graphOf, Fits}
-use Rattle.reduction.proofs.Out.{∈-any, out-leads, near-leads}
+use Rattle.reduction.specs.Built.{to, stepEdges, helperEdges, rowCovers, isUntil, untils, layout, hyper, cover, graphOf, Fits}
+use Rattle.reduction.proofs.Targets.{row-each, step-each}
 use Rattle.reduction.proofs.Stands.{Stands, of-until, OfRow, OfHelper, hyper-stands, cover-stands, edges, places, node-lt, helper-lt}
 
 -- ---- sources rise: those of a node, of a row, of rows
@@ -76,38 +72,6 @@ module _ (M : Model) (rows : List Row) where
     moved : {a w c r : ℕ} → Leads M a w c → r < places M rows → Made (to w (c + s * r))
 
   module _ (ok : Proper M) where
-    test-made : (t : Bool) → Each (Each Made) (cond t ([] ∷ []) [])
-    test-made true = each-more each-none each-none
-    test-made false = each-none
-
-    row-made : (row : Row) → ((l : ℕ) → l ∈ operands row → l < places M rows) → {a : ℕ} → a < s → Each (Each Made) (rowEdges M row a)
-    row-made True op l = each-more each-none each-none
-    row-made False op l = each-none
-    row-made (Proposition i) op {a} l = test-made (holds M i a)
-    row-made (Negation i) op {a} l = test-made (not (holds M i a))
-    row-made (And j k) op l = each-more (each-more (still l (op j first)) (each-more (still l (op k second)) each-none)) each-none
-    row-made (Or j k) op l =
-        each-more (each-more (still l (op j first)) each-none) (each-more (each-more (still l (op k second)) each-none) each-none)
-    row-made (Next Some j b) op {a} l =
-        each-map (λ (t : Target). to 0 (t .node + s * j) ∷ []) (near M b a)
-        (λ t m. each-more (still (ok .target (near-leads M a b m .0)) (op j first)) each-none)
-    row-made (Next Every j b) op {a} l =
-        each-more
-        (each-map (λ (t : Target). to 0 (t .node + s * j)) (near M b a) (λ t m. still (ok .target (near-leads M a b m .0)) (op j first)))
-        each-none
-    row-made (Until q j k b) op l = each-none
-
-    step-made : (q : Quantifier) {j h a : ℕ} → j < places M rows → h < places M rows → a < s → Each (Each Made) (stepEdges M q j h a)
-    step-made Some {j} {h} {a} p p′ l =
-        each-map (λ (t : Target). to 0 (a + s * j) ∷ to (t .weight) (t .node + s * h) ∷ []) (out M a)
-        (λ t m. each-more (still l p) (each-more (moved (out-leads M a m) p′) each-none))
-    step-made Every {j} {h} {a} p p′ l =
-        let edge : Each (Each Made) ((to 0 (a + s * j) ∷ map (λ (t : Target). to (t .weight) (t .node + s * h)) (out M a)) ∷ []) =
-        each-more
-        (each-more (still l p) (each-map (λ (t : Target). to (t .weight) (t .node + s * h)) (out M a) (λ t m. moved (out-leads M a m) p′)))
-        each-none in
-        record { at = λ ts m. edge .at ts (∈-any (out M a) m .2) }
-
     module _ (order : Ordered rows) where
       operand-lt : {row : Row} → row ∈ rows → (l : ℕ) → l ∈ operands row → l < places M rows
       operand-lt m l n = let (i, at) = ∈-place m in let h = order .earlier i at n in let e = place-lt rows i at in omega arith
@@ -126,14 +90,16 @@ module _ (M : Model) (rows : List Row) where
           go : OfRow M rows h ⊎ OfHelper M rows h → Fine h
           go (inl z) =
               let e = place-lt rows (z .place) (z .at) in
-              from z (omega arith) (row-made (z .row) (operand-lt (place-∈ rows (z .place) (z .at))) (z .below) .at (z .load) (z .there))
+              from z (omega arith)
+              (row-each M ok Made (z .row) (λ l m c k. still k (operand-lt (place-∈ rows (z .place) (z .at)) l m)) (z .below) .at (z .load) (z .there))
           go (inr z) =
               let e = place-lt (untils rows) (z .place) (z .at) in
               let p : z .number < places M rows = omega arith in
               let u = of-until (z .row) (λ q j k b. (to 0 (z .state + s * k) ∷ []) ∷ stepEdges M q j (z .number) (z .state)) (z .there) in
               let op = operand-lt (rw (u .same) at (∈-keep isUntil rows (place-∈ (untils rows) (z .place) (z .at)) .0)) in
               let right = each-more (still (z .below) (op (u .right) second)) each-none in
-              from z p (each-more right (step-made (u .quantifier) (op (u .left) first) p (z .below)) .at (z .load) (u .there))
+              from z p
+              (each-more right (step-each M ok Made (u .quantifier) (u .left) (z .number) (still (z .below) (op (u .left) first)) (λ w c k. moved k p)) .at (z .load) (u .there))
 
       made-lt : {t : Target} → Made t → t .node < graphOf M rows .nodes
       made-lt (still l p) = node-lt M rows l p

@@ -1,31 +1,36 @@
 -- Laws of a report: a state's line says yes exactly when the state satisfies the formula by its maximal runs; so for an input that is read and
--- settles. Assumes nothing.
-use Prim.Native.Nat.{ℕ, _<_}
+-- settles. A budget of n (c + 1) would give the same output. Assumes nothing.
+use Prim.Native.Nat.{ℕ, _+_, _*_, _<_}
 use mathlib.Core.List.{List}
 use mathlib.Core.Bool.{true}
 use mathlib.Core.Logic.{_↔_}
-use mathlib.Core.Path.{_≡_, ap, _∙_}
-use lib.ListN.{take, drop}
+use mathlib.Core.Path.{_≡_, refl, sym, ap, _∙_}
+use lib.ListN.{length, take, drop}
 use Rattle.value.specs.Value.{atMost}
 use Rattle.wire.specs.Bytes.{Bytes}
-use Rattle.wire.specs.Read.{good}
+use Rattle.wire.specs.Read.{Read, good, bad}
 use Rattle.wire.proofs.Bytes.{front-bytes, rest-bytes}
 use Rattle.wire.proofs.Reading.{bind-good}
 use Rattle.rules.specs.Rounds.{rounds}
 use Rattle.rules.specs.Count.{count}
 use Rattle.model.specs.WellFormed as model
 use Rattle.formula.specs.WellFormed as formula
+use Rattle.reduction.proofs.Depths.{built-count}
 use Rattle.build.specs.Built.{fits}
 use Rattle.verdict.specs.Question.{Question, graphFor, ruledFor, rootNode}
 use Rattle.verdict.specs.Answer.{readSettled}
 use Rattle.verdict.specs.Promise.{Asks, Satisfies}
 use Rattle.verdict.proofs.Deciding.{test-when}
-use Rattle.rules.proofs.Count.{count-first}
+use Rattle.rules.proofs.Count.{count-first, count-le}
 use Rattle.verdict.proofs.Finished.{roomed-good}
 use Rattle.verdict.proofs.Fitting.{fits-well}
 use Rattle.verdict.proofs.Promised.{asks}
-use Rattle.report.specs.Output.{readInput, settledLines, outputOf}
-use Rattle.report.proofs.Ended.{outputs}
+use Rattle.report.specs.Output.{readInput, budgetOf, settledLines, outputWithin, outputOf}
+use Rattle.report.proofs.Ended.{within-settles}
+
+-- within its budget every question settles
+pub outputs : (q : Question) → model.WellFormed (q .model) → formula.WellFormed (q .model .propositions) (q .rows) → outputOf (good q) ≡ settledLines q (count (graphFor q))
+outputs q m f = within-settles budgetOf q (built-count m f)
 
 -- the test behind a state's line, once the rounds have settled
 pub line-exactly : (q : Question) → model.WellFormed (q .model) → formula.WellFormed (q .model .propositions) (q .rows) → fits (graphFor q) ≡ true
@@ -53,4 +58,19 @@ pub input-exactly : (s b v : List ℕ) (q : Question) → Bytes s → readInput 
     × ((a : ℕ) → a < q .model .states → (atMost (rounds (ruledFor q) m (rootNode q a)) 0 ≡ true) ↔ Satisfies q a)
 input-exactly s b v q bytes e =
     let (asked, fitting) = input-asks s b v q bytes e in
-    (rw e (outputs q), λ a l. line-exactly q (asked .1 .model-fits) (asked .1 .formula-fits) fitting a l)
+    (rw e (outputs q (asked .1 .model-fits) (asked .1 .formula-fits)), λ a l. line-exactly q (asked .1 .model-fits) (asked .1 .formula-fits) fitting a l)
+
+-- the output is the same for every input as with a budget of n (c + 1)
+pub same-output : (s b v : List ℕ) → Bytes s
+    → outputOf (readInput s b v) ≡ outputWithin (λ q. ruledFor q .nodes * (length (ruledFor q .covers) + 1)) (readInput s b v)
+unfolding outputWithin
+same-output s b v bytes = go (readInput s b v) refl
+  where
+    former : Question → ℕ
+    former q = ruledFor q .nodes * (length (ruledFor q .covers) + 1)
+
+    go : (x : Read Question) → readInput s b v ≡ x → outputOf x ≡ outputWithin former x
+    go (good q) e =
+        let asked = input-asks s b v q bytes e .0 .1 in
+        outputs q (asked .model-fits) (asked .formula-fits) ∙ sym (within-settles former q (count-le (graphFor q)))
+    go (bad r) e = refl

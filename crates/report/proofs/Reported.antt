@@ -19,7 +19,7 @@ use Rattle.report.specs.declared.Cut.{Cut}
 use Rattle.report.specs.declared.Cut.the-variants as Cut
 use Rattle.report.specs.Lines.{refusedLine}
 use Rattle.report.specs.Pieces.{cutOf}
-use Rattle.report.specs.Output.{readCut, readInput, outputOf, leftOf, reportLength, reportOut, reportBytes, reportValues}
+use Rattle.report.specs.Output.{readCut, readInput, outputWithin, outputOf, leftOf, reportLength, reportOut, reportBytes, reportValues}
 
 -- ---- where the model ends
 
@@ -84,5 +84,5 @@ module _ (x : Read Question) (b v o : List ℕ) where
 
   -- and that of a refused input
   pub refusal-reported : {e : Refusal} {r : ℕ} {o′ : List ℕ} → x ≡ bad e → 8192 ≤ length o → Laid o 0 (refusedLine (numberOf e)) o′ r → Reported x b v o r o′ b v
-  unfolding outputOf bytesOf leftOf
+  unfolding outputWithin bytesOf leftOf
   refusal-reported is h l = reported h (rw is l) (rw is) (rw is)

@@ -1,5 +1,5 @@
 -- What the program writes for what it reads.
-use Prim.Native.Nat.{ℕ, _+_, _*_}
+use Prim.Native.Nat.{ℕ}
 use mathlib.Core.List.{List, _++_}
 use mathlib.Core.Bool.{cond}
 use lib.ListN.{length, take, drop, replicate}
@@ -29,9 +29,9 @@ readCut input = do
 unfoldable pub readInput : (input bytes values : List ℕ) → Read Question
 readInput input bytes values = readCut input >>= λ k. readSettled (take k input) (drop k input) bytes values
 
--- the budget is n (c + 1)
+-- the budget is n
 abbrev pub budgetOf : Question → ℕ
-budgetOf question = ruledFor question .nodes * (length (ruledFor question .covers) + 1)
+budgetOf question = ruledFor question .nodes
 
 -- the formula's text, the count of rounds, and for each state yes where the root row's node of the state has value 0, else no
 unfoldable pub settledLines : Question → ℕ → List ℕ
@@ -39,11 +39,14 @@ settledLines question m =
     line (text (rootOf (question .rows))) ++ roundsLine m
     ++ span (λ a. stateLine (atMost (rounds (ruledFor question) m (rootNode question a)) 0) a) 0 (question .model .states)
 
--- any refusal writes only its line
-unfoldable pub outputOf : Read Question → List ℕ
-outputOf (good question) =
-    cond (leb (count (ruledFor question)) (budgetOf question)) (settledLines question (count (ruledFor question))) (refusedLine overBudget)
-outputOf (bad e) = refusedLine (numberOf e)
+-- any refusal writes only its line; BUDGET exactly when the count is greater than the budget
+unfoldable pub outputWithin : (budget : Question → ℕ) → Read Question → List ℕ
+outputWithin budget (good question) =
+    cond (leb (count (ruledFor question)) (budget question)) (settledLines question (count (ruledFor question))) (refusedLine overBudget)
+outputWithin budget (bad e) = refusedLine (numberOf e)
+
+abbrev pub outputOf : Read Question → List ℕ
+outputOf x = outputWithin budgetOf x
 
 -- what is left in the room of values
 unfoldable pub leftOf : Read Question → (values : List ℕ) → List ℕ

@@ -120,14 +120,15 @@ fn put_settled(
     put_states(out, states, values, first as usize, n)
 }
 
-// The output for a model and a formula.
+// The output for a model and a formula; the budget is n.
 fn answer(m: &[u8], f: &[u8], bytes: &mut [u8], values: &mut [u64], out: &mut [u8]) -> usize
     requires { ⌜ 8192 ≤ length (now out) ⌝ }
     ensures { λ r. ⌜ Laid (now (out .entry)) 0 (outputOf (readSettled (now (m .entry)) (now (f .entry)) (now (bytes .entry)) (now (values .entry)))) (now (out .exit)) r ⌝ }
     ensures { λ _. ⌜ now (bytes .exit) ≡ bytesOf (readSettled (now (m .entry)) (now (f .entry)) (now (bytes .entry)) (now (values .entry))) (now (bytes .entry)) ⌝ }
     ensures { λ _. ⌜ now (values .exit) ≡ leftOf (readSettled (now (m .entry)) (now (f .entry)) (now (bytes .entry)) (now (values .entry))) (now (values .entry)) ⌝ }
 {
-    match verdict::settle(m, f, u32::MAX, bytes, values) {
+    let budget = verdict::nodes(m, f);
+    match verdict::settle(m, f, budget, bytes, values) {
         AllStates::Settled(count, _, first, n) => {
             let p = wire::number_at(m, model::PROPOSITIONS_AT, Width::One);
             put_settled(f, p, count, values, first, n, out)

@@ -24,6 +24,7 @@ use Rattle.rules.specs.Count.{count}
 use Rattle.rules.proofs.Order.{largest-agree}
 use Rattle.rules.proofs.Size.{Light, value-bound, heaviest-light}
 use Rattle.rules.proofs.Count.{count-first, count-le, count-largest}
+use Rattle.rules.proofs.Cycles.{free-count}
 use Rattle.graph.specs.Stored.{StoredGraph}
 use Rattle.graph.specs.Message.{readGraph}
 use Rattle.graph.specs.Write.{writeGraph}
@@ -114,6 +115,7 @@ module _ (g : Graph) (wf : WellFormed g) (budget : ℕ) (b₀ : List ℕ) where
     first = count-first g (wf .closed);
     within = within;
     soon = count-le g;
+    sooner = free-count g (wf .closed);
     largest = largest-agree g (wf .closed) (count-largest g (wf .closed)) (first-half g wf (count g) b₀);
   }
 

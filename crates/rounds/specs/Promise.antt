@@ -9,6 +9,7 @@ use Rattle.value.specs.Value.{finite, _≼_}
 use Rattle.rules.specs.Graph.{Graph, heaviest}
 use Rattle.rules.specs.Rounds.{rounds, Largest, Settled}
 use Rattle.rules.specs.Count.{First}
+use Rattle.rules.specs.Walks.{CoverCycle}
 use Rattle.graph.specs.Stored.{StoredGraph, ruled}
 use Rattle.graph.specs.Write.{writeGraph}
 use Rattle.graph.specs.WellFormed.{WellFormed}
@@ -33,8 +34,9 @@ pub record SettledAt (graph : Graph) (budget : ℕ) (room : List ℕ) (reported 
   pub first : First graph reported
   -- the budget allows it
   pub within : reported ≤ budget
-  -- it is at most n (c + 1)
+  -- it is at most n (c + 1), and at most n where no cycle passes through a cover edge
   pub soon : reported ≤ graph .nodes * (length (graph .covers) + 1)
+  pub sooner : ¬ CoverCycle graph → reported ≤ graph .nodes
   -- the first n numbers are the largest assignment that obeys the rules
   pub largest : Largest graph (held room)
 

@@ -13,7 +13,7 @@ use Rattle.lists.specs.Lists.{_∈_, upTo}
 use Rattle.value.specs.Value.{atMost, same, _≼_}
 use Rattle.rules.specs.Graph.{Graph, Cover, Closed}
 use Rattle.rules.specs.Rounds.{holds, rounds, Settled, Largest}
-use Rattle.rules.specs.Count.{unchanged, enough, count, First}
+use Rattle.rules.specs.Count.{unchanged, searchEnd, count, First}
 use Rattle.value.proofs.Values.{≼-up, not-≼, same-eq, eq-same, falls, meets-mono}
 use Rattle.lists.proofs.Lists.{all-true, true-all, firstFrom-le, firstFrom-before, firstFrom-passes}
 use Rattle.lists.proofs.Lists.{tally, tally-le, tally-mono, tally-more, tally-some, upTo-length, ∈-upTo, upTo-∈}
@@ -76,8 +76,8 @@ module _ (g : Graph) (closed : Closed g) where
       by-test (same (rounds g (suc i) v) (rounds g i v)) (same-eq (rounds g (suc i) v) (rounds g i v))
       (λ e. let r = falls (rounds g (suc i) v) (rounds g i v) (rounds-fall g closed i v l) e in absurd (none v (r .0) l (r .1)))
 
-  -- so no round from `enough` on changes anything
-  pub settled-enough : (i : ℕ) → enough g ≤ i → Settled g i
+  -- so no round from n (c + 1) on changes anything
+  pub settled-enough : (i : ℕ) → g .nodes * (length (g .covers) + 1) ≤ i → Settled g i
   unfolding active
   settled-enough i h = no-change-settled i λ v k l f.
       let c : g .nodes * active g i ≤ g .nodes * length (g .covers) = mul-le-mul-left (g .nodes) (tally-le (holds (rounds g i)) (g .covers)) in
@@ -95,19 +95,19 @@ unfolding unchanged
 settled-unchanged g i s = true-all (λ v. same (rounds g (suc i) v) (rounds g i v)) (upTo (g .nodes)) (λ v m. eq-same (s v (∈-upTo (g .nodes) m)))
 
 -- the count is the first round that equals the next one, there is one such only, and it is at most nodes times one more than cover edges
-pub count-le : (g : Graph) → count g ≤ enough g
+pub count-le : (g : Graph) → count g ≤ g .nodes * (length (g .covers) + 1)
 unfolding count
-count-le g = let h = firstFrom-le (unchanged g) (enough g) 0 in omega arith
+count-le g = let h = firstFrom-le (unchanged g) (searchEnd g) 0 in omega arith
 
 pub count-before : (g : Graph) (j : ℕ) → j < count g → ¬ Settled g j
 unfolding count
-count-before g j l s = clash (settled-unchanged g j s) (firstFrom-before (unchanged g) (enough g) 0 j (omega arith) l)
+count-before g j l s = clash (settled-unchanged g j s) (firstFrom-before (unchanged g) (searchEnd g) 0 j (omega arith) l)
 
 pub count-first : (g : Graph) → Closed g → First g (count g)
 unfolding count
 count-first g closed = record {
   settled = unchanged-settled g (count g)
-      (firstFrom-passes (unchanged g) (enough g) 0 (settled-unchanged g (0 + enough g) (settled-enough g closed (0 + enough g) (omega arith))));
+      (firstFrom-passes (unchanged g) (searchEnd g) 0 (settled-unchanged g (0 + searchEnd g) (settled-enough g closed (0 + searchEnd g) (omega arith))));
   before = count-before g;
 }
 

@@ -11,13 +11,12 @@ use Rattle.rules.specs.Rounds.{rounds, Settled}
 unfoldable pub unchanged : Graph → ℕ → Bool
 unchanged g i = all (λ v. same (rounds g (suc i) v) (rounds g i v)) (upTo (g .nodes))
 
--- no graph needs more rounds: n (c + 1)
-abbrev pub enough : Graph → ℕ
-enough g = g .nodes * (length (g .covers) + 1)
+-- how far the count is looked for: n (c + 1) is far enough for every graph (`count-first`)
+abbrev pub searchEnd : Graph → ℕ
+searchEnd g = g .nodes * (length (g .covers) + 1)
 
--- so it is enough to look for the count that far (`count-first`)
 unfoldable pub count : Graph → ℕ
-count g = firstFrom (unchanged g) (enough g) 0
+count g = firstFrom (unchanged g) (searchEnd g) 0
 
 -- i is the first round that the next leaves unchanged
 pub record First (g : Graph) (i : ℕ) : Type 0 where

@@ -1,26 +1,42 @@
 -- What is shown of a call that settles a question or asks for a verdict, exit by exit: its answer, its rooms, and so the promise.
 -- Assumes nothing.
-use Prim.Native.Nat.{ℕ, _≤_, _<_}
+use Prim.Native.Nat.{ℕ, _+_, _*_, _≤_, _<_}
 use mathlib.Core.List.{List}
-use mathlib.Core.Path.{_≡_, sym, ap, _∙_}
+use mathlib.Core.Path.{_≡_, refl, sym, ap, _∙_}
+use lib.ListN.{length}
 use borrow.Author.Tests.{le-ltb}
 use Rattle.refusal.specs.declared.Refusal.{Refusal}
 use Rattle.refusal.specs.declared.Refusal.the-variants.{Name}
 use Rattle.wire.specs.Bytes.{Bytes}
 use Rattle.wire.specs.Read.{bad}
 use Rattle.wire.proofs.Reading.{reading, good-then, bad-then}
-use Rattle.build.specs.Held.{heldModel}
+use Rattle.reduction.specs.Built.{untils, graphOf}
+use Rattle.build.specs.Held.{heldModel, heldRows}
+use Rattle.build.proofs.Accepted.{rows-length}
 use Rattle.verdict.specs.declared.Answer.{Answer}
 use Rattle.verdict.specs.declared.Answer.the-variants as Answer
 use Rattle.verdict.specs.declared.AllStates.{AllStates}
 use Rattle.verdict.specs.declared.AllStates.the-variants as AllStates
-use Rattle.verdict.specs.Question.{readQuestion}
+use Rattle.verdict.specs.Question.{readQuestion, nodesOf}
 use Rattle.verdict.specs.Asking.{heldQuestion, Held}
 use Rattle.verdict.specs.Answer.{roomed, readSettled, readAsked, answerOf, allOf, bytesOf, valuesOf}
 use Rattle.verdict.specs.Promise.{Promise, PromiseAll}
 use Rattle.verdict.proofs.Settling.{Shows}
 use Rattle.verdict.proofs.Finished.{decided, answer-decided}
 use Rattle.verdict.proofs.Promised.{asked-is, kept-all, kept-one}
+
+-- ---- the number of nodes
+
+module _ (m f : List ℕ) where
+  -- the model or the formula is refused
+  pub nodes-refused : {e : Refusal} → readQuestion m f ≡ bad e → 0 ≡ nodesOf (readQuestion m f)
+  unfolding nodesOf
+  nodes-refused h = rw h refl
+
+  -- both are accepted
+  pub nodes-counted : {n p t k r : ℕ} → Held m f n p t k → r ≡ n * (k + length (untils (heldRows f k))) → r ≡ nodesOf (readQuestion m f)
+  unfolding nodesOf graphOf heldModel
+  nodes-counted {k = k} held e = rw (held .reads, rows-length f k) e
 
 -- ---- all states at once
 

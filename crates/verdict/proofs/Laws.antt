@@ -1,6 +1,6 @@
 -- Laws of the whole question: a budget that always settles, budgets that settle agree, and there is one question that the messages write.
 -- Assumes nothing.
-use Prim.Native.Nat.{ℕ, _+_, _*_, _≤_}
+use Prim.Native.Nat.{ℕ, _≤_}
 use mathlib.Core.List.{List}
 use mathlib.Core.Path.{_≡_, refl, sym, _∙_}
 use lib.ListN.{length}
@@ -9,11 +9,13 @@ use native.Mathlib.Omega.{arith}
 use Rattle.lists.proofs.Tests.{by}
 use Rattle.wire.specs.Read.{good}
 use Rattle.rules.specs.Count.{count}
-use Rattle.rules.proofs.Count.{count-le}
 use Rattle.graph.specs.Write.{writeGraph}
 use Rattle.rounds.specs.Outcome.{filled}
+use Rattle.model.specs.WellFormed as models
 use Rattle.model.proofs.Exact as model
+use Rattle.formula.specs.WellFormed as formulas
 use Rattle.formula.proofs.Exact as formula
+use Rattle.reduction.proofs.Depths.{built-count}
 use Rattle.verdict.specs.declared.AllStates.{AllStates}
 use Rattle.verdict.specs.declared.AllStates.the-variants as AllStates
 use Rattle.verdict.specs.Question.{Question, graphFor, ruledFor, rootNode}
@@ -21,11 +23,12 @@ use Rattle.verdict.specs.Answer.{roomed, allOf, valuesOf}
 use Rattle.verdict.specs.Promise.{Asks}
 use Rattle.verdict.proofs.Finished.{ended-as}
 
--- a budget of n (c + 1) rounds is never spent: where the graph passes no limit and both rooms are large enough, the question settles
-pub always-settles : (q : Question) (budget : ℕ) → let g = ruledFor q in g .nodes * (length (g .covers) + 1) ≤ budget
+-- a budget of n rounds is never spent: where the graph passes no limit and both rooms are large enough, the question settles
+pub always-settles : (q : Question) → models.WellFormed (q .model) → formulas.WellFormed (q .model .propositions) (q .rows)
+    → (budget : ℕ) → let g = ruledFor q in g .nodes ≤ budget
     → allOf (good q) budget ≡ AllStates.Settled (count g) (length (writeGraph (graphFor q))) (rootNode q 0) (q .model .states)
 unfolding allOf
-always-settles q budget h = rw (le-leb (count (graphFor q)) budget (omega (arith, count-le (graphFor q))))
+always-settles q m f budget h = rw (le-leb (count (graphFor q)) budget (omega (arith, built-count m f)))
 
 -- two budgets that settle a question give the same answer, whatever the rooms, and so the same verdicts; and the same two rounds
 pub two-budgets : (q : Question) (c d : ℕ) (b v b′ v′ : List ℕ) {m n first states m′ n′ first′ states′ : ℕ}

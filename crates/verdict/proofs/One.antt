@@ -5,6 +5,7 @@ use denote.Ref.{now}
 use Rattle.verdict.proofs.decide.Reads as decide
 use Rattle.verdict.proofs.settle.Reads as settle
 use Rattle.verdict.proofs.graph.Reads as graph
+use Rattle.verdict.proofs.nodes.Reads as nodes
 use Rattle.verdict.proofs.Answer.number.Reads as Answer-number
 use Rattle.verdict.proofs.Answer.verdict.Reads as Answer-verdict
 use Rattle.verdict.proofs.Answer.count.Reads as Answer-count
@@ -27,6 +28,11 @@ one-settle κs a r r′ s s′ p q = (p .0 ∙ sym (q .0), p .1 .0 ∙ sym (q .1
 pub one-graph : (κs : _) (a : _) (r r′ : _) (s s′ : _) → graph.Post κs a r s → graph.Post κs a r′ s′
     → (r ≡ r′) × (now (s .1 .1 .0) ≡ now (s′ .1 .1 .0))
 one-graph κs a r r′ s s′ p q = (p .0 ∙ sym (q .0), p .1 .0 ∙ sym (q .1 .0))
+
+-- `verdict::nodes`
+pub one-nodes : (κs : _) (a : _) (r r′ : _) (s s′ : _) → nodes.Post κs a r s → nodes.Post κs a r′ s′
+    → r ≡ r′
+one-nodes κs a r r′ s s′ p q = p ∙ sym q
 
 -- `verdict::Answer::number`
 pub one-answer-number : (κs : _) (a : _) (r r′ : _) (s s′ : _) → Answer-number.Post κs a r s → Answer-number.Post κs a r′ s′

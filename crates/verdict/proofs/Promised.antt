@@ -19,6 +19,7 @@ use Rattle.rounds.specs.Promise.{SettledAt}
 use Rattle.rounds.proofs.Promised.{settled-at, spent-at}
 use Rattle.model.proofs.Exact as model
 use Rattle.formula.proofs.Exact as formula
+use Rattle.reduction.proofs.Depths.{built-count}
 use Rattle.verdict.specs.declared.Answer.the-variants as Answer
 use Rattle.verdict.specs.declared.AllStates.{AllStates}
 use Rattle.verdict.specs.declared.AllStates.the-variants as AllStates
@@ -78,6 +79,10 @@ module _ (m f : List ℕ) (budget : ℕ) (b v : List ℕ) (q : Question) (asked 
   settled : {k n first states : ℕ} → Finished q budget b v k n first states → SettledAt g budget v′ k
   settled done = rw (done .ran .values-are, done .count-is) (settled-at g (well (done .ran)) budget v (rw (done .count-is) at (done .within)))
 
+  -- a built graph has no cycle through a cover edge
+  soon : {k n first states : ℕ} → Finished q budget b v k n first states → k ≤ g .nodes
+  soon done = rw (done .count-is) (built-count (asked .model-fits) (asked .formula-fits))
+
   spends : {k n : ℕ} → Stopped q budget b v k n → Spends m f budget b v b′ v′ k n
   spends stop = record {
     question = q;
@@ -106,6 +111,7 @@ module _ (m f : List ℕ) (budget : ℕ) (b v : List ℕ) (q : Question) (asked 
               inside = rw (done .ran .values-are) (all-inside k);
               yes = rw (done .ran .values-are) (all-when q (asked .model-fits) (asked .formula-fits) k v (settled done .first .settled));
               settled = settled done;
+              soon = soon done;
               leaves = leaves (done .ran);
             };
         spends = λ z. absurd (omega arith);
@@ -131,6 +137,7 @@ module _ (m f : List ℕ) (budget : ℕ) (b v : List ℕ) (q : Question) (asked 
                   yes = yes-when q (asked .model-fits) (asked .formula-fits) k unchanged state named;
                   otherwise = no-when q (asked .model-fits) (asked .formula-fits) k unchanged state named;
                   settled = settled done;
+                  soon = soon done;
                   leaves = leaves (done .ran);
                 };
             spends = λ z. absurd (omega arith);

@@ -69,6 +69,8 @@ pub record Decides (model formula : List ℕ) (state budget : ℕ) (bytes values
   pub otherwise : (verdict ≡ Verdict.No) ↔ (¬ Satisfies question state)
   -- the count is the first unchanged round, and the values are settled, as for rounds on the graph
   pub settled : SettledAt (ruledFor question) budget values′ reported
+  -- the count is at most n
+  pub soon : reported ≤ ruledFor question .nodes
   -- the graph and the last two rounds stand in the rooms
   pub leaves : Leaves question bytes values bytes′ values′ reported returned
 
@@ -86,6 +88,8 @@ pub record DecidesAll (model formula : List ℕ) (budget : ℕ) (bytes values by
   pub yes : (state : ℕ) → state < question .model .states → (getD values′ (rootNode question 0 + state) 0 ≡ 0) ↔ Satisfies question state
   -- the count is the first unchanged round, and the values are settled, as for rounds on the graph
   pub settled : SettledAt (ruledFor question) budget values′ (allCount answer)
+  -- the count is at most n
+  pub soon : allCount answer ≤ ruledFor question .nodes
   -- the graph and the last two rounds stand in the rooms
   pub leaves : Leaves question bytes values bytes′ values′ (allCount answer) (allLength answer)
 

@@ -2,7 +2,7 @@
 use Prim.Native.Nat.{ℕ, _+_, _*_, _-_}
 use mathlib.Core.List.{List}
 use lib.ListN.{length}
-use Rattle.wire.specs.Read.{Read, good, _>>=_}
+use Rattle.wire.specs.Read.{Read, good, bad, _>>=_}
 use Rattle.rules.specs.Graph.{Graph}
 use Rattle.graph.specs.Stored.{StoredGraph, ruled}
 use Rattle.model.specs.Model.{Model}
@@ -29,6 +29,11 @@ graphFor question = graphOf (question .model) (question .rows)
 -- and the graph of the rules taken from it
 abbrev pub ruledFor : Question → Graph
 ruledFor question = ruled (graphFor question)
+
+-- the number of nodes of what was read; 0 where it was refused
+unfoldable pub nodesOf : Read Question → ℕ
+nodesOf (good question) = ruledFor question .nodes
+nodesOf (bad e) = 0
 
 -- the root row's node of a state
 abbrev pub rootNode : Question → (state : ℕ) → ℕ

@@ -3,6 +3,7 @@ ghost use mathlib.Core.Path.{_≡_};
 ghost use Rattle.build.specs.Held.{HoldsModel, HoldsRows};
 ghost use Rattle.verdict.specs.Answer.{answerNumber, answerVerdict, answerCount, answerLength, allNumber, allCount, allLength, roomed, readBuilt, readSettled, readAsked, answerOf, allOf, builtAlone, bytesOf, valuesOf};
 ghost use Rattle.verdict.specs.Asking.{Asking, heldQuestion};
+ghost use Rattle.verdict.specs.Question.{readQuestion, nodesOf};
 ghost use Rattle.verdict.specs.Promise.{Promise, PromiseAll, PromiseGraph};
 use build::Built;
 use refusal::Refusal;
@@ -128,6 +129,16 @@ fn question(m: &[u8], f: &[u8]) -> Asked
             formula::Checked::Refused(e) => Asked::Refused(e),
             formula::Checked::Formula(k) => Asked::Question(n, p, t, k),
         },
+    }
+}
+
+// The number of nodes of the graph of a question, a budget in which it always settles; 0 where the model or the formula is refused.
+pub fn nodes(m: &[u8], f: &[u8]) -> u32
+    ensures { λ r. ⌜ r ≡ nodesOf (readQuestion (now (m .entry)) (now (f .entry))) ⌝ }
+{
+    match question(m, f) {
+        Asked::Refused(_) => 0,
+        Asked::Question(n, p, _, k) => build::count_nodes(n, f, k, p),
     }
 }
 

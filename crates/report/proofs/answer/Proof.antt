@@ -1,11 +1,12 @@
--- `report::answer` meets its contract: the lines of a settled question, or of a refusal; the budget is never spent.
-use mathlib.Core.Path.{refl, sym, _∙_}
+-- `report::answer` meets its contract: the lines of a settled question, or of a refusal.
+use mathlib.Core.Path.{_≡_, refl, sym, _∙_}
 use denote.Ref.{now}
 use native.Mathlib.Omega.{arith}
 use borrow.Author.Needs.{needs}
 use Rattle.lists.proofs.Tests.{by}
 use Rattle.wire.specs.Bytes.{Bytes}
 use Rattle.wire.proofs.Laid.{said}
+use Rattle.verdict.specs.Question.{readQuestion, nodesOf}
 use Rattle.report.proofs.Ended.{Done, left-is, output-refused, output-spent, output-done}
 use Rattle.report.proofs.Lines.{refused-fits}
 use Rattle.report.proofs.answer.Statement.{statement}
@@ -13,7 +14,10 @@ use Rattle.report.proofs.answer.Tie as tie
 
 -- the places that the facts below look back to
 abbrev after-shared-slice-known2 : tie.After-settle → tie.After-shared-slice-known2
-after-shared-slice-known2 c = c .before .before .before .before .before .before
+after-shared-slice-known2 c = c .before .before .before .before .before .before .before
+
+abbrev after-nodes : tie.After-settle → tie.After-nodes
+after-nodes c = c .before .before .before
 
 abbrev after-settle : tie.After-slice-known5 → tie.After-settle
 after-settle c = c .before .before .before .before
@@ -22,7 +26,7 @@ abbrev after-settle-of-number : tie.After-number → tie.After-settle
 after-settle-of-number c = after-settle (c .before .before .before .before .before)
 
 abbrev start : tie.After-settle → tie.Start
-start c = c .before .before .before .before .before .before .before .before
+start c = c .before .before .before .before .before .before .before .before .before
 
 -- both messages are bytes
 model-bytes : (c : tie.After-settle) → Bytes (now (start c .args .m))
@@ -30,6 +34,13 @@ model-bytes c i = omega (arith, after-shared-slice-known2 c .before .shared-slic
 
 formula-bytes : (c : tie.After-settle) → Bytes (now (start c .args .f))
 formula-bytes c i = omega (arith, after-shared-slice-known2 c .shared-slice-known2 .given i)
+
+-- the budget is the number of nodes of what is read
+n-rounds : (c : tie.After-settle) → after-nodes c .nodes .result ≡ nodesOf (readQuestion (now (start c .args .m)) (now (start c .args .f)))
+n-rounds c = after-nodes c .nodes .ensures
+
+nodes-requires : tie.Need-nodes-requires
+nodes-requires c κs = search needs
 
 settle-requires : tie.Need-settle-requires
 settle-requires c κs = search needs
@@ -42,10 +53,10 @@ abbrev settled : tie.After-known-told → tie.After-settle
 settled c = c .before .before .before .before .before .before .before
 
 done : (c : tie.After-known-told) → let k = c .before .count .given .0 in let q = settled c in let a = start q .args in
-    Done (now (a .m)) (now (a .f)) (now (a .bytes)) (now (a .values)) (model-bytes q) (formula-bytes q) (q .settle .ensures .1 .1 .0) (k .0) (k .1 .1 .0) (k .1 .1 .1 .0)
+    Done (now (a .m)) (now (a .f)) (now (a .bytes)) (now (a .values)) (n-rounds q) (model-bytes q) (formula-bytes q) (q .settle .ensures .1 .1 .0) (k .0) (k .1 .1 .0) (k .1 .1 .1 .0)
 done c =
     let q = settled c in
-    output-done _ _ _ _ (model-bytes q) (formula-bytes q) (q .settle .ensures .1 .1 .0) (by (c .before .count .given .1) (q .settle .ensures .0))
+    output-done _ _ _ _ (n-rounds q) (model-bytes q) (formula-bytes q) (q .settle .ensures .1 .1 .0) (by (c .before .count .given .1) (q .settle .ensures .0))
 
 number-at-requires : tie.Need-number-at-requires
 number-at-requires c κs = done c .header
@@ -86,7 +97,7 @@ returns c =
     let known = number .before in
     let q = settled known in
     let laid = rw (number .number-at .ensures) at (put .put-settled .ensures) in
-    (said laid (sym (done known .lines)) refl refl, (q .settle .ensures .1 .0, q .settle .ensures .1 .1 .0 ∙ left-is _ _ _ _))
+    (said laid (sym (done known .lines)) refl refl, (q .settle .ensures .1 .0, q .settle .ensures .1 .1 .0 ∙ left-is _ _ _ _ (n-rounds q)))
 
 same-length-4 : tie.Need-same-length-4
 same-length-4 c = search needs
@@ -101,7 +112,8 @@ returns-2 : tie.Need-returns-2
 returns-2 c =
     let told = c .before .before .before .before in
     let q = after-settle (told .before .before) in
-    absurd (output-spent _ _ _ _ (by (told .enum-told .given .1) (q .settle .ensures .0)))
+    let is = output-spent _ _ _ _ (n-rounds q) (by (told .enum-told .given .1) (q .settle .ensures .0)) in
+    (said (c .before .before .put-refused .ensures) is refl refl, (q .settle .ensures .1 .0, q .settle .ensures .1 .1 .0 ∙ left-is _ _ _ _ (n-rounds q)))
 
 same-length-7 : tie.Need-same-length-7
 same-length-7 c = search needs
@@ -118,13 +130,14 @@ returns-3 c =
     let number = put .before in
     let known = number .before .before in
     let q = after-settle (known .before .before .before) in
-    let is = output-refused _ _ _ _ (by (known .before .e .given .1) (q .settle .ensures .0)) in
-    (said (rw (number .number .ensures) at (put .put-refused2 .ensures)) is refl refl, (q .settle .ensures .1 .0, q .settle .ensures .1 .1 .0 ∙ left-is _ _ _ _))
+    let is = output-refused _ _ _ _ (n-rounds q) (by (known .before .e .given .1) (q .settle .ensures .0)) in
+    (said (rw (number .number .ensures) at (put .put-refused2 .ensures)) is refl refl, (q .settle .ensures .1 .0, q .settle .ensures .1 .1 .0 ∙ left-is _ _ _ _ (n-rounds q)))
 
 pub answer-spec : {M : Type 1} → statement M
 answer-spec =
     tie.close
     (tie.spec
+    nodes-requires
     settle-requires
     enum-known-count
     number-at-requires
