@@ -3,6 +3,7 @@
 use crate::bytes;
 use crate::message;
 use crate::refusal::{Fault, Number, CALL};
+use crate::search;
 use crate::verdict::{self, Question};
 
 /// A call: a letter, its numbers and its messages.
@@ -13,19 +14,20 @@ pub struct Call {
     pub messages: Vec<Vec<u8>>,
 }
 
-pub const LETTERS: &str = "GMFTRV";
+pub const LETTERS: &str = "GMFTRVS";
 
 /// "a message of at most 65,536 bytes, byte rooms of at most 65,536, value rooms of at most 8,192
-/// numbers"
+/// numbers, word rooms of at most 262,144 words"
 pub const MOST_BYTES: usize = 65_536;
 pub const MOST_VALUES: usize = 8_192;
+pub const MOST_WORDS: usize = 262_144;
 
 /// How many numbers and messages follow a letter.
 fn shape(letter: u8) -> Option<(usize, usize)> {
     match letter {
         b'G' | b'M' => Some((0, 1)),
         b'F' => Some((1, 1)),
-        b'T' | b'R' => Some((2, 1)),
+        b'T' | b'R' | b'S' => Some((2, 1)),
         b'V' => Some((4, 2)),
         _ => None,
     }
@@ -71,6 +73,10 @@ impl Call {
         Call::new(b'V', &numbers, &[question.model, question.formula])
     }
 
+    pub fn search(root: u32, room: usize, message: &[u8]) -> Call {
+        Call::new(b'S', &[root, room as u32], &[message])
+    }
+
     /// "A call is a letter (1 byte), the size of what follows (4 bytes), and that many bytes: first
     /// the call's numbers, 4 bytes each, then its messages, each a 4-byte length and the bytes."
     pub fn write(&self, out: &mut Vec<u8>) {
@@ -103,12 +109,22 @@ impl Call {
         }
     }
 
+    fn word_room(&self) -> usize {
+        match self.letter {
+            b'S' => self.numbers[1] as usize,
+            _ => 0,
+        }
+    }
+
     pub fn within_limits(&self) -> bool {
         let short = self
             .messages
             .iter()
             .all(|message| message.len() <= MOST_BYTES);
-        short && self.byte_room() <= MOST_BYTES && self.value_room() <= MOST_VALUES
+        short
+            && self.byte_room() <= MOST_BYTES
+            && self.value_room() <= MOST_VALUES
+            && self.word_room() <= MOST_WORDS
     }
 }
 
@@ -204,6 +220,7 @@ pub fn answer(call: &Call) -> Expected {
         b'G' | b'M' | b'F' => answer_check(call),
         b'T' => answer_text(call),
         b'R' => answer_rounds(call),
+        b'S' => answer_search(call),
         _ => answer_verdict(call),
     };
     Expected {
@@ -282,6 +299,16 @@ fn answer_verdict(call: &Call) -> Line {
     )
 }
 
+fn answer_search(call: &Call) -> Line {
+    let mut room = word_room(call.word_room());
+    let (fault, word, taken) = match search::decide(&call.messages[0], call.numbers[0], &mut room) {
+        Ok(found) => (None, if found.yes { "yes" } else { "no" }, found.taken),
+        Err(fault) => (Some(fault), "none", 0),
+    };
+    let sum = sum_of_words(&room);
+    (format!("{} {word} {taken} {sum}", number(fault)), fault)
+}
+
 fn spent(number: Number) -> Option<Fault> {
     (number == Number::Budget).then(|| CALL.fault(Number::Budget, "budget"))
 }
@@ -294,6 +321,11 @@ fn byte_room(length: usize) -> Vec<u8> {
 /// "number i of a value room starts as i + 1"
 fn value_room(length: usize) -> Vec<u64> {
     (1..=length as u64).collect()
+}
+
+/// "number i .. of a word room (4 bytes each) starts as i + 1"
+fn word_room(length: usize) -> Vec<u32> {
+    (1..=length as u32).collect()
 }
 
 /// "the Adler-32 sum of its bytes after the call, in 8 lowercase hex digits"
@@ -311,5 +343,13 @@ fn sum_of_values(room: &[u64]) -> String {
     sum(&room
         .iter()
         .flat_map(|number| number.to_be_bytes())
+        .collect::<Vec<u8>>())
+}
+
+/// "numbers .. of a word room as 4, big-endian"
+fn sum_of_words(room: &[u32]) -> String {
+    sum(&room
+        .iter()
+        .flat_map(|word| word.to_be_bytes())
         .collect::<Vec<u8>>())
 }

@@ -1,6 +1,7 @@
 //! The numbers of document 01, "Numbers given back", and where a fault was found.
 
 /// "No. | Name": the numbers, in the order of the table. Request 1: 7, DEAD, "is no longer given".
+/// Request 2: "the new number 11, PROFILE".
 #[derive(Clone, Copy, PartialEq, Eq, PartialOrd, Ord, Debug)]
 pub enum Number {
     Ok = 0,
@@ -13,6 +14,7 @@ pub enum Number {
     Size = 8,
     Room = 9,
     Form = 10,
+    Profile = 11,
 }
 
 /// A refusal: its number, what was being judged, and the rule that it broke. Only the number is
@@ -59,24 +61,24 @@ impl Judge {
 /// alone. The program can't break some that a verdict can: it cuts the model off by its length field,
 /// 8,192 bytes are too few for h and targets to be built, and what passes n fits the value room.
 pub const RULES: &[(&str, &str, &str)] = &[
-    ("graph", "header bytes", "GR"),
-    ("graph", "length field", "GR"),
-    ("graph", "version", "GR"),
-    ("graph", "kind", "GR"),
-    ("graph", "n", "GR"),
-    ("graph", "h", "GR"),
-    ("graph", "c", "GR"),
-    ("graph", "hyperedge's fixed bytes", "GR"),
-    ("graph", "hyperedge's source", "GR"),
-    ("graph", "hyperedge's order", "GR"),
+    ("graph", "header bytes", "GRS"),
+    ("graph", "length field", "GRS"),
+    ("graph", "version", "GRS"),
+    ("graph", "kind", "GRS"),
+    ("graph", "n", "GRS"),
+    ("graph", "h", "GRS"),
+    ("graph", "c", "GRS"),
+    ("graph", "hyperedge's fixed bytes", "GRS"),
+    ("graph", "hyperedge's source", "GRS"),
+    ("graph", "hyperedge's order", "GRS"),
     ("graph", "targets of all hyperedges", ""),
-    ("graph", "target bytes", "GR"),
-    ("graph", "target", "GR"),
-    ("graph", "cover edge's bytes", "GR"),
-    ("graph", "cover edge's source", "GR"),
-    ("graph", "cover edge's order", "GR"),
-    ("graph", "cover edge's target", "GR"),
-    ("graph", "bytes left over", "GR"),
+    ("graph", "target bytes", "GRS"),
+    ("graph", "target", "GRS"),
+    ("graph", "cover edge's bytes", "GRS"),
+    ("graph", "cover edge's source", "GRS"),
+    ("graph", "cover edge's order", "GRS"),
+    ("graph", "cover edge's target", "GRS"),
+    ("graph", "bytes left over", "GRS"),
     ("model", "header bytes", "MVP"),
     ("model", "length field", "MV"),
     ("model", "version", "MVP"),
@@ -116,6 +118,10 @@ pub const RULES: &[(&str, &str, &str)] = &[
     ("call", "targets to be built", "V"),
     ("call", "targets of one hyperedge to be built", ""),
     ("call", "budget", "RV"),
+    ("call", "weights of a search", "S"),
+    ("call", "cover edges of a search", "S"),
+    ("call", "root", "S"),
+    ("call", "word room", "S"),
     ("program", "longer input", "P"),
     ("program", "end of the model", "P"),
 ];

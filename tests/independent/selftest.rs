@@ -12,6 +12,7 @@ use crate::random::Random;
 use crate::refusal::{Number, RULES};
 use crate::rounds::{self, Value};
 use crate::sat;
+use crate::search;
 use crate::text;
 use crate::verdict::{self, Question};
 use std::collections::BTreeSet;
@@ -27,6 +28,7 @@ pub fn run(seed: u64) {
     dead_states(&mut random, 10_000);
     graphs_by_runs(&mut random, 5_000);
     largest_assignments(&mut random, 2_000);
+    searches(&mut random, 20_000);
     texts_read_back(&mut random, 3_000);
     every_rule();
     batches(seed);
@@ -315,6 +317,24 @@ fn largest_assignments(random: &mut Random, times: usize) {
         }
     }
     report("assignments that obey", obeying);
+}
+
+/// The search of document 000's figure, and each search's verdict by the rounds.
+fn searches(random: &mut Random, times: usize) {
+    let figure = search::search(&batch::searches::figure(), 0);
+    assert_eq!((figure.yes, figure.taken), (true, 6), "Figure 3d");
+    let mut yes = 0;
+    for _ in 0..times {
+        let graph = generate::plain_graph(random, 9);
+        let root = random.below(graph.nodes) as u32;
+        let mut words = vec![7; search::needs(&graph) + 1];
+        let found = search::decide(&message::graph(&graph).bytes, root, &mut words);
+        yes += usize::from(found.expect("a plain graph").yes);
+        let last = words.pop();
+        assert!(last == Some(7) && words.iter().all(|word| *word == 0));
+    }
+    report("searches", times);
+    report("searches with yes", yes);
 }
 
 fn small_graph(random: &mut Random) -> Graph {

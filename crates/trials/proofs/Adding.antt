@@ -25,6 +25,6 @@ pub after-next : (sum : ℕ) (s : List ℕ) (i : ℕ) → i < length s → after
 unfolding afterAll
 after-next sum s i h = rw (add-one, drop-cons s i 0)
 
-pub after-next-number : (sum : ℕ) (s : List ℕ) (i : ℕ) → i < length s → afterAll sum (wide (drop i s)) ≡ afterAll (afterAll sum (bytes 8 (getD s i 0))) (wide (drop (i + 1) s))
+pub after-next-number : (sum k : ℕ) (s : List ℕ) (i : ℕ) → i < length s → afterAll sum (wide k (drop i s)) ≡ afterAll (afterAll sum (bytes k (getD s i 0))) (wide k (drop (i + 1) s))
 unfolding wide
-after-next-number sum s i h = rw (add-one, drop-cons s i 0) (after-both sum (bytes 8 (getD s i 0)) (wide (drop (suc i) s)))
+after-next-number sum k s i h = rw (add-one, drop-cons s i 0) (after-both sum (bytes k (getD s i 0)) (wide k (drop (suc i) s)))

@@ -20,7 +20,7 @@ afterAll sum (x ∷ xs) = afterAll (after sum x) xs
 abbrev pub adler : List ℕ → ℕ
 adler s = afterAll 1 s
 
--- numbers as 8 bytes each, big-endian
-unfoldable pub wide : List ℕ → List ℕ
-wide [] = []
-wide (n ∷ ns) = bytes 8 n ++ wide ns
+-- numbers as k bytes each, big-endian
+unfoldable pub wide : ℕ → List ℕ → List ℕ
+wide k [] = []
+wide k (n ∷ ns) = bytes k n ++ wide k ns

@@ -228,3 +228,54 @@ fn verdict_line(answer: Answer, bytes: u32, values: u32) -> Line
         .sum(bytes)
         .sum(values)
 }
+
+// `S`: a root, a room in words; a graph.
+pub fn search(body: &[u8], words: &mut [u32]) -> Line
+    ensures { λ r. ⌜ Sound r ⌝ }
+{
+    if body.len() < 12 {
+        return Line::new();
+    }
+    let root = wire::number_at(body, 0, Width::Four);
+    let asked = wire::number_at(body, 4, Width::Four);
+    let message = &body[12..];
+    if !is_message(wire::number_at(body, 8, Width::Four), message) {
+        return Line::new();
+    }
+    let len = rooms::front_of_words(asked, words);
+    if len < asked as usize {
+        return Line::new();
+    }
+    search_in(message, root, &mut words[..len])
+}
+
+// The search in a room that is filled before.
+fn search_in(message: &[u8], root: u32, room: &mut [u32]) -> Line
+    ensures { λ r. ⌜ Sound r ⌝ }
+{
+    rooms::fill_words(room);
+    let found = search::decide(message, root, room);
+    search_line(found, sums::of_words(room))
+}
+
+// A field: a space, and the word for a search's verdict.
+fn search_word(line: Line, verdict: search::Verdict) -> Line
+    requires { ⌜ Sound line ⌝ }
+    ensures { λ r. ⌜ Sound r ⌝ }
+{
+    match verdict {
+        search::Verdict::Yes => line.text(b" yes"),
+        search::Verdict::No => line.text(b" no"),
+        search::Verdict::None => line.text(b" none"),
+    }
+}
+
+// The number, the verdict, how many edges were taken off the stacks, and the room's sum.
+fn search_line(found: search::Answer, room: u32) -> Line
+    ensures { λ r. ⌜ Sound r ⌝ }
+{
+    let line = Line::new().byte(b'S').number(found.number() as u64);
+    search_word(line, found.verdict())
+        .number(found.count())
+        .sum(room)
+}

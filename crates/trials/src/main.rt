@@ -10,7 +10,7 @@ use line::Line;
 use wire::Width;
 
 // The line that answers a call; an empty one where there is no such call.
-fn answer(letter: u8, body: &[u8], bytes: &mut [u8], values: &mut [u64]) -> Line
+fn answer(letter: u8, body: &[u8], bytes: &mut [u8], values: &mut [u64], words: &mut [u32]) -> Line
     ensures { λ r. ⌜ Sound r ⌝ }
 {
     match letter {
@@ -20,6 +20,7 @@ fn answer(letter: u8, body: &[u8], bytes: &mut [u8], values: &mut [u64]) -> Line
         b'T' => answers::text(body, bytes),
         b'R' => answers::rounds(body, values),
         b'V' => answers::verdict(body, bytes, values),
+        b'S' => answers::search(body, words),
         _ => Line::new(),
     }
 }
@@ -31,11 +32,17 @@ fn refuse(letter: u8) -> bool {
 }
 
 // Reads the body of a call, answers the call, and says whether to go on.
-fn answer_body(letter: u8, body: &mut [u8], bytes: &mut [u8], values: &mut [u64]) -> bool {
+fn answer_body(
+    letter: u8,
+    body: &mut [u8],
+    bytes: &mut [u8],
+    values: &mut [u64],
+    words: &mut [u32],
+) -> bool {
     if io::read_full(STDIN_FILENO, body) < body.len() {
         return refuse(letter);
     }
-    let line = answer(letter, body, bytes, values);
+    let line = answer(letter, body, bytes, values, words);
     if line.len == 0 {
         return refuse(letter);
     }
@@ -43,7 +50,7 @@ fn answer_body(letter: u8, body: &mut [u8], bytes: &mut [u8], values: &mut [u64]
 }
 
 // Answers the next call, if there is one, and says whether to go on.
-fn answer_next(space: &mut [u8], bytes: &mut [u8], values: &mut [u64]) -> bool {
+fn answer_next(space: &mut [u8], bytes: &mut [u8], values: &mut [u64], words: &mut [u32]) -> bool {
     let mut head = [0u8; 5];
     let got = io::read_full(STDIN_FILENO, &mut head);
     if got == 0 {
@@ -58,14 +65,14 @@ fn answer_next(space: &mut [u8], bytes: &mut [u8], values: &mut [u64]) -> bool {
     if size < asked as usize {
         return refuse(letter);
     }
-    answer_body(letter, &mut space[..size], bytes, values)
+    answer_body(letter, &mut space[..size], bytes, values, words)
 }
 
 // A proved loop has to end, and nothing says that the input does: so it counts its turns down, from a number that no run
 // uses up.
-fn answer_all(space: &mut [u8], bytes: &mut [u8], values: &mut [u64]) {
+fn answer_all(space: &mut [u8], bytes: &mut [u8], values: &mut [u64], words: &mut [u32]) {
     let mut turns = u64::MAX;
-    while 0 < turns && answer_next(space, bytes, values) {
+    while 0 < turns && answer_next(space, bytes, values, words) {
         turns -= 1;
     }
 }
@@ -75,5 +82,6 @@ fn main() {
     let mut space = [0u8; 131096];
     let mut bytes = [0u8; 65536];
     let mut values = [0u64; 8192];
-    answer_all(&mut space, &mut bytes, &mut values);
+    let mut words = [0u32; 262144];
+    answer_all(&mut space, &mut bytes, &mut values, &mut words);
 }

@@ -23,6 +23,13 @@ fn add_number(sum: u32, n: u64, k: u32) -> u32
     sum
 }
 
+// A sum with a word more.
+fn add_word(sum: u32, n: u32) -> u32
+    ensures { λ r. ⌜ r ≡ afterAll sum (bytes 4 n) ⌝ }
+{
+    add_number(sum, n as u64, 4)
+}
+
 // The sum of bytes.
 pub fn of_bytes(s: &[u8]) -> u32
     ensures { λ r. ⌜ r ≡ adler (now (s .entry)) ⌝ }
@@ -38,12 +45,25 @@ pub fn of_bytes(s: &[u8]) -> u32
 
 // The sum of numbers as 8 bytes each.
 pub fn of_values(s: &[u64]) -> u32
-    ensures { λ r. ⌜ r ≡ adler (wide (now (s .entry))) ⌝ }
+    ensures { λ r. ⌜ r ≡ adler (wide 8 (now (s .entry))) ⌝ }
 {
     let mut sum = 1;
     let mut i = 0;
     while i < s.len() {
         sum = add_number(sum, s[i], 8);
+        i += 1;
+    }
+    sum
+}
+
+// The sum of words as 4 bytes each.
+pub fn of_words(s: &[u32]) -> u32
+    ensures { λ r. ⌜ r ≡ adler (wide 4 (now (s .entry))) ⌝ }
+{
+    let mut sum = 1;
+    let mut i = 0;
+    while i < s.len() {
+        sum = add_word(sum, s[i]);
         i += 1;
     }
     sum

@@ -1,6 +1,6 @@
 //! Calls that are none and end the run.
 
-use crate::answer::{answer_batch, Call, MOST_BYTES, MOST_VALUES};
+use crate::answer::{answer_batch, Call, MOST_BYTES, MOST_VALUES, MOST_WORDS};
 use crate::verdict::Question;
 
 /// Bytes that are no call: "a call past these [limits], with an unknown letter, cut short, or with
@@ -50,6 +50,7 @@ fn small_calls() -> Vec<Call> {
         Call::text(7, 5, &[1, 2, 3]),
         Call::rounds(7, 5, &[1, 2, 3]),
         verdict_on(&[1, 2, 3], &[4, 5], 6, 5),
+        Call::search(7, 5, &[1, 2, 3]),
     ]
 }
 
@@ -84,6 +85,9 @@ fn calls_past_limits() -> Vec<Call> {
         verdict_on(&[1], &[1], most, 1),
         verdict_on(&[1], &[1], 1, MOST_VALUES + 1),
         verdict_on(&[1], &[1], 1, most),
+        Call::search(0, 1, &long),
+        Call::search(0, MOST_WORDS + 1, &[]),
+        Call::search(0, most, &[]),
     ]
 }
 

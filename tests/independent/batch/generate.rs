@@ -58,6 +58,51 @@ fn hyperedge(random: &mut Random, nodes: usize) -> Hyperedge {
     }
 }
 
+/// A graph for a search, of at most so many nodes: no weights, no cover edges, few ends, and now and
+/// then a target or a record that comes again.
+pub fn plain_graph(random: &mut Random, most: usize) -> Graph {
+    let nodes = random.between(1, most);
+    let ends = random.pick(&[3, 6, 12, 1_000]);
+    let mut hyperedges: Vec<Hyperedge> = vec![];
+    for _ in 0..random.below(3 * nodes + 3) {
+        let again = !hyperedges.is_empty() && random.once_in(10);
+        let edge = if again {
+            random.pick(&hyperedges)
+        } else {
+            plain_hyperedge(random, nodes, ends)
+        };
+        hyperedges.push(edge);
+    }
+    hyperedges.sort_by_key(|edge| edge.source);
+    Graph {
+        nodes,
+        hyperedges,
+        covers: vec![],
+    }
+}
+
+/// One in so many has no targets.
+fn plain_hyperedge(random: &mut Random, nodes: usize, ends: usize) -> Hyperedge {
+    let count = if random.once_in(ends) {
+        0
+    } else {
+        random.pick(&[1, 1, 1, 2, 2, 3, 4])
+    };
+    let mut targets: Vec<Target> = vec![];
+    for _ in 0..count {
+        let fresh = Target {
+            weight: 0,
+            node: random.below(nodes),
+        };
+        let again = random.once_in(6);
+        targets.push(targets.last().filter(|_| again).cloned().unwrap_or(fresh));
+    }
+    Hyperedge {
+        source: random.below(nodes),
+        targets,
+    }
+}
+
 fn cover(random: &mut Random, nodes: usize) -> Cover {
     Cover {
         source: random.below(nodes),

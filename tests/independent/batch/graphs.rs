@@ -125,7 +125,7 @@ fn special_graphs() -> Vec<Call> {
 }
 
 /// Nodes in a row, the last of value 0: a count of as many rounds as nodes.
-fn chain(nodes: usize, weight: u32) -> Graph {
+pub fn chain(nodes: usize, weight: u32) -> Graph {
     let edge = |source: usize| {
         let next = Target {
             weight,
@@ -200,7 +200,7 @@ fn sum_under(first: u32, second: u32, bound: Bound) -> Vec<u8> {
 }
 
 /// A graph with records of every shape, two of them from one source in each list.
-fn base() -> Message {
+pub fn base() -> Message {
     let edges: [known::Edge; 4] = [(0, &[(2, 1), (0, 2)]), (1, &[]), (1, &[(7, 2)]), (3, &[])];
     let covers = [(0, Some(5), 1), (2, None, 0), (2, Some(1), 3)];
     message::graph(&graph(4, &edges, &covers))
@@ -303,7 +303,7 @@ fn wide(count: usize) -> Graph {
 }
 
 /// A graph of exactly 65,536 bytes: 16,379 hyperedges, the last with one target.
-fn full() -> Graph {
+pub fn full() -> Graph {
     let mut hyperedges: Vec<Hyperedge> = (0..16_379)
         .map(|index| Hyperedge {
             source: index / 1_100,

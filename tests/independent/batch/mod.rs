@@ -7,6 +7,7 @@ pub mod generate;
 mod graphs;
 pub mod inputs;
 mod models;
+pub mod searches;
 mod sweep;
 mod verdicts;
 mod wild;
@@ -23,6 +24,7 @@ pub fn systematic() -> Vec<Call> {
         models::calls(),
         formulas::calls(),
         verdicts::calls(),
+        searches::calls(),
     ];
     let mut calls: Vec<Call> = parts.into_iter().flatten().collect();
     let mut seen = BTreeSet::new();

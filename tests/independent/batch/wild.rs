@@ -3,8 +3,8 @@
 
 use super::damage::{self, MENDS};
 use super::generate::{self, EXTREMES};
-use super::{graphs, verdicts};
-use crate::answer::{Call, MOST_BYTES, MOST_VALUES};
+use super::{graphs, searches, verdicts};
+use crate::answer::{Call, MOST_BYTES, MOST_VALUES, MOST_WORDS};
 use crate::bytes;
 use crate::message::{self, set, Message};
 use crate::random::Random;
@@ -13,7 +13,7 @@ use crate::verdict::Question;
 
 /// A call with one of the letters, and none where no letter is known.
 pub fn call(random: &mut Random, letters: &str) -> Option<Call> {
-    let weighted = "GGMMFFTTTRRRRRVVVVVVV".bytes();
+    let weighted = "GGMMFFTTTRRRRRVVVVVVVSSSSSS".bytes();
     let usable: Vec<u8> = weighted
         .filter(|letter| letters.contains(*letter as char))
         .collect();
@@ -26,6 +26,7 @@ pub fn call(random: &mut Random, letters: &str) -> Option<Call> {
         b'F' => formula_call(random),
         b'T' => text_call(random),
         b'R' => rounds_call(random),
+        b'S' => search_call(random),
         _ => verdict_call(random),
     })
 }
@@ -225,6 +226,21 @@ fn verdict_call(random: &mut Random) -> Call {
     };
     let graph_room = room(random, length, MOST_BYTES);
     Call::verdict(&question, graph_room, room(random, values, MOST_VALUES))
+}
+
+/// A search, mostly of a plain graph.
+fn search_call(random: &mut Random) -> Call {
+    let message = if random.once_in(12) {
+        graph(random)
+    } else {
+        let most = if large(random) { 300 } else { 10 };
+        message::graph(&generate::plain_graph(random, most))
+    };
+    let message = maybe_damaged(random, &message, 12);
+    let nodes = bytes::graph(&message).map_or(1, |graph| graph.nodes);
+    let root = state(random, nodes);
+    let room = room(random, searches::needed(&message), MOST_WORDS);
+    Call::search(root, room, &message)
 }
 
 /// Mostly a state that exists.

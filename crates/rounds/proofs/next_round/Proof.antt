@@ -6,6 +6,10 @@ use Rattle.rounds.proofs.Next.{round-done}
 use Rattle.rounds.proofs.next_round.Statement.{statement}
 use Rattle.rounds.proofs.next_round.Tie as tie
 
+-- the places that the facts below look back to
+abbrev after-take-hypers : tie.After-slice-known3 → tie.After-take-hypers
+after-take-hypers c = c .before .before .before .before .before .before
+
 take-hypers-requires : tie.Need-take-hypers-requires
 take-hypers-requires c κs = let a = c .before .before .before in (a .pre .0, (forth refl refl, a .pre .1 .1 .1))
 
@@ -17,7 +21,7 @@ same-length c = search needs
 
 returns : tie.Need-returns
 returns c =
-    let t = c .before .before .before .before .before .before .take-hypers .ensures in
+    let t = after-take-hypers c .take-hypers .ensures in
     (t .0, round-done _ _ _ _ _ _ _ _ _ _ _ (t .1) (c .before .before .take-marked .ensures))
 
 pub next-round-spec : {M : Type 1} → statement M

@@ -23,6 +23,10 @@ Inv-loop s n j p k first₀ last₀ pos₀ i₀ q₀ first last pos i q =
 abbrev μ-loop : tie.MeasureT-loop
 μ-loop s n j p k first₀ last₀ pos₀ i₀ q₀ first last pos i q = i
 
+-- the places that the facts below look back to
+abbrev start : tie.After-slot Inv-loop μ-loop → tie.Start Inv-loop μ-loop
+start c = c .before .before .before .before .before
+
 add-q : tie.Need-add-q Inv-loop μ-loop
 add-q c = omega (arith, c .before .pre .1 .0)
 
@@ -46,9 +50,9 @@ slot-requires : tie.Need-slot-requires Inv-loop μ-loop
 slot-requires c κs = tt
 
 -- the slot is that of the next target
-slot-named : (c : tie.After-slot Inv-loop μ-loop) → let a = c .before .before .before .before .before .args in
+slot-named : (c : tie.After-slot Inv-loop μ-loop) → let a = start c .args in
     c .slot .result ≡ slotOf (a .n) (number 2 (now (a .s)) (c .before .before .before .loop .q + nodeAt))
-slot-named c = c .slot .ensures .0 ∙ ap (slotOf (c .before .before .before .before .before .args .n)) (c .before .number-at .ensures)
+slot-named c = c .slot .ensures .0 ∙ ap (slotOf (start c .args .n)) (c .before .number-at .ensures)
 
 add-q-2 : tie.Need-add-q-2 Inv-loop μ-loop
 add-q-2 c = omega (arith, here (c .before .before) .inside)
@@ -57,7 +61,7 @@ sub-i : tie.Need-sub-i Inv-loop μ-loop
 sub-i c = omega arith
 
 add-last : tie.Need-add-last Inv-loop μ-loop
-add-last c = omega (arith, c .before .before .before .before .before .pre .1 .1 .1 .0)
+add-last c = omega (arith, start c .pre .1 .1 .1 .0)
 
 mul-last : tie.Need-mul-last Inv-loop μ-loop
 mul-last c = omega (arith, c .slot .ensures .1)

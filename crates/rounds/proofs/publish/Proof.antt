@@ -15,6 +15,10 @@ Inv-loop n lo hi first last pos lows highs room₀ m₀ v₀ room m v = (v ≤ n
 abbrev μ-loop : tie.MeasureT-loop
 μ-loop n lo hi first last pos lows highs room₀ m₀ v₀ room m v = hi - v
 
+-- the places that the facts below look back to
+abbrev after-block : tie.After-slice-known2 Inv-loop μ-loop → tie.After-block Inv-loop μ-loop
+after-block c = c .before .before .before .before .before .before .before
+
 -- the call, from a turn
 abbrev start : tie.At-loop Inv-loop μ-loop → tie.Start Inv-loop μ-loop
 start c = c .before .before .before
@@ -50,11 +54,11 @@ publish-block-requires : tie.Need-publish-block-requires Inv-loop μ-loop
 publish-block-requires c κs = let b = c .before .before .before .before in (long (b .before .before), (omega arith, omega (arith, stops b)))
 
 loop-less : tie.Need-loop-less Inv-loop μ-loop
-loop-less c = let b = c .before .before .before .before .before .before .before in omega (arith, stops b)
+loop-less c = let b = after-block c in omega (arith, stops b)
 
 loop-again : tie.Need-loop-again Inv-loop μ-loop
 loop-again c =
-    let b = c .before .before .before .before .before .before .before in
+    let b = after-block c in
     (omega (arith, stops b), c .before .before .publish-block .ensures _ (start (b .before .before) .pre .0) (b .before .before .loop .inv .1))
 
 loop-less-2 : tie.Need-loop-less-2 Inv-loop μ-loop

@@ -17,6 +17,16 @@ use Rattle.rounds.proofs.Loop.{begins, from-here, holds-filled, filled-
 use Rattle.rounds.proofs.run.Statement.{statement}
 use Rattle.rounds.proofs.run.Tie as tie
 
+-- the places that the facts below look back to
+abbrev after-first-round : tie.After-same → tie.After-first-round
+after-first-round c = c .before .before .before .before
+
+abbrev after-next-round : tie.After-same2 → tie.After-next-round
+after-next-round c = c .before .before .before .before
+
+abbrev after-next-round-of-slice-known6 : tie.After-slice-known6 → tie.After-next-round
+after-next-round-of-slice-known6 c = after-next-round (c .before .before .before .before .before)
+
 -- places, from the last to the first: the second round, the budget that is not spent, the first round, the cleared room, the call
 abbrev raised : tie.After-same-arg2 → tie.After-raise
 raised c = c .before .before .before .before .before .before .before
@@ -66,22 +76,22 @@ same-requires : tie.Need-same-requires
 same-requires c κs = (long (c .before .before .before), (omega arith, anywhere))
 
 same-length : tie.Need-same-length
-same-length c = begun (c .before .before .before .before .before) .same-length
+same-length c = begun (after-first-round (c .before)) .same-length
 
 returns : tie.Need-returns
 unfolding decoded
 returns c =
-    let f = c .before .before .before .before .before in
+    let f = after-first-round (c .before) in
     let a = start (cleared f) in
     (ends-settled _ (a .pre .0 .closed) (a .pre .0 .storable) (begun f) (c .before .same .ensures .0 (c .if1 .taken)), holds-filled (a .pre .1) (begun f))
 
 same-length-2 : tie.Need-same-length-2
-same-length-2 c = begun (c .before .before .before .before .before .before) .same-length
+same-length-2 c = begun (after-first-round (c .before .before)) .same-length
 
 returns-2 : tie.Need-returns-2
 unfolding decoded
 returns-2 c =
-    let f = c .before .before .before .before .before .before in
+    let f = after-first-round (c .before .before) in
     let a = start (cleared f) in
     (ends-spent _ (a .pre .0 .closed) (a .pre .0 .storable) (begun f) (c .before .before .same .ensures .1 (c .before .if1 .left)) (sym (c .if2 .taken)), holds-filled (a .pre .1) (begun f))
 
@@ -120,18 +130,18 @@ same-requires-2 : tie.Need-same-requires-2
 same-requires-2 c κs = (longer (c .before .before .before), (omega arith, anywhere))
 
 same-length-3 : tie.Need-same-length-3
-same-length-3 c = again (c .before .before .before .before .before) .same-length
+same-length-3 c = again (after-next-round (c .before)) .same-length
 
 returns-3 : tie.Need-returns-3
 unfolding decoded
 returns-3 c =
-    let w = c .before .before .before .before .before in
+    let w = after-next-round (c .before) in
     let a = start (cleared (first (unspent (w .before .before .before .before)))) in
     (ends-settled _ (a .pre .0 .closed) (a .pre .0 .storable) (again w) (c .before .same2 .ensures .0 (c .if3 .taken)), holds-filled (a .pre .1) (again w))
 
 run-on-requires : tie.Need-run-on-requires
 run-on-requires c κs =
-    let w = c .before .before .before .before .before .before in
+    let w = after-next-round (c .before .before) in
     let f = first (unspent (w .before .before .before .before)) in
     (start (cleared f) .pre .0, (f .first-round .ensures .0, (longer w, from-here (again w))))
 
@@ -141,7 +151,7 @@ same-length-4 c = search needs
 returns-4 : tie.Need-returns-4
 unfolding decoded
 returns-4 c =
-    let w = c .before .before .before .before .before .before .before .before .before in
+    let w = after-next-round-of-slice-known6 c in
     (c .before .before .run-on .ensures .0, c .before .before .run-on .ensures .1 ∙ filled-past _ _ _ _ (again w .past))
 
 pub run-spec : {M : Type 1} → statement M

@@ -20,6 +20,13 @@ Inv-loop s n h c middle budget room₀ first last pos lows highs i₀ lo₀ hi�
 abbrev μ-loop : tie.MeasureT-loop
 μ-loop s n h c middle budget room₀ first last pos lows highs i₀ lo₀ hi₀ room i lo hi = budget - i
 
+-- the places that the facts below look back to
+abbrev start-of-pos : tie.After-pos Inv-loop μ-loop → tie.Start Inv-loop μ-loop
+start-of-pos c = c .before .before .before .before .before
+
+abbrev else2 : tie.After-publish-arg Inv-loop μ-loop → tie.Else2 Inv-loop μ-loop
+else2 c = c .before .before .before .before .before .before
+
 -- places, from the last to the first: the bounds of the sources, the round taken in, what was published, the turn, what was noted, the call
 abbrev bounded : tie.After-farther Inv-loop μ-loop → tie.After-hypers-from Inv-loop μ-loop
 bounded c = c .before .before .before .before .before
@@ -43,7 +50,7 @@ abbrev start : tie.After-note-hypers Inv-loop μ-loop → tie.Start Inv-loop μ-
 start c = c .before .before .before .before .before .before
 
 note-hypers-requires : tie.Need-note-hypers-requires Inv-loop μ-loop
-note-hypers-requires c κs = (c .before .before .before .before .before .pre .0 .sound .hypers, noted-none _ _)
+note-hypers-requires c κs = (start-of-pos c .pre .0 .sound .hypers, noted-none _ _)
 
 -- the cover edges stand behind the hyperedges
 covers-sound : (c : tie.Start Inv-loop μ-loop) → Sound (coverLayout (now (c .args .s)) (c .args .n)) (c .args .c) (c .args .middle)
@@ -82,7 +89,7 @@ same-requires : tie.Need-same-requires Inv-loop μ-loop
 same-requires c κs = let l = c .before .loop .inv in (long (c .before), (l .1 .1, l .2))
 
 publish-requires : tie.Need-publish-requires Inv-loop μ-loop
-publish-requires c κs = let t = turn (c .before .before .before .before .before .before) in (long t, (t .loop .inv .1, t .loop .inv .2))
+publish-requires c κs = let t = turn (else2 c) in (long t, (t .loop .inv .1, t .loop .inv .2))
 
 above-requires : tie.Need-above-requires Inv-loop μ-loop
 above-requires c κs = tt

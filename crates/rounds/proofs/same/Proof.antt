@@ -16,6 +16,10 @@ Inv-loop n lo hi room i₀ i = SameBelow n i room
 abbrev μ-loop : tie.MeasureT-loop
 μ-loop n lo hi room i₀ i = hi - i
 
+-- the places that the facts below look back to
+abbrev start : tie.Else1 Inv-loop μ-loop → tie.Start Inv-loop μ-loop
+start c = c .before .before .before .before .before .before
+
 loop-holds : tie.Need-loop-holds Inv-loop μ-loop
 loop-holds c = c .before .pre .1 .1 .before
 
@@ -42,7 +46,7 @@ loop-less c = omega arith
 
 loop-again : tie.Need-loop-again Inv-loop μ-loop
 loop-again c =
-    let a = c .before .before .before .before .before .before .args in
+    let a = start c .args in
     let l = c .before .before .before .before .loop in
     same-more (a .n) (l .i) _ (now (a .room)) (l .inv) (c .before .alike .ensures .0 (not-false _ (c .if1 .left)))
 

@@ -31,6 +31,16 @@ Inv-loop s n from to k at room₀ i₀ p₀ room i p =
 abbrev μ-loop : tie.MeasureT-loop
 μ-loop s n from to k at room₀ i₀ p₀ room i p = i
 
+-- the places that the facts below look back to
+abbrev start : tie.After-number-at Inv-loop μ-loop → tie.Start Inv-loop μ-loop
+start c = c .before .before .before .before .before
+
+abbrev in-loop : tie.After-number-at3 Inv-loop μ-loop → tie.In-loop Inv-loop μ-loop
+in-loop c = c .before .before .before .before
+
+abbrev after-number-at : tie.Then1 Inv-loop μ-loop → tie.After-number-at Inv-loop μ-loop
+after-number-at c = c .before .before .before .before .before .before
+
 loop-holds : tie.Need-loop-holds Inv-loop μ-loop
 loop-holds c = (c .before .before .pre .0, record { same-length = refl; this = refl; past = refl; each = λ v h. refl })
 
@@ -44,25 +54,25 @@ long c = rw (c .before .loop .inv .1 .same-length) (c .before .before .before .b
 beside : (c : tie.In-loop Inv-loop μ-loop) → let a = c .before .before .before .before .args in (a .from ≤ a .n) × (a .to ≤ a .n)
 beside c = let sides = c .before .before .before .before .pre .1 .0 in (sides-from sides, sides-to sides)
 
-source-named : (c : tie.After-number-at Inv-loop μ-loop) → c .number-at .result < c .before .before .before .before .before .args .n
-source-named c = rw (c .number-at .ensures) (here (c .before) .named)
+source-named : (c : tie.After-number-at Inv-loop μ-loop) → c .number-at .result < start c .args .n
+source-named c = omega (arith, c .number-at .ensures, here (c .before) .named)
 
-target-named : (c : tie.After-number-at3 Inv-loop μ-loop) → c .number-at3 .result < c .before .before .before .before .before .before .before .before .args .n
-target-named c = rw (c .number-at3 .ensures) (here (c .before .before .before .before) .target-named)
+target-named : (c : tie.After-number-at3 Inv-loop μ-loop) → c .number-at3 .result < in-loop c .before .before .before .before .args .n
+target-named c = omega (arith, c .number-at3 .ensures, here (c .before .before .before .before) .target-named)
 
 -- what was asked of the target is what the cover edge asks of this round
 asked : (c : tie.After-within Inv-loop μ-loop) →
-    let a = c .before .before .before .before .before .before .before .before .before .before .args in
+    let a = in-loop (c .before .before) .before .before .before .before .args in
     let s = now (a .s) in
-    let p = c .before .before .before .before .before .before .before .loop .p in
+    let p = in-loop (c .before .before) .before .loop .p in
     c .within .result ≡ meets (boundOf (number 4 s (p + coverBoundAt))) (held (half (a .n) (a .from) (now (a .room))) (number 2 s (p + coverTargetAt)))
 asked c =
-    let a = c .before .before .before .before .before .before .before .before .before .before .args in
+    let a = in-loop (c .before .before) .before .before .before .before .args in
     let s = now (a .s) in
-    let l = c .before .before .before .before .before .before .before .loop in
+    let l = in-loop (c .before .before) .before .loop in
     let t = number 2 s (l .p + coverTargetAt) in
     let same : getD (l .room) (a .from + t) 0 ≡ getD (half (a .n) (a .from) (now (a .room))) t 0 =
-    sym (half-at (a .n) (a .from) (l .room) t (here (c .before .before .before .before .before .before) .target-named)) ∙ ap (λ (xs : List ℕ). getD xs t 0) (l .inv .1 .this) in
+    sym (half-at (a .n) (a .from) (l .room) t (here (in-loop (c .before .before)) .target-named)) ∙ ap (λ (xs : List ℕ). getD xs t 0) (l .inv .1 .this) in
     let bound = c .before .before .before .coded .ensures ∙ ap boundOf (c .before .before .before .before .number-at2 .ensures) in
     c .within .ensures
     ∙ ap₂ (λ (b : Bound) (v : ℕ). meets b (held (l .room) (a .from + v))) bound (c .before .before .number-at3 .ensures)
@@ -99,13 +109,13 @@ mul-value : tie.Need-mul-value Inv-loop μ-loop
 mul-value c = omega (arith, target-named c, long (c .before .before .before .before), beside (c .before .before .before .before))
 
 slice-read-value : tie.Need-slice-read-value Inv-loop μ-loop
-slice-read-value c = omega (arith, target-named (c .before), long (c .before .before .before .before .before), beside (c .before .before .before .before .before))
+slice-read-value c = omega (arith, target-named (c .before), long (in-loop (c .before)), beside (in-loop (c .before)))
 
 add-own : tie.Need-add-own Inv-loop μ-loop
-add-own c = omega (arith, source-named (c .before .before .before .before), long (c .before .before .before .before .before), beside (c .before .before .before .before .before))
+add-own c = omega (arith, source-named (c .before .before .before .before), long (in-loop (c .before)), beside (in-loop (c .before)))
 
 add-p : tie.Need-add-p Inv-loop μ-loop
-add-p c = omega (arith, here (c .before .before .before .before .before) .inside)
+add-p c = omega (arith, here (in-loop (c .before)) .inside)
 
 sub-i : tie.Need-sub-i Inv-loop μ-loop
 sub-i c = omega arith
@@ -114,21 +124,21 @@ within-requires : tie.Need-within-requires Inv-loop μ-loop
 within-requires c κs = tt
 
 mul-room : tie.Need-mul-room Inv-loop μ-loop
-mul-room c = omega (arith, source-named (c .before .before .before .before .before .before), long (c .before .before .before .before .before .before .before), beside (c .before .before .before .before .before .before .before))
+mul-room c = omega (arith, source-named (after-number-at c), long (in-loop (c .before .before .before)), beside (in-loop (c .before .before .before)))
 
 slice-write-room : tie.Need-slice-write-room Inv-loop μ-loop
-slice-write-room c = omega (arith, source-named (c .before .before .before .before .before .before), long (c .before .before .before .before .before .before .before), beside (c .before .before .before .before .before .before .before))
+slice-write-room c = omega (arith, source-named (after-number-at c), long (in-loop (c .before .before .before)), beside (in-loop (c .before .before .before)))
 
 loop-less : tie.Need-loop-less Inv-loop μ-loop
 loop-less c = omega arith
 
 loop-again : tie.Need-loop-again Inv-loop μ-loop
 loop-again c =
-    let turn = c .before .before .before .before .before .before .before in
+    let turn = in-loop (c .before .before .before) in
     let l = turn .before .loop in
     let h = turn .loop-test .taken in (
       sound-more _ h (l .inv .0) .1,
-      rw (c .before .before .before .before .before .before .number-at .ensures)
+      rw (after-number-at c .number-at .ensures)
           (covers-met _ _ _ _ _ (l .i) (l .p) (l .inv .1) (turn .before .before .before .before .pre .1 .0) (turn .before .before .before .before .pre .1 .1) h (here turn) (by (asked (c .before)) (c .if1 .taken))),
     )
 
@@ -137,7 +147,7 @@ loop-less-2 c = omega arith
 
 loop-again-2 : tie.Need-loop-again-2 Inv-loop μ-loop
 loop-again-2 c =
-    let turn = c .before .before .before .before .before .before .before in
+    let turn = in-loop (c .before .before .before) in
     let l = turn .before .loop in
     let h = turn .loop-test .taken in
     (sound-more _ h (l .inv .0) .1, covers-unmet _ _ _ _ _ (l .i) (l .p) (l .inv .1) h (by (asked (c .before)) (c .if1 .left)))

@@ -10,6 +10,10 @@ use Rattle.rounds.specs.Room.{held}
 use Rattle.rounds.proofs.target_sum.Statement.{statement}
 use Rattle.rounds.proofs.target_sum.Tie as tie
 
+-- the places that the facts below look back to
+abbrev start : tie.After-add → tie.Start
+start c = c .before .before .before .before .before .before
+
 number-at-requires : tie.Need-number-at-requires
 number-at-requires c κs = omega (arith, c .before .before .pre .0 .inside)
 
@@ -37,7 +41,7 @@ add-requires c κs = tt
 
 returns : tie.Need-returns
 returns c =
-    let a = c .before .before .before .before .before .before .args in
+    let a = start c .args in
     c .add .ensures ∙ ap₂ (λ (w v : ℕ). stored (plus w (held (now (a .x)) v))) (c .before .before .before .number-at .ensures) (c .before .before .number-at2 .ensures)
 
 pub target-sum-spec : {M : Type 1} → statement M

@@ -6,14 +6,14 @@ use Rattle.trials.proofs.answer_all.Statement.{statement}
 use Rattle.trials.proofs.answer_all.Tie as tie
 
 abbrev Inv-loop : tie.InvT-loop
-Inv-loop space₀ bytes₀ values₀ turns₀ space bytes values turns =
-    (length space ≡ length space₀) × (length bytes ≡ length bytes₀) × (length values ≡ length values₀)
+Inv-loop space₀ bytes₀ values₀ words₀ turns₀ space bytes values words turns =
+    (length space ≡ length space₀) × (length bytes ≡ length bytes₀) × (length values ≡ length values₀) × (length words ≡ length words₀)
 
 abbrev μ-loop : tie.MeasureT-loop
-μ-loop space₀ bytes₀ values₀ turns₀ space bytes values turns = turns
+μ-loop space₀ bytes₀ values₀ words₀ turns₀ space bytes values words turns = turns
 
 loop-holds : tie.Need-loop-holds Inv-loop μ-loop
-loop-holds c = (refl, refl, refl)
+loop-holds c = (refl, refl, refl, refl)
 
 answer-next-requires : tie.Need-answer-next-requires Inv-loop μ-loop
 answer-next-requires c κs = tt
@@ -36,17 +36,23 @@ same-length-2 c = omega arith
 same-length-3 : tie.Need-same-length-3 Inv-loop μ-loop
 same-length-3 c = omega arith
 
-returns : tie.Need-returns Inv-loop μ-loop
-returns c = tt
-
 same-length-4 : tie.Need-same-length-4 Inv-loop μ-loop
 same-length-4 c = omega arith
+
+returns : tie.Need-returns Inv-loop μ-loop
+returns c = tt
 
 same-length-5 : tie.Need-same-length-5 Inv-loop μ-loop
 same-length-5 c = omega arith
 
 same-length-6 : tie.Need-same-length-6 Inv-loop μ-loop
 same-length-6 c = omega arith
+
+same-length-7 : tie.Need-same-length-7 Inv-loop μ-loop
+same-length-7 c = omega arith
+
+same-length-8 : tie.Need-same-length-8 Inv-loop μ-loop
+same-length-8 c = omega arith
 
 returns-2 : tie.Need-returns-2 Inv-loop μ-loop
 returns-2 c = tt
@@ -65,8 +71,10 @@ answer-all-spec =
     same-length
     same-length-2
     same-length-3
-    returns
     same-length-4
+    returns
     same-length-5
     same-length-6
+    same-length-7
+    same-length-8
     returns-2)

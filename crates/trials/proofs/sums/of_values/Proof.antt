@@ -10,7 +10,7 @@ use Rattle.trials.proofs.sums.of_values.Statement.{statement}
 use Rattle.trials.proofs.sums.of_values.Tie as tie
 
 abbrev Inv-loop : tie.InvT-loop
-Inv-loop s sum₀ i₀ sum i = (i ≤ length s) × (afterAll sum (wide (drop i s)) ≡ afterAll 1 (wide s))
+Inv-loop s sum₀ i₀ sum i = (i ≤ length s) × (afterAll sum (wide 8 (drop i s)) ≡ afterAll 1 (wide 8 s))
 
 abbrev μ-loop : tie.MeasureT-loop
 μ-loop s sum₀ i₀ sum i = length s - i
@@ -37,7 +37,7 @@ loop-again : tie.Need-loop-again Inv-loop μ-loop
 loop-again c =
     let at = c .before .before .before .loop in
     let s = c .before .before .before .before .before .args .s .now in
-    (omega arith, rw (c .add-number .ensures) (sym (after-next-number (at .sum) s (at .i) (omega arith)) ∙ at .inv .1))
+    (omega arith, rw (c .add-number .ensures) (sym (after-next-number (at .sum) 8 s (at .i) (omega arith)) ∙ at .inv .1))
 
 returns : tie.Need-returns Inv-loop μ-loop
 unfolding afterAll wide
