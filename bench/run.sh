@@ -57,9 +57,20 @@ build() { # NAME GCC TRIPLE RUSTC LIBRARY
     done
     $4 -C opt-level=3 -C panic=abort -C relocation-model=pic --crate-type lib --emit obj "$root/bench/plain.rs" -o "$dir/rust_.o"
     $2 -std=gnu17 -O2 -Wall -Wextra -Werror -I"$root/include" "$root/bench/harness.c" "$dir"/*_.o "$5" -o "$dir/harness"
+    $2 -std=gnu17 -O3 -Wall -Wextra -Werror -DP=gcc_ -c "$root/bench/search.c" -o "$dir/search-gcc.o"
+    "$kit_clang" --target="$3" -std=gnu17 -O3 -Wall -Wextra -Werror -DP=clang_ -c "$root/bench/search.c" -o "$dir/search-clang.o"
+    $2 -std=gnu17 -O2 -Wall -Wextra -Werror -I"$root/include" "$root/bench/searches.c" "$dir"/search-{gcc,clang}.o "$5" -o "$dir/searches"
     for version in gcc_ clang_ rust_ dgcc_ dclang_; do
         $2 -std=gnu17 -O3 -Wall -Wextra -Werror -DP=$version "$root/bench/program.c" "$dir/$version.o" -o "$dir/program-$version"
     done
+}
+
+# Measures the searches: seconds a turn, turns, a part of a name, and the words that run it.
+searches() { # TURN TURNS ONLY RUN-WORDS
+    local turn=$1 turns=$2 only=$3
+    shift 3
+    printf '\nThe search from one node, beside the same algorithm in C with allocated arrays (b), and beside the rounds of the library:\n\n'
+    "$@" "$turn" "$turns" "$only"
 }
 
 # Measures the programs: how many turns, where, the program (a), and the words that run it.
@@ -100,12 +111,14 @@ END
         printf '\n## x86-64, under an emulator (%s): these times say little about an x86-64 processor\n\n' "${emulated#under }"
     fi
     $run "$out/x86_64/harness" "${1:-$turn}" "${2:-$turns}" "${3:-}"
+    searches "${1:-$turn}" "${2:-$turns}" "${3:-}" $run "$out/x86_64/searches"
     printf '\nPrograms, with their start and end:\n\n'
     # shellcheck disable=SC2086
     programs $((10 * ${2:-$turns})) "${3:-}" x86_64 "$target/bin/otzarvim" $run
     if [ "$machine" != x86_64 ]; then
         printf '\n## %s, without an emulator: the LLVM modules of the library and the program compiled for this machine\n\n' "$machine"
         "$out/here/harness" "${1:-0.02}" "${2:-7}" "${3:-}"
+        searches "${1:-0.02}" "${2:-7}" "${3:-}" "$out/here/searches"
         printf '\nPrograms, with their start and end:\n\n'
         programs $((40 * ${2:-7})) "${3:-}" here "$out/here/otzarvim"
     fi

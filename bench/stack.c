@@ -33,13 +33,14 @@ static size_t touched(void (*f)(void))
     return STACK - low;
 }
 
-static uint8_t graph[1 << 20], model[1 << 20], formula[1024], asked[1024], text[4096], built[OTZARVIM_MOST_GRAPH];
-static size_t graph_length, model_length, formula_length, asked_length, length;
-static uint64_t room[OTZARVIM_MOST_VALUES];
+static uint8_t graph[1 << 20], plain[1 << 20], model[1 << 20], formula[1024], asked[1024], text[4096], built[OTZARVIM_MOST_GRAPH];
+static size_t graph_length, plain_length, model_length, formula_length, asked_length, length;
+static uint64_t room[OTZARVIM_MOST_VALUES], taken;
+static uint32_t words[1 << 17];
 static uint32_t counts[3], count, states[2];
 static uint8_t number, verdict;
 
-/* A chain of nodes with cover edges, a model with every count at its limit, 64 rows, each an operand of the next, with bounds of ten
+/* A chain of nodes with cover edges, one for the search that ends, a model with every count at its limit, 64 rows, each an operand of the next, with bounds of ten
  * digits, and a formula with untils within an until, EX and AX, whose graph is large. */
 static void inputs(void)
 {
@@ -50,6 +51,12 @@ static void inputs(void)
     for (uint32_t i = 0; i < 4096; i++)
         put(i, 2), put(i, 4), put(i, 2);
     graph_length = finish(graph);
+    start(plain, 1);
+    put(4096, 2), put(4096, 4), put(0, 2);
+    for (uint32_t i = 0; i < 4095; i++)
+        put(i, 2), put(1, 2), put(0, 4), put(i + 1, 2);
+    put(4095, 2), put(0, 2);
+    plain_length = finish(plain);
     start(model, 2);
     put(256, 2), put(32, 1), put(65535, 4);
     for (uint32_t i = 0; i < 256; i++)
@@ -94,6 +101,11 @@ static void rounds_solve(void)
     number = otzarvim_rounds_solve(graph, graph_length, 5, room, OTZARVIM_MOST_VALUES, &count);
 }
 
+static void search(void)
+{
+    number = otzarvim_search(plain, plain_length, 0, words, sizeof words / sizeof *words, &verdict, &taken);
+}
+
 static void formula_text(void)
 {
     number = otzarvim_formula_text(formula, formula_length, 32, text, sizeof text, &length);
@@ -124,6 +136,7 @@ static const struct {
     {"otzarvim_model_check", model_check},
     {"otzarvim_formula_check", formula_check},
     {"otzarvim_rounds_solve", rounds_solve},
+    {"otzarvim_search", search},
     {"otzarvim_formula_text", formula_text},
     {"otzarvim_verdict", decide},
     {"otzarvim_graph", build},
