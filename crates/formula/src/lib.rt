@@ -183,7 +183,7 @@ fn judge(p: u32, place: u32, operator: u32, left: u32, right: u32, zero: u32, bo
     Judged::Fine(row_of(operator, left, right, bound))
 }
 
-// The same, with an arm for each kind of operator: so the compiler knows in each which fields are used.
+// The same, with a branch for each kind of operator: so the compiler knows in each which fields are used.
 fn judge_kind(
     p: u32,
     place: u32,
@@ -195,13 +195,22 @@ fn judge_kind(
 ) -> Judged
     ensures { λ r. ⌜ r ≡ answers.judged (m.judgeRow p place operator left right zero bound) ⌝ }
 {
-    match operator {
-        0 | 1 => judge(p, place, operator, left, right, zero, bound),
-        2 | 3 => judge(p, place, operator, left, right, zero, bound),
-        4 | 5 => judge(p, place, operator, left, right, zero, bound),
-        6 | 7 => judge(p, place, operator, left, right, zero, bound),
-        _ => judge(p, place, operator, left, right, zero, bound),
+    if operator <= 1 {
+        return judge(p, place, operator, left, right, zero, bound);
     }
+    if operator <= 3 {
+        return judge(p, place, operator, left, right, zero, bound);
+    }
+    if operator <= 5 {
+        return judge(p, place, operator, left, right, zero, bound);
+    }
+    if operator <= 7 {
+        return judge(p, place, operator, left, right, zero, bound);
+    }
+    if operator <= 9 {
+        return judge(p, place, operator, left, right, zero, bound);
+    }
+    Judged::Refused(Refusal::Form)
 }
 
 // The header, and that the message is as long as its count says.
