@@ -140,6 +140,25 @@ static const struct {
     {"wide, nothing found", 4000, wide_lost}, {"a fan of one hyperedge", 4000, fan},
 };
 
+/* How many edges the search takes at most: the root's, and for every target place of every hyperedge one more than the target has. */
+static uint64_t limit(uint32_t n)
+{
+    uint64_t most = 0;
+    uint32_t *degrees = calloc(n, sizeof *degrees);
+    for (int pass = 0; pass < 2; pass++)
+        for (const uint8_t *p = message + 14; p < message + length;) {
+            uint32_t targets = p[2] * 256u + p[3];
+            if (pass == 0)
+                degrees[p[0] * 256u + p[1]]++;
+            p += 4;
+            for (uint32_t i = 0; i < targets; i++, p += 6)
+                most += pass ? degrees[p[4] * 256u + p[5]] + 1 : 0;
+        }
+    most += degrees[ROOT];
+    free(degrees);
+    return most;
+}
+
 /* ---- versions */
 
 enum { A, B_GCC, B_CLANG, ROUNDS, VERSIONS };
@@ -225,8 +244,8 @@ int main(int argc, char **argv)
     int turns = argc > 2 ? atoi(argv[2]) : 7;
     const char *only = argc > 3 ? argv[3] : "";
     message = malloc(MESSAGE), words = calloc(WORDS, sizeof *words), room = malloc(OTZARVIM_MOST_VALUES * sizeof *room);
-    printf("| search | nodes | bytes | answer | edges taken | rounds | (a) µs | (b) µs | rounds, µs | a/b | a/rounds |\n");
-    printf("|---|---|---|---|---|---|---|---|---|---|---|\n");
+    printf("| search | nodes | bytes | answer | edges taken | at most | rounds | (a) µs | (b) µs | rounds, µs | a/b | a/rounds |\n");
+    printf("|---|---|---|---|---|---|---|---|---|---|---|---|\n");
     for (size_t i = 0; i < sizeof table / sizeof *table; i++) {
         if (!strstr(table[i].name, only))
             continue;
@@ -236,12 +255,14 @@ int main(int argc, char **argv)
             uint32_t size = table[i].most / part;
             table[i].make(size);
             compare(table[i].name, answers);
+            if (answers[A].count > limit(size))
+                differ(table[i].name, "a count above its limit");
             measure(turn, turns, best);
             int gcc = best[B_GCC] < best[B_CLANG];
             double b = best[gcc ? B_GCC : B_CLANG];
-            printf("| %s | %u | %llu | %s | %llu | %llu | %.2f | %.2f (%s) | %.2f | %.2f | %.2f |\n", part == 8 ? table[i].name : "", size,
+            printf("| %s | %u | %llu | %s | %llu | %llu | %llu | %.2f | %.2f (%s) | %.2f | %.2f | %.2f |\n", part == 8 ? table[i].name : "", size,
                    (unsigned long long)length, answers[A].yes ? "yes" : "no", (unsigned long long)answers[A].count,
-                   (unsigned long long)answers[ROUNDS].count, best[A] * 1e6, b * 1e6, gcc ? "gcc" : "clang", best[ROUNDS] * 1e6, best[A] / b,
+                   (unsigned long long)limit(size), (unsigned long long)answers[ROUNDS].count, best[A] * 1e6, b * 1e6, gcc ? "gcc" : "clang", best[ROUNDS] * 1e6, best[A] / b,
                    best[A] / best[ROUNDS]);
             fflush(stdout);
         }

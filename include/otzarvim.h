@@ -131,7 +131,9 @@ uint8_t otzarvim_rounds_solve(const uint8_t *message, size_t message_length, uin
  *   root                      the node
  *   words, words_length       so many numbers; below 4n + 8h + 4t is ROOM
  *   verdict                   gets 0 for none, 1 for yes, 2 for no
- *   count                     gets how many edges were taken off the search's stacks
+ *   count                     gets how many edges were taken off the search's stacks: at most the root's number of
+ *                             hyperedges, plus, over every target place of every hyperedge, one more than the number
+ *                             of hyperedges of that target node
  *
  * With OK those first words are 0 afterwards, and the others stay.
  *

@@ -392,7 +392,8 @@ pub fn solve(message: &[u8], budget: u32, room: &mut [u64]) -> Result<Rounds, Re
 pub struct Found {
     /// Whether the root's settled value is 0.
     pub verdict: Verdict,
-    /// How many edges were taken off the search's stacks.
+    /// How many edges were taken off the search's stacks: at most the root's number of hyperedges, plus, over every target place of
+    /// every hyperedge, one more than the number of hyperedges of that target node.
     pub count: u64,
 }
 
