@@ -1,13 +1,13 @@
 /* Measures the library (a) beside plain C (b), plain Rust (c) and C that decodes first (d), in one run, on the same inputs; all
  * answers are compared, so that no version is fast by being wrong. A workload is a row of the table at the end. */
 #include "inputs.h"
+#include "measure.h"
 #include "otzarvim.h"
 #include "plain.h"
 
 #include <stdio.h>
 #include <stdlib.h>
 #include <string.h>
-#include <time.h>
 
 DECLARE(gcc_)
 DECLARE(clang_)
@@ -361,13 +361,6 @@ static const struct workload {
 
 /* ---- measuring */
 
-static double seconds(void)
-{
-    struct timespec t;
-    clock_gettime(CLOCK_PROCESS_CPUTIME_ID, &t);
-    return (double)t.tv_sec + (double)t.tv_nsec * 1e-9;
-}
-
 static struct input in;
 static struct answer answers[VERSIONS];
 
@@ -414,24 +407,11 @@ static long spoil(const struct workload *w)
     return refused;
 }
 
-/* The least time of a call of each version, in some turns; a turn of a version takes about the time given. */
-static void measure(const struct workload *w, double turn, int turns, double *best)
+static const struct workload *measured;
+
+static void call(int version)
 {
-    long calls[VERSIONS];
-    for (int v = 0; v < VERSIONS; v++)
-        best[v] = 0, calls[v] = 1;
-    for (int i = 0; i < turns; i++)
-        for (int v = A; v < VERSIONS; v++) {
-            double from = seconds(), spent;
-            for (long k = 0; k < calls[v]; k++)
-                w->run(v, &in, &answers[v]);
-            spent = seconds() - from;
-            double each = spent / (double)calls[v];
-            if (best[v] == 0 || each < best[v])
-                best[v] = each;
-            if (spent < turn / 2)
-                calls[v] = each > 0 ? 1 + (long)(turn / each) : calls[v] * 2;
-        }
+    measured->run(version, &in, &answers[version]);
 }
 
 static double better(double x, double y)
@@ -468,7 +448,8 @@ int main(int argc, char **argv)
             w->make(&in, size);
             compare(w);
             double best[VERSIONS];
-            measure(w, turn, turns, best);
+            measured = w;
+            least(VERSIONS, call, turn, turns, best);
             double b = better(best[B_GCC], best[B_CLANG]), d = better(best[D_GCC], best[D_CLANG]);
             printf("| %s | %u %s | %llu | %u |", part == 8 ? w->name : "", size, w->unit, (unsigned long long)in.length,
                    answers[A].count);

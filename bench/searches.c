@@ -1,12 +1,12 @@
 /* Measures the library's search (a) beside the same algorithm in C on allocated arrays (b) and beside the library's rounds, in one run,
  * on the same graphs; answers and counts are compared, and the words that must be zero afterwards. */
 #include "inputs.h"
+#include "measure.h"
 #include "otzarvim.h"
 
 #include <stdio.h>
 #include <stdlib.h>
 #include <string.h>
-#include <time.h>
 
 uint32_t gcc_search(const uint8_t *s, uint64_t length, uint32_t root, uint64_t *count);
 uint32_t clang_search(const uint8_t *s, uint64_t length, uint32_t root, uint64_t *count);
@@ -211,31 +211,10 @@ static void compare(const char *name, struct answer *answers)
 
 /* ---- measuring */
 
-static double seconds(void)
+static void call(int version)
 {
-    struct timespec t;
-    clock_gettime(CLOCK_PROCESS_CPUTIME_ID, &t);
-    return (double)t.tv_sec + (double)t.tv_nsec * 1e-9;
-}
-
-static void measure(double turn, int turns, double *best)
-{
-    long calls[VERSIONS];
     struct answer answer;
-    for (int v = 0; v < VERSIONS; v++)
-        best[v] = 0, calls[v] = 1;
-    for (int i = 0; i < turns; i++)
-        for (int v = A; v < VERSIONS; v++) {
-            double from = seconds(), spent;
-            for (long k = 0; k < calls[v]; k++)
-                run(v, &answer);
-            spent = seconds() - from;
-            double each = spent / (double)calls[v];
-            if (best[v] == 0 || each < best[v])
-                best[v] = each;
-            if (spent < turn / 2)
-                calls[v] = each > 0 ? 1 + (long)(turn / each) : calls[v] * 2;
-        }
+    run(version, &answer);
 }
 
 int main(int argc, char **argv)
@@ -257,7 +236,7 @@ int main(int argc, char **argv)
             compare(table[i].name, answers);
             if (answers[A].count > limit(size))
                 differ(table[i].name, "a count above its limit");
-            measure(turn, turns, best);
+            least(VERSIONS, call, turn, turns, best);
             int gcc = best[B_GCC] < best[B_CLANG];
             double b = best[gcc ? B_GCC : B_CLANG];
             printf("| %s | %u | %llu | %s | %llu | %llu | %llu | %.2f | %.2f (%s) | %.2f | %.2f | %.2f |\n", part == 8 ? table[i].name : "", size,
