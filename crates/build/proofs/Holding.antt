@@ -21,7 +21,7 @@ use Rattle.formula.specs.declared.Row.{Row}
 use Rattle.formula.specs.Message.{readFormula}
 use Rattle.formula.specs.WellFormed as formula
 use Rattle.formula.proofs.Good.{formula-good, header-good as rows-header}
-use Rattle.formula.proofs.Accepted.{holds}
+use Rattle.formula.proofs.Accepted.{accepted-holds}
 use Rattle.formula.proofs.Exact as formula-exact
 use Rattle.build.specs.Held.{transitionLayout, labelLayout, heldModel, heldRows, HoldsModel, HoldsRows}
 
@@ -46,7 +46,7 @@ module _ (m : List ℕ) where
 -- the model is the one at the positions, and a builder may rely on it
 pub record ModelHeld (m : List ℕ) (M : Model) (n p t : ℕ) : Type 0 where
   pub is : M ≡ heldModel m n p t
-  pub holds : HoldsModel m n p t
+  pub stands : HoldsModel m n p t
 
 pub model-held : (m : List ℕ) (M : Model) → Bytes m → readModel m ≡ good M → ModelHeld m M (M .states) (M .propositions) (length (M .transitions))
 unfolding heldModel
@@ -66,7 +66,7 @@ model-held m M bytes e =
     } in
     record {
       is = at;
-      holds = record {
+      stands = record {
         long = head .long;
         well-formed = subst model.WellFormed at (model-exact.accepted-written m M bytes e .1);
         transitions-fit = head .transitions-counted .no-more;
@@ -76,17 +76,17 @@ model-held m M bytes e =
 -- the same of a formula's rows
 pub record RowsHeld (f : List ℕ) (rows : List Row) (k p : ℕ) : Type 0 where
   pub is : rows ≡ heldRows f k
-  pub holds : HoldsRows f k p
+  pub stands : HoldsRows f k p
 
 pub rows-held : (p : ℕ) (f : List ℕ) (rows : List Row) → Bytes f → readFormula p f ≡ good rows → RowsHeld f rows (length rows) p
 unfolding heldRows
 rows-held p f rows bytes e =
     let g = formula-good p f rows e in
     let head = rows-header f (length rows) (g .header) in
-    let are = holds p f rows e .are in
+    let are = accepted-holds p f rows e .are in
     record {
       is = are;
-      holds = record {
+      stands = record {
         long = head .long;
         well-formed = subst (formula.WellFormed p) are (formula-exact.accepted-written p f rows bytes e .1);
         rows-fit = head .f-counted .no-more;

@@ -32,7 +32,7 @@ use Rattle.build.specs.declared.Built.the-variants as Built
 use Rattle.build.specs.declared.sizing.Size as size
 use Rattle.build.specs.Size.{sizeOf, rowsEdges, inLimits}
 use Rattle.build.specs.Bytes.{rowsBytes, helpersBytes, coverBytes, coversFrom, coversOf}
-use Rattle.build.specs.Built.{fits, roomy, builtOf, roomOf, Writable}
+use Rattle.build.specs.Built.{fits, roomy, builtOf, builtRoom, Writable}
 use Rattle.build.proofs.Untils.{other-row, by-row}
 use Rattle.wire.proofs.Written.{writeAll-append}
 use Rattle.lists.proofs.Making.{span-empty}
@@ -188,12 +188,12 @@ module _ {M : Model} {rows : List Row} {n k u : ℕ} {z : size.Size} (c : Counte
 -- ---- the answers
 
 module _ (g : Graph) (b : List ℕ) (values : ℕ) where
-  pub size-refused : fits g ≡ false → (Built.Refused Size ≡ builtOf g b values) × (b ≡ roomOf g b values)
-  unfolding builtOf roomOf
+  pub size-refused : fits g ≡ false → (Built.Refused Size ≡ builtOf g b values) × (b ≡ builtRoom g b values)
+  unfolding builtOf builtRoom
   size-refused e = (rw e, rw e)
 
-  pub room-refused : fits g ≡ true → roomy g b values ≡ false → (Built.Refused Room ≡ builtOf g b values) × (b ≡ roomOf g b values)
-  unfolding builtOf roomOf
+  pub room-refused : fits g ≡ true → roomy g b values ≡ false → (Built.Refused Room ≡ builtOf g b values) × (b ≡ builtRoom g b values)
+  unfolding builtOf builtRoom
   room-refused e f = (rw (e, f), rw (e, f))
 
   module _ (e : fits g ≡ true) (f : roomy g b values ≡ true) {long : ℕ} (long-is : long ≡ length (writeGraph g)) where
@@ -206,6 +206,6 @@ module _ (g : Graph) (b : List ℕ) (values : ℕ) where
       room = leb-true (length (writeGraph g)) (length b) (and-left _ _ f);
     }
 
-    pub graph-built : {b′ : List ℕ} → b′ ≡ laid b 0 (writeGraph g) → (Built.Graph long ≡ builtOf g b values) × (b′ ≡ roomOf g b values)
-    unfolding builtOf roomOf laid
+    pub graph-built : {b′ : List ℕ} → b′ ≡ laid b 0 (writeGraph g) → (Built.Graph long ≡ builtOf g b values) × (b′ ≡ builtRoom g b values)
+    unfolding builtOf builtRoom laid
     graph-built h = (rw (e, f, long-is), rw (e, f) (h ∙ ap (λ (n : ℕ). writeGraph g ++ drop n b) (zero-add (length (writeGraph g)))))

@@ -41,8 +41,8 @@ unfoldable pub builtOf : Graph → List ℕ → ℕ → Built
 builtOf g b values = cond (fits g) (cond (roomy g b values) (Built.Graph (length (writeGraph g))) (Built.Refused Room)) (Built.Refused Size)
 
 -- the graph stands at the front of its room, the rest untouched; a refusal leaves the room as it came
-unfoldable pub roomOf : Graph → List ℕ → ℕ → List ℕ
-roomOf g b values = cond (fits g) (cond (roomy g b values) (writeGraph g ++ drop (length (writeGraph g)) b) b) b
+unfoldable pub builtRoom : Graph → List ℕ → ℕ → List ℕ
+builtRoom g b values = cond (fits g) (cond (roomy g b values) (writeGraph g ++ drop (length (writeGraph g)) b) b) b
 
 -- the graph passes no limit, its counts are these, and its bytes fit
 pub record Writable (g : Graph) (hypers long : ℕ) (b : List ℕ) : Type 0 where

@@ -9,7 +9,7 @@ ghost use Prim.Native.Nat.{_+_, _*_, _≤_};
 ghost use lib.ListN.{length};
 ghost use Rattle.reduction.specs.Built as built;
 ghost use Rattle.build.specs.Held.{heldModel, heldRows, HoldsModel, HoldsRows};
-ghost use Rattle.build.specs.Built.{builtNumber, builtLength, builtOf, roomOf};
+ghost use Rattle.build.specs.Built.{builtNumber, builtLength, builtOf, builtRoom};
 use refusal::Refusal;
 
 // The length of the graph, or why it was not built.
@@ -64,7 +64,7 @@ pub fn build(
     requires { ⌜ HoldsModel (now m) n p t ⌝ }
     requires { ⌜ HoldsRows (now f) k p ⌝ }
     ensures { λ r. ⌜ r ≡ builtOf (built.graphOf (heldModel (now (m .entry)) n p t) (heldRows (now (f .entry)) k)) (now (room .entry)) values ⌝ }
-    ensures { λ _. ⌜ now (room .exit) ≡ roomOf (built.graphOf (heldModel (now (m .entry)) n p t) (heldRows (now (f .entry)) k)) (now (room .entry)) values ⌝ }
+    ensures { λ _. ⌜ now (room .exit) ≡ builtRoom (built.graphOf (heldModel (now (m .entry)) n p t) (heldRows (now (f .entry)) k)) (now (room .entry)) values ⌝ }
 {
     let untils = sizing::count_untils(f, k, p);
     let table = transitions::starts(m, n, p, t);

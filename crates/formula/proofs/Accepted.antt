@@ -24,8 +24,8 @@ row-is s p st row e =
     rw (value-is 1 s _ (g .operator-there), value-is 1 s _ (g .left-there), value-is 1 s _ (g .right-there), value-is 4 s _ (g .bound-there)) (sym (g .fine .is))
 
 -- and its operands are among the 64 rows that there are at most
-row-reads : (s : List ℕ) (p k : ℕ) (st : State) (row : Row) → st .tally + suc k ≤ 64 → readRow s p st ≡ good row
-    → Reads (rowLayout s) (rows s p) st row × (st .tally + 1 + k ≤ 64)
+row-reads : (s : List ℕ) (p k : ℕ) (st : State) (row : Row) → st .seen + suc k ≤ 64 → readRow s p st ≡ good row
+    → Reads (rowLayout s) (rows s p) st row × (st .seen + 1 + k ≤ 64)
 row-reads s p k st row few e =
     let g = row-good s p st row e in
     let there = row-is s p st row e in (
@@ -40,16 +40,16 @@ row-reads s p k st row few e =
       omega arith,
     )
 
-pub rows-hold : (s : List ℕ) (p k : ℕ) (st : State) (rs : List Row) → st .tally + k ≤ 64 → readAll (rows s p) k st ≡ good rs → ReadsAll (rowLayout s) (rows s p) k st rs
-rows-hold s p = reads-while (rowLayout s) (rows s p) (λ k st. st .tally + k ≤ 64) (row-reads s p)
+pub rows-hold : (s : List ℕ) (p k : ℕ) (st : State) (rs : List Row) → st .seen + k ≤ 64 → readAll (rows s p) k st ≡ good rs → ReadsAll (rowLayout s) (rows s p) k st rs
+rows-hold s p = reads-while (rowLayout s) (rows s p) (λ k st. st .seen + k ≤ 64) (row-reads s p)
 
 -- an accepted message holds its rows one after another, and they can be scanned
 pub record Holds (s : List ℕ) (rs : List Row) (f : ℕ) : Type 0 where
   pub are : rs ≡ items (rowLayout s) f formulaHeader
   pub sound : Sound (rowLayout s) f formulaHeader
 
-pub holds : (p : ℕ) (s : List ℕ) (rs : List Row) → readFormula p s ≡ good rs → Holds s rs (length rs)
-holds p s rs e =
+pub accepted-holds : (p : ℕ) (s : List ℕ) (rs : List Row) → readFormula p s ≡ good rs → Holds s rs (length rs)
+accepted-holds p s rs e =
     let g = formula-good p s rs e in
     let header = header-good s (length rs) (g .header) in
     let there = rows-hold s p (length rs) (start formulaHeader) rs (omega arith) (g .rows-there) in

@@ -71,7 +71,7 @@ fields-laid {s} {at} o l r z b h =
     }
 
 module _ (s : List ℕ) (p : ℕ) where
-  pub rows-exact : Exact s (rows s p) writeRow (λ st row. RowFits p (st .tally) row)
+  pub rows-exact : Exact s (rows s p) writeRow (λ st row. RowFits p (st .seen) row)
   unfolding readRow judgeRow
   rows-exact = record {
     reads = λ b st row e.
@@ -107,7 +107,7 @@ module _ (s : List ℕ) (p : ℕ) where
         let bound-there : field 4 s (st .at + boundAt) ≡ good (w .code) = stands-field 4 (omega arith) (there .bound-there) (w .fits (f .sayable)) in
         let is : rowOf (w .operator) (left row) (right row) (w .code) ≡ row = w .is (f .sayable) in
         let idle = spare-fields (w .operator) (left row) (right row) 0 (w .code) (w .known) (rw is (w .spare)) in
-        let names = named-fields p (st .tally) (w .operator) (left row) (right row) (w .code) (w .known) (rw is (f .names)) in
+        let names = named-fields p (st .seen) (w .operator) (left row) (right row) (w .code) (w .known) (rw is (f .names)) in
         good-bind _ operator-there
         (good-bind _ left-there
         (good-bind _ right-there
@@ -126,12 +126,12 @@ module _ (s : List ℕ) (p : ℕ) where
 
 module _ (s : List ℕ) (p : ℕ) where
   -- what the states demand is demanded by place
-  fits-at : {st : State} {rs : List Row} → FitsAll (rows s p) (λ st row. RowFits p (st .tally) row) st rs → (i : ℕ) {row : Row} → RowAt rs i row → RowFits p (st .tally + i) row
+  fits-at : {st : State} {rs : List Row} → FitsAll (rows s p) (λ st row. RowFits p (st .seen) row) st rs → (i : ℕ) {row : Row} → RowAt rs i row → RowFits p (st .seen + i) row
   fits-at none i e = let z : _≡_ {A = ℕ} 0 1 = cc in absurd (omega arith)
   fits-at (more {st} {a} f fs) zero {row} e = let is : a ≡ row = cc in rw (add-zero, ← is) f
   fits-at (more {st} f fs) (suc i) {row} e = subst (λ (n : ℕ). RowFits p n row) (omega arith) (fits-at fs i e)
 
-  at-fits : (st : State) (rs : List Row) → ((i : ℕ) (row : Row) → RowAt rs i row → RowFits p (st .tally + i) row) → FitsAll (rows s p) (λ st row. RowFits p (st .tally) row) st rs
+  at-fits : (st : State) (rs : List Row) → ((i : ℕ) (row : Row) → RowAt rs i row → RowFits p (st .seen + i) row) → FitsAll (rows s p) (λ st row. RowFits p (st .seen) row) st rs
   at-fits st [] f = none
   at-fits st (row ∷ rs) f =
       more (rw add-zero at (f 0 row refl)) (at-fits (rows s p .next st row) rs (λ i row e. subst (λ (n : ℕ). RowFits p n row) (omega arith) (f (suc i) row e)))

@@ -58,7 +58,7 @@ judge-good p place o l r z b row e =
 
 module _ (s : List ℕ) (p : ℕ) where
   -- the fields of a row that fits are judged
-  pub row-inside : (st : State) → st .at + rowWidth ≤ length s → readRow s p st ≡ judgeRow p (st .tally) (number 1 s (st .at)) (number 1 s (st .at + leftAt)) (number 1 s (st .at + rightAt)) (number 1 s (st .at + zeroAt)) (number 4 s (st .at + boundAt))
+  pub row-inside : (st : State) → st .at + rowWidth ≤ length s → readRow s p st ≡ judgeRow p (st .seen) (number 1 s (st .at)) (number 1 s (st .at + leftAt)) (number 1 s (st .at + rightAt)) (number 1 s (st .at + zeroAt)) (number 4 s (st .at + boundAt))
   unfolding readRow
   row-inside st h =
       let at = st .at in
@@ -76,7 +76,7 @@ module _ (s : List ℕ) (p : ℕ) where
     pub right-there : fieldAt 1 s (st .at + rightAt) ≡ Number right
     pub zero-there : fieldAt 1 s (st .at + zeroAt) ≡ Number zero
     pub bound-there : fieldAt 4 s (st .at + boundAt) ≡ Number bound
-    pub fine : Fine p (st .tally) operator left right zero bound row
+    pub fine : Fine p (st .seen) operator left right zero bound row
 
   pub row-good : (st : State) (row : Row) → readRow s p st ≡ good row → RowGood st row
   unfolding readRow
@@ -101,7 +101,7 @@ module _ (s : List ℕ) (p : ℕ) where
       }
 
   -- the state past a good row is 8 bytes on, inside the message, at the next place
-  pub rows-stay : (st next : State) → one (rows s p) st ≡ good next → (next .at ≡ st .at + rowWidth) × (next .at ≤ length s) × (next .tally ≡ st .tally + 1)
+  pub rows-stay : (st next : State) → one (rows s p) st ≡ good next → (next .at ≡ st .at + rowWidth) × (next .at ≤ length s) × (next .seen ≡ st .seen + 1)
   rows-stay st next e =
       let r = bind-good _ _ e in
       let g = row-good st (r .value) (r .first) in

@@ -1,5 +1,5 @@
 -- The reading of a formula message s against p propositions: its first fault in the paper's order, or its rows.
--- A state's `at` is a position in s, and `tally` the place of the row there.
+-- A state's `at` is a position in s, and `seen` the place of the row there.
 use Prim.Native.Nat.{ℕ, _+_, _*_}
 use mathlib.Core.List.{List}
 use lib.ListN.{length}
@@ -35,14 +35,14 @@ readRow s p st = do
   right ← field 1 s (st .at + rightAt)
   spare ← field 1 s (st .at + zeroAt)
   bound ← field 4 s (st .at + boundAt)
-  judgeRow p (st .tally) operator left right spare bound
+  judgeRow p (st .seen) operator left right spare bound
 
 -- the rows, one behind another; the place rises by one
 abbrev pub rows : List ℕ → ℕ → Reader State Row
 rows s p = record {
   position = λ st. st .at;
   read = readRow s p;
-  next = λ st row. record { at = st .at + rowWidth; prev = st .prev; tally = st .tally + 1 };
+  next = λ st row. record { at = st .at + rowWidth; prev = st .prev; seen = st .seen + 1 };
 }
 
 -- the header: its start, then the row count; then the message is exactly as long as that says

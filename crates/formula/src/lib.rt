@@ -269,7 +269,7 @@ fn count_row(counts: &mut [u8], row: Row)
 // One row, whose last field is there, and so are those before it; and the uses that it makes of others.
 fn one_row(s: &[u8], p: u32, bound: u32, st: State, counts: &mut [u8]) -> Step
     requires { ⌜ fieldAt 4 (now s) (st .at + boundAt) ≡ Number bound ⌝ }
-    requires { ⌜ (st .tally < 64) × (length (now counts) ≡ 64) × ((i : ℕ) → getD (now counts) i 0 < 254) ⌝ }
+    requires { ⌜ (st .seen < 64) × (length (now counts) ≡ 64) × ((i : ℕ) → getD (now counts) i 0 < 254) ⌝ }
     ensures { λ r. ⌜ r ≡ step (one (m.rows (now (s .entry)) p) st) ⌝ }
     ensures { λ r. ⌜ ((next : State) → r ≡ Next next → (i : ℕ)
         → getD (now (counts .exit)) i 0 ≡ getD (now (counts .entry)) i 0 + rows.times i (rows.operands (rowAt (now (s .entry)) (st .at)))) ⌝ }
@@ -282,23 +282,23 @@ fn one_row(s: &[u8], p: u32, bound: u32, st: State, counts: &mut [u8]) -> Step
     let right = wire::number_at(s, right_at, Width::One);
     let zero_at = at + ZERO_AT;
     let zero = wire::number_at(s, zero_at, Width::One);
-    let row = match judge_kind(p, st.tally, operator, left, right, zero, bound) {
+    let row = match judge_kind(p, st.seen, operator, left, right, zero, bound) {
         Judged::Fine(row) => row,
         Judged::Refused(e) => return Step::Refused(e),
     };
     count_row(counts, row);
     let end = at + ROW;
-    let place = st.tally + 1;
+    let place = st.seen + 1;
     Step::Next(State {
         at: end,
         prev: st.prev,
-        tally: place,
+        seen: place,
     })
 }
 
 // The k rows up to the end of the message, and how often each is an operand: where no last field fits, none is left.
 fn all_rows(s: &[u8], p: u32, first: State, counts: &mut [u8]) -> Step
-    requires { ⌜ (first .at ≤ length (now s)) × (length (now s) + first .tally * rowWidth ≤ first .at + 64 * rowWidth) ⌝ }
+    requires { ⌜ (first .at ≤ length (now s)) × (length (now s) + first .seen * rowWidth ≤ first .at + 64 * rowWidth) ⌝ }
     requires { ⌜ (length (now counts) ≡ 64) × ((i : ℕ) → getD (now counts) i 0 ≡ 0) ⌝ }
     ensures { λ r. ⌜ ((k : ℕ) → first .at + k * rowWidth ≡ length (now (s .entry)) → r ≡ step (run (m.rows (now (s .entry)) p) k first)) ⌝ }
     ensures { λ r. ⌜ ((k : ℕ) → first .at + k * rowWidth ≡ length (now (s .entry)) → (last : State) → r ≡ Next last → (i : ℕ)
@@ -352,7 +352,7 @@ pub fn check(s: &[u8], p: u32) -> Checked
         State {
             at: HEADER,
             prev: 0,
-            tally: 0,
+            seen: 0,
         },
         &mut counts,
     ) {

@@ -67,9 +67,9 @@ pub record Holds (s : List ℕ) (g : Graph) (n h c : ℕ) : Type 0 where
   pub is : g ≡ decoded s n h c
   pub sound : Scannable s n h c
 
-pub holds : (s : List ℕ) (g : Graph) → readGraph s ≡ good g → Holds s g (g .nodes) (length (g .hypers)) (length (g .covers))
+pub accepted-holds : (s : List ℕ) (g : Graph) → readGraph s ≡ good g → Holds s g (g .nodes) (length (g .hypers)) (length (g .covers))
 unfolding decoded
-holds s g e =
+accepted-holds s g e =
     let p = graph-good {s = s} {g = g} e in
     let n = g .nodes in
     let hypers-hold = reads-all (hyperLayout s n) (hypers s n) (hypers-read s n) _ (start graphHeader) _ (p .hypers-there) in

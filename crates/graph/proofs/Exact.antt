@@ -46,7 +46,7 @@ pub record CoverFits (n : ℕ) (c : Cover) : Type 0 where
 
 -- what a state demands of a record
 abbrev pub HyperNext : ℕ → State → Hyper → Type 0
-HyperNext n st h = ((st .prev ≤ h .source) × (st .tally + length (h .targets) ≤ mostTargets)) × HyperFits n h
+HyperNext n st h = ((st .prev ≤ h .source) × (st .seen + length (h .targets) ≤ mostTargets)) × HyperFits n h
 
 abbrev pub CoverNext : ℕ → State → Cover → Type 0
 CoverNext n st c = (st .prev ≤ c .source) × CoverFits n c
@@ -154,16 +154,16 @@ module _ (s : List ℕ) (n : ℕ) (small : n ≤ 65536) where
 
 module _ (s : List ℕ) (n : ℕ) where
   -- the running total demands that all targets together are few
-  fits-few : {st : State} {hs : List Hyper} → FitsAll (hypers s n) (λ st h. st .tally + length (h .targets) ≤ mostTargets) st hs → st .tally ≤ mostTargets → st .tally + targetsOf hs ≤ mostTargets
+  fits-few : {st : State} {hs : List Hyper} → FitsAll (hypers s n) (λ st h. st .seen + length (h .targets) ≤ mostTargets) st hs → st .seen ≤ mostTargets → st .seen + targetsOf hs ≤ mostTargets
   unfolding targetsOf
   fits-few none h = omega arith
   fits-few (more p ps) h = let rest = fits-few ps p in omega arith
 
-  few-fits : (st : State) (hs : List Hyper) → st .tally + targetsOf hs ≤ mostTargets → FitsAll (hypers s n) (λ st h. st .tally + length (h .targets) ≤ mostTargets) st hs
+  few-fits : (st : State) (hs : List Hyper) → st .seen + targetsOf hs ≤ mostTargets → FitsAll (hypers s n) (λ st h. st .seen + length (h .targets) ≤ mostTargets) st hs
   unfolding targetsOf
   few-fits st [] h = none
   few-fits st (a ∷ hs) h =
-      let here : st .tally + length (a .targets) ≤ mostTargets = omega arith in
+      let here : st .seen + length (a .targets) ≤ mostTargets = omega arith in
       more here (few-fits (hypers s n .next st a) hs (omega arith))
 
 -- ---- whole messages

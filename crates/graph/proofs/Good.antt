@@ -51,7 +51,7 @@ module _ (s : List ℕ) (n : ℕ) where
     pub count-there : fieldAt 2 s (st .at + targetCountAt) ≡ Number (length (h .targets))
     pub named : h .source < n
     pub ordered : st .prev ≤ h .source
-    pub few : st .tally + length (h .targets) ≤ mostTargets
+    pub few : st .seen + length (h .targets) ≤ mostTargets
     pub inside : st .at + hyperWidth + length (h .targets) * targetWidth ≤ length s
     pub targets-there : readAll (targets s n) (length (h .targets)) (firstTarget st) ≡ good (h .targets)
 
@@ -114,7 +114,7 @@ module _ (s : List ℕ) (n : ℕ) where
   targets-move st next e = ap (λ (u : State). u .at) (sym (good-same (bind-good _ _ e .rest)))
 
   -- the state past a good hyperedge or cover edge lies inside the message
-  pub hypers-stay : (st next : State) → one (hypers s n) st ≡ good next → (next .at ≤ length s) × (next .tally ≤ mostTargets)
+  pub hypers-stay : (st next : State) → one (hypers s n) st ≡ good next → (next .at ≤ length s) × (next .seen ≤ mostTargets)
   hypers-stay st next e =
       let r = bind-good _ _ e in
       let h = hyper-good st (r .value) (r .first) in
@@ -136,13 +136,13 @@ module _ (s : List ℕ) (n : ℕ) where
   cover-short st h = length-after 2 s (st .at) _ (λ source. length-after 4 s (st .at + coverBoundAt) _ (λ bound. simp (reading, h)))
 
 -- the state past hyperedges has counted their targets
-tally-past : (s : List ℕ) (n : ℕ) (st : State) (hs : List Hyper) → past (hypers s n) st hs .tally ≡ st .tally + targetsOf hs
+seen-past : (s : List ℕ) (n : ℕ) (st : State) (hs : List Hyper) → past (hypers s n) st hs .seen ≡ st .seen + targetsOf hs
 unfolding past targetsOf
-tally-past s n st [] = sym (add-zero _)
-tally-past s n st (h ∷ hs) = tally-past s n (hypers s n .next st h) hs ∙ omega arith
+seen-past s n st [] = sym (add-zero _)
+seen-past s n st (h ∷ hs) = seen-past s n (hypers s n .next st h) hs ∙ omega arith
 
-pub targets-told : (s : List ℕ) (n at : ℕ) {end : State} (hs : List Hyper) → past (hypers s n) (start at) hs ≡ end → targetsOf hs ≡ end .tally
-targets-told s n at hs e = sym (tally-past s n (start at) hs ∙ zero-add _) ∙ ap (λ (st : State). st .tally) e
+pub targets-told : (s : List ℕ) (n at : ℕ) {end : State} (hs : List Hyper) → past (hypers s n) (start at) hs ≡ end → targetsOf hs ≡ end .seen
+targets-told s n at hs e = sym (seen-past s n (start at) hs ∙ zero-add _) ∙ ap (λ (st : State). st .seen) e
 
 -- what a good header says of the bytes
 pub record HeaderAt (s : List ℕ) (k : Counts) : Type 0 where

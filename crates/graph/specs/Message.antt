@@ -1,5 +1,5 @@
 -- The reading of a graph message s: its first fault in the paper's order, or the graph.
--- A state's `at` is a position in s, `prev` the source before, and `tally` the targets so far.
+-- A state's `at` is a position in s, `prev` the source before, and `seen` the targets so far.
 use Prim.Native.Nat.{ℕ, _+_, _*_}
 use mathlib.Core.List.{List}
 use lib.ListN.{length}
@@ -18,11 +18,11 @@ use Rattle.graph.specs.Stored.{StoredGraph}
 
 -- where a hyperedge's targets start
 abbrev pub firstTarget : State → State
-firstTarget st = record { at = st .at + hyperWidth; prev = st .prev; tally = st .tally }
+firstTarget st = record { at = st .at + hyperWidth; prev = st .prev; seen = st .seen }
 
 -- the state past a hyperedge
 abbrev pub afterHyper : State → ℕ → ℕ → State
-afterHyper st source count = record { at = st .at + hyperWidth + count * targetWidth; prev = source; tally = st .tally + count }
+afterHyper st source count = record { at = st .at + hyperWidth + count * targetWidth; prev = source; seen = st .seen + count }
 
 module _ (s : List ℕ) (n : ℕ) where
   -- a target: weight (4) and node (2)
@@ -38,13 +38,13 @@ module _ (s : List ℕ) (n : ℕ) where
   targets = record {
     position = λ st. st .at;
     read = readTarget;
-    next = λ st t. record { at = st .at + targetWidth; prev = st .prev; tally = st .tally };
+    next = λ st t. record { at = st .at + targetWidth; prev = st .prev; seen = st .seen };
   }
 
   -- the targets of a hyperedge: the running total's limit, then their bytes fit, then each
   unfoldable pub readTargets : State → ℕ → ℕ → Read Hyper
   readTargets st source count = do
-    demand (leb (st .tally + count) mostTargets) Limit
+    demand (leb (st .seen + count) mostTargets) Limit
     demand (leb (st .at + hyperWidth + count * targetWidth) (length s)) Length
     ts ← readAll targets count (firstTarget st)
     good (record { source = source; targets = ts })
@@ -86,7 +86,7 @@ module _ (s : List ℕ) (n : ℕ) where
   covers = record {
     position = λ st. st .at;
     read = readCover;
-    next = λ st c. record { at = st .at + coverWidth; prev = c .source; tally = st .tally };
+    next = λ st c. record { at = st .at + coverWidth; prev = c .source; seen = st .seen };
   }
 
 -- the counts of a header

@@ -110,7 +110,7 @@ fn target(s: &[u8], n: u32, st: State) -> Step
     Step::Next(State {
         at: end,
         prev: st.prev,
-        tally: st.tally,
+        seen: st.seen,
     })
 }
 
@@ -134,7 +134,7 @@ fn targets(s: &[u8], n: u32, k: u32, first: State) -> Step
 
 // One hyperedge: where its count fits, so does its source, which stands before it.
 fn hyper(s: &[u8], n: u32, st: State) -> Step
-    requires { ⌜ (st .at ≤ length (now s)) × (st .tally ≤ mostTargets) ⌝ }
+    requires { ⌜ (st .at ≤ length (now s)) × (st .seen ≤ mostTargets) ⌝ }
     ensures { λ r. ⌜ r ≡ step (one (m.hypers (now (s .entry)) n) st) ⌝ }
 {
     let at = st.at;
@@ -154,11 +154,11 @@ fn hyper(s: &[u8], n: u32, st: State) -> Step
 
 // The targets of a hyperedge of this source and so many targets.
 fn hyper_targets(s: &[u8], n: u32, st: State, source: u32, count: u32) -> Step
-    requires { ⌜ (st .at + hyperWidth ≤ length (now s)) × (st .tally ≤ mostTargets) × (count ≤ 65535) ⌝ }
+    requires { ⌜ (st .at + hyperWidth ≤ length (now s)) × (st .seen ≤ mostTargets) × (count ≤ 65535) ⌝ }
     ensures { λ r. ⌜ r ≡ step (m.afterTargets (now (s .entry)) n st source count) ⌝ }
 {
-    let tally = st.tally;
-    if MOST_TARGETS - tally < count {
+    let seen = st.seen;
+    if MOST_TARGETS - seen < count {
         return Step::Refused(Refusal::Limit);
     }
     let first = st.at + HYPER;
@@ -173,23 +173,23 @@ fn hyper_targets(s: &[u8], n: u32, st: State, source: u32, count: u32) -> Step
         State {
             at: first,
             prev: st.prev,
-            tally,
+            seen,
         },
     );
     let Step::Next(_) = read else {
         return read;
     };
-    let so_far = tally + count;
+    let total = seen + count;
     Step::Next(State {
         at: end,
         prev: source,
-        tally: so_far,
+        seen: total,
     })
 }
 
 // k hyperedges.
 fn hypers(s: &[u8], n: u32, k: u32, first: State) -> Step
-    requires { ⌜ (first .at ≤ length (now s)) × (first .tally ≤ mostTargets) ⌝ }
+    requires { ⌜ (first .at ≤ length (now s)) × (first .seen ≤ mostTargets) ⌝ }
     ensures { λ r. ⌜ r ≡ step (run (m.hypers (now (s .entry)) n) k first) ⌝ }
 {
     let mut st = first;
@@ -230,7 +230,7 @@ fn cover(s: &[u8], n: u32, st: State) -> Step
     Step::Next(State {
         at: end,
         prev: source,
-        tally: st.tally,
+        seen: st.seen,
     })
 }
 
@@ -289,7 +289,7 @@ pub fn check(s: &[u8]) -> Checked
         State {
             at: HEADER,
             prev: 0,
-            tally: 0,
+            seen: 0,
         },
     ) {
         Step::Next(st) => st,
@@ -303,7 +303,7 @@ pub fn check(s: &[u8]) -> Checked
         State {
             at: middle,
             prev: 0,
-            tally: 0,
+            seen: 0,
         },
     ) {
         Step::Next(st) => st.at,
@@ -312,5 +312,5 @@ pub fn check(s: &[u8]) -> Checked
     if end != s.len() {
         return Checked::Refused(Refusal::Length);
     }
-    Checked::Graph(n, h, c, last.tally)
+    Checked::Graph(n, h, c, last.seen)
 }

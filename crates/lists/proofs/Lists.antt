@@ -54,41 +54,41 @@ abbrev bit : Bool → ℕ
 bit true = 1
 bit false = 0
 
-pub tally : {A : Type 0} → (A → Bool) → List A → ℕ
-tally p [] = 0
-tally p (a ∷ l) = bit (p a) + tally p l
+pub howMany : {A : Type 0} → (A → Bool) → List A → ℕ
+howMany p [] = 0
+howMany p (a ∷ l) = bit (p a) + howMany p l
 
 bit-le : (a b : Bool) → (a ≡ true → b ≡ true) → bit a ≤ bit b
 bit-le true b f = subst (λ (t : Bool). 1 ≤ bit t) (sym (f refl)) (le-refl 1)
 bit-le false b f = omega arith
 
 -- at most all
-pub tally-le : {A : Type 0} (p : A → Bool) (l : List A) → tally p l ≤ length l
-unfolding tally
-tally-le p [] = le-refl 0
-tally-le p (a ∷ l) = let h = tally-le p l in let k = bit-le (p a) true (λ e. refl) in omega arith
+pub howMany-le : {A : Type 0} (p : A → Bool) (l : List A) → howMany p l ≤ length l
+unfolding howMany
+howMany-le p [] = le-refl 0
+howMany-le p (a ∷ l) = let h = howMany-le p l in let k = bit-le (p a) true (λ e. refl) in omega arith
 
 -- where q passes wherever p does, q passes as often
-pub tally-mono : {A : Type 0} (p q : A → Bool) (l : List A) → ((a : A) → a ∈ l → p a ≡ true → q a ≡ true) → tally p l ≤ tally q l
-unfolding tally
-tally-mono p q [] f = le-refl 0
-tally-mono p q (a ∷ l) f =
-    let h = tally-mono p q l (λ b m. f b (List·Memᴰ·tail m)) in let k = bit-le (p a) (q a) (f a (List·Memᴰ·head refl)) in omega arith
+pub howMany-mono : {A : Type 0} (p q : A → Bool) (l : List A) → ((a : A) → a ∈ l → p a ≡ true → q a ≡ true) → howMany p l ≤ howMany q l
+unfolding howMany
+howMany-mono p q [] f = le-refl 0
+howMany-mono p q (a ∷ l) f =
+    let h = howMany-mono p q l (λ b m. f b (List·Memᴰ·tail m)) in let k = bit-le (p a) (q a) (f a (List·Memᴰ·head refl)) in omega arith
 
 -- and more often where it passes at an element at which p fails
-pub tally-more : {A : Type 0} (p q : A → Bool) (l : List A) → ((a : A) → a ∈ l → p a ≡ true → q a ≡ true)
-    → (a : A) → a ∈ l → p a ≡ false → q a ≡ true → tally p l < tally q l
-unfolding tally
-tally-more p q [] f a m e t = absurd (List·Memᴰ·not-nil m)
-tally-more {A} p q (b ∷ l) f a (List·Memᴰ·head s) e t =
-    let h = tally-mono p q l (λ b m. f b (List·Memᴰ·tail m)) in
+pub howMany-more : {A : Type 0} (p q : A → Bool) (l : List A) → ((a : A) → a ∈ l → p a ≡ true → q a ≡ true)
+    → (a : A) → a ∈ l → p a ≡ false → q a ≡ true → howMany p l < howMany q l
+unfolding howMany
+howMany-more p q [] f a m e t = absurd (List·Memᴰ·not-nil m)
+howMany-more {A} p q (b ∷ l) f a (List·Memᴰ·head s) e t =
+    let h = howMany-mono p q l (λ b m. f b (List·Memᴰ·tail m)) in
     let x : bit (p b) ≡ 0 = rw (← s, e) in let y : bit (q b) ≡ 1 = rw (← s, t) in omega arith
-tally-more p q (b ∷ l) f a (List·Memᴰ·tail m) e t =
-    let h = tally-more p q l (λ b m. f b (List·Memᴰ·tail m)) a m e t in
+howMany-more p q (b ∷ l) f a (List·Memᴰ·tail m) e t =
+    let h = howMany-more p q l (λ b m. f b (List·Memᴰ·tail m)) a m e t in
     let k = bit-le (p b) (q b) (f b (List·Memᴰ·head refl)) in omega arith
 
-pub tally-some : {A : Type 0} (p : A → Bool) (l : List A) (a : A) → a ∈ l → p a ≡ true → 0 < tally p l
-tally-some p l a m t = let h = tally-more (λ a. false) p l (λ a m e. clash e refl) a m refl t in omega arith
+pub howMany-some : {A : Type 0} (p : A → Bool) (l : List A) (a : A) → a ∈ l → p a ≡ true → 0 < howMany p l
+howMany-some p l a m t = let h = howMany-more (λ a. false) p l (λ a m e. clash e refl) a m refl t in omega arith
 
 -- ---- the numbers below n
 

@@ -27,7 +27,7 @@ module _ (s : List ℕ) where
   labels p = record {
     position = λ st. st .at;
     read = readLabel p;
-    next = λ st label. record { at = st .at + labelWidth; prev = st .prev; tally = st .tally };
+    next = λ st label. record { at = st .at + labelWidth; prev = st .prev; seen = st .seen };
   }
 
   -- a transition of a model with n states: from (2), weight (4), to (2)
@@ -46,7 +46,7 @@ module _ (s : List ℕ) where
   transitions n = record {
     position = λ st. st .at;
     read = readTransition n;
-    next = λ st t. record { at = st .at + transitionWidth; prev = t .from; tally = st .tally };
+    next = λ st t. record { at = st .at + transitionWidth; prev = t .from; seen = st .seen };
   }
 
 -- the counts of a header

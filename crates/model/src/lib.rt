@@ -109,7 +109,7 @@ fn label(s: &[u8], p: u32, limit: u64, st: State) -> Step
     Step::Next(State {
         at: end,
         prev: st.prev,
-        tally: st.tally,
+        seen: st.seen,
     })
 }
 
@@ -149,7 +149,7 @@ fn transition(s: &[u8], n: u32, to: u32, st: State) -> Step
         return Step::Next(State {
             at: end,
             prev: from,
-            tally: st.tally,
+            seen: st.seen,
         });
     }
     if n <= from {
@@ -164,7 +164,7 @@ fn transition(s: &[u8], n: u32, to: u32, st: State) -> Step
     Step::Next(State {
         at: end,
         prev: from,
-        tally: st.tally,
+        seen: st.seen,
     })
 }
 
@@ -228,7 +228,7 @@ pub fn check(s: &[u8]) -> Checked
         State {
             at: HEADER,
             prev: 0,
-            tally: 0,
+            seen: 0,
         },
     ) {
         return Checked::Refused(e);
@@ -240,7 +240,7 @@ pub fn check(s: &[u8]) -> Checked
         State {
             at: middle,
             prev: 0,
-            tally: 0,
+            seen: 0,
         },
     ) {
         return Checked::Refused(e);

@@ -23,7 +23,7 @@ use Rattle.reduction.proofs.Complete.{complete}
 
 -- a value that decides a statement
 pub data Decided (S : Type 0) (v : Value) : Type 0 where
-  holds : S → v ≡ fin 0 → Decided S v
+  it-holds : S → v ≡ fin 0 → Decided S v
   fails : ¬ S → v ≡ inf → Decided S v
 
 -- what has a number only if it holds, and 0 if it holds
@@ -31,12 +31,12 @@ decide : {S : Type 0} (v : Value) → ((d : ℕ) → v ≼ d → S) → (S → v
 decide (fin d) up down =
     let s = up d (fin-≼ (le-refl d)) in
     let h = ≼-fin (down s) in
-    holds s (ap fin (omega arith))
+    it-holds s (ap fin (omega arith))
 decide inf up down = fails (λ s. ≼-inf (down s)) refl
 
 -- so it is 0 exactly where the statement holds
 zero-exactly : {S : Type 0} {v : Value} → Decided S v → (v ≡ fin 0) ↔ S
-zero-exactly (holds s e) = (λ z. s, λ t. e)
+zero-exactly (it-holds s e) = (λ z. s, λ t. e)
 zero-exactly (fails n e) = (λ z. let clash : _≡_ {A = ℕ} 0 1 = cc in absurd (omega arith), λ t. absurd (n t))
 
 module _ (M : Model) (rows : List Row) (ok : Proper M) (order : Ordered rows) (i : ℕ) (settled : Settled (graphOf M rows) i)

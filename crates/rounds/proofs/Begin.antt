@@ -22,7 +22,7 @@ use Rattle.graph.specs.WellFormed.{WellFormed}
 use Rattle.graph.specs.Write.{writeGraph}
 use Rattle.lists.specs.Order.{Rising}
 use Rattle.graph.specs.Layouts.{hyperLayout, coverLayout, decoded}
-use Rattle.graph.proofs.Accepted.{holds}
+use Rattle.graph.proofs.Accepted.{accepted-holds}
 use Rattle.graph.proofs.Answered.{checked-refused}
 use Rattle.graph.proofs.Exact.{accepted-written, written-accepted}
 use Rattle.graph.proofs.Good.{HeaderAt, header-good, counts, graph-good}
@@ -40,7 +40,7 @@ ready-with : (s : List ℕ) (g : Graph) → readGraph s ≡ good g → WellForme
 unfolding decoded
 ready-with s g r wf =
     let n = g .nodes in
-    let held = holds s g r in
+    let held = accepted-holds s g r in
     let rising = subst (λ (g : Graph). Rising (map (λ (x : Hyper). x .source) (g .hypers))) (held .is) (wf .hypers-ordered) in
     let covers-rising = subst (λ (g : Graph). Rising (map (λ (x : Cover). x .source) (g .covers))) (held .is) (wf .covers-ordered) in
     record {
@@ -66,7 +66,7 @@ begin s {n} {h} {c} {t} bytes e = go (readGraph s) refl e
         let nodes : g .nodes ≡ n = cc in
         let hypers : length (g .hypers) ≡ h = cc in
         let covers : length (g .covers) ≡ c = cc in
-        let held = holds s g r in
+        let held = accepted-holds s g r in
         let wf = accepted-written s g bytes r .1 in
         let base : Begin s (g .nodes) (length (g .hypers)) (length (g .covers)) = record {
           reads = r ∙ ap good (held .is);
@@ -95,7 +95,7 @@ module _ (s : List ℕ) (g : Graph) (wf : WellFormed g) (e : s ≡ writeGraph g)
       let n-is : n ≡ g .nodes = n-read ∙ value-is 2 s 6 (header .n-counted .there) in
       let h-is : h ≡ length (g .hypers) = h-read ∙ value-is 4 s 8 (header .h-counted .there) in
       let c-is : c ≡ length (g .covers) = c-read ∙ value-is 2 s 12 (header .c-counted .there) in
-      let held = holds s g accepted in
+      let held = accepted-holds s g accepted in
       rw (n-is, h-is, c-is) (record {
         nodes = refl;
         is = sym (held .is);

@@ -19,7 +19,7 @@ use Rattle.wire.specs.Bytes.{number}
 use Rattle.wire.specs.Layout.{items, end, Sound}
 use Rattle.wire.proofs.Layouts.{items-more, sound-more}
 use Rattle.rules.specs.Graph.{Target, Cover}
-use Rattle.rules.specs.Rounds.{Assignment, holds, covered, worst}
+use Rattle.rules.specs.Rounds.{Assignment, coverHolds, covered, worst}
 use Rattle.graph.specs.Format.{targetCountAt, hyperWidth, nodeAt, targetWidth, coverTargetAt}
 use Rattle.graph.specs.Layouts.{targetLayout, coverLayout, HyperOk}
 use Rattle.rounds.specs.Room.{held, half, hyperIn, Done}
@@ -56,12 +56,12 @@ meets-inf Unbounded = refl
 
 covered-infinite : (x : Assignment) (v : ℕ) (cs : List Cover) → ((c : Cover) → c ∈ cs → x (c .target) ≡ inf) → covered x v cs ≡ false
 unfolding covered
-covered-infinite x v cs all = by-test (any (λ c. eqb (c .source) v && holds x c) cs) some (λ e. e)
+covered-infinite x v cs all = by-test (any (λ c. eqb (c .source) v && coverHolds x c) cs) some (λ e. e)
   where
-    some : any (λ c. eqb (c .source) v && holds x c) cs ≡ true → any (λ c. eqb (c .source) v && holds x c) cs ≡ false
+    some : any (λ c. eqb (c .source) v && coverHolds x c) cs ≡ true → any (λ c. eqb (c .source) v && coverHolds x c) cs ≡ false
     some e =
-        let r = any-true (λ c. eqb (c .source) v && holds x c) cs e in
-        let held-true = and-right (eqb (r .0 .source) v) (holds x (r .0)) (r .2) in
+        let r = any-true (λ c. eqb (c .source) v && coverHolds x c) cs e in
+        let held-true = and-right (eqb (r .0 .source) v) (coverHolds x (r .0)) (r .2) in
         clash held-true (ap (meets (r .0 .bound)) (all (r .0) (r .1)) ∙ meets-inf (r .0 .bound))
 
 -- the cover edges change nothing

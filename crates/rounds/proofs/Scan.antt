@@ -15,7 +15,7 @@ use Rattle.wire.specs.Bytes.{number}
 use Rattle.wire.specs.Layout.{items, end, Sound}
 use Rattle.wire.proofs.Layouts.{items-more, end-more, end-none, sound-more}
 use Rattle.rules.specs.Graph.{Target, Hyper, Cover}
-use Rattle.rules.specs.Rounds.{Assignment, holds, worst, best, covered}
+use Rattle.rules.specs.Rounds.{Assignment, coverHolds, worst, best, covered}
 use Rattle.value.specs.Coded.{boundOf}
 use Rattle.graph.specs.Format.{targetCountAt, hyperWidth, nodeAt, targetWidth, coverBoundAt, coverTargetAt, coverWidth}
 use Rattle.graph.specs.Layouts.{targetLayout, hyperLayout, coverLayout, HyperOk, CoverOk}
@@ -58,7 +58,7 @@ module _ (x : Assignment) where
   best-there h hs v a e = rw (ne-eqb (h .source) v e)
 
   -- a cover edge that holds, at its node; of another node; that does not hold
-  covered-here : (c : Cover) (cs : List Cover) (j a : ℕ) → c .source ≡ j → holds x c ≡ true → leftCovers x cs j 0 ≡ leftCovers x (c ∷ cs) j a
+  covered-here : (c : Cover) (cs : List Cover) (j a : ℕ) → c .source ≡ j → coverHolds x c ≡ true → leftCovers x cs j 0 ≡ leftCovers x (c ∷ cs) j a
   unfolding covered any
   covered-here c cs j a e met = rw (eq-eqb (c .source) j e, met) (go (covered x j cs))
     where
@@ -70,7 +70,7 @@ module _ (x : Assignment) where
   unfolding covered any
   covered-there c cs v a e = rw (ne-eqb (c .source) v e)
 
-  covered-unmet : (c : Cover) (cs : List Cover) (v a : ℕ) → holds x c ≡ false → leftCovers x cs v a ≡ leftCovers x (c ∷ cs) v a
+  covered-unmet : (c : Cover) (cs : List Cover) (v a : ℕ) → coverHolds x c ≡ false → leftCovers x cs v a ≡ leftCovers x (c ∷ cs) v a
   unfolding covered any
   covered-unmet c cs v a unmet = rw unmet (go (eqb (c .source) v))
     where

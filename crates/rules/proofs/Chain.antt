@@ -7,7 +7,7 @@ use Rattle.lists.proofs.Tests.{by-test, clash}
 use Rattle.lists.specs.Lists.{_∈_, all}
 use Rattle.value.specs.Value.{plus, atMost}
 use Rattle.rules.specs.Graph.{Graph, Target, Hyper, Cover}
-use Rattle.rules.specs.Rounds.{holds, rounds}
+use Rattle.rules.specs.Rounds.{coverHolds, rounds}
 use Rattle.value.proofs.Values.{Falls, plus-≼, ≼-plus, meets-falls}
 use Rattle.lists.proofs.Lists.{all-true, all-false}
 use Rattle.rules.proofs.Reasons.{Reason, by-cover, by-hyper, reason, at-most}
@@ -22,7 +22,7 @@ Change g i v k = Falls (rounds g i v) (rounds g (suc i) v) k
 pub data Step (g : Graph) (i v k : ℕ) : Type 0 where
   hyper-step : (h : Hyper) (t : Target) (j : ℕ) → h ∈ g .hypers → t ∈ h .targets → h .source ≡ v → t .weight + j ≤ k
       → Change g i (t .node) j → Step g i v k
-  cover-step : (c : Cover) (j : ℕ) → c ∈ g .covers → c .source ≡ v → holds (rounds g i) c ≡ false → holds (rounds g (suc i)) c ≡ true
+  cover-step : (c : Cover) (j : ℕ) → c ∈ g .covers → c .source ≡ v → coverHolds (rounds g i) c ≡ false → coverHolds (rounds g (suc i)) c ≡ true
       → Change g i (c .target) j → Step g i v k
 
 pub chain : (g : Graph) (i v k : ℕ) → Change g (suc i) v k → Step g i v k
@@ -30,12 +30,12 @@ unfolding rounds
 chain g i v k f = go (reason g (rounds g (suc i)) v (f .now))
   where
     go : Reason g (rounds g (suc i)) v k → Step g i v k
-    go (by-cover c m s e) = by-test (holds (rounds g i) c) held new
+    go (by-cover c m s e) = by-test (coverHolds (rounds g i) c) held new
       where
-        held : holds (rounds g i) c ≡ true → Step g i v k
+        held : coverHolds (rounds g i) c ≡ true → Step g i v k
         held q = absurd (f .not-before (at-most g (rounds g i) v (by-cover c m s q)))
 
-        new : holds (rounds g i) c ≡ false → Step g i v k
+        new : coverHolds (rounds g i) c ≡ false → Step g i v k
         new q =
             let r = meets-falls (c .bound) (rounds g (suc i) (c .target)) (rounds g i (c .target)) e q in
             cover-step c (r .0) m s q e (r .1)

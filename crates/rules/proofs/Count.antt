@@ -12,48 +12,48 @@ use Rattle.lists.proofs.Tests.{by-test, clash}
 use Rattle.lists.specs.Lists.{_∈_, upTo}
 use Rattle.value.specs.Value.{atMost, same, _≼_}
 use Rattle.rules.specs.Graph.{Graph, Cover, Closed}
-use Rattle.rules.specs.Rounds.{holds, rounds, Settled, Largest}
+use Rattle.rules.specs.Rounds.{coverHolds, rounds, Settled, Largest}
 use Rattle.rules.specs.Count.{unchanged, searchEnd, count, First}
 use Rattle.value.proofs.Values.{≼-up, not-≼, same-eq, eq-same, falls, meets-mono}
 use Rattle.lists.proofs.Lists.{all-true, true-all, firstFrom-le, firstFrom-before, firstFrom-passes}
-use Rattle.lists.proofs.Lists.{tally, tally-le, tally-mono, tally-more, tally-some, upTo-length, ∈-upTo, upTo-∈}
+use Rattle.lists.proofs.Lists.{howMany, howMany-le, howMany-mono, howMany-more, howMany-some, upTo-length, ∈-upTo, upTo-∈}
 use Rattle.rules.proofs.Order.{rounds-fall, settled-largest}
 use Rattle.rules.proofs.Chain.{Change, Step, hyper-step, cover-step, chain}
 
 -- how many cover edges hold under round i
 pub active : Graph → ℕ → ℕ
-active g i = tally (holds (rounds g i)) (g .covers)
+active g i = howMany (coverHolds (rounds g i)) (g .covers)
 
 -- how many nodes are at most k in round i
 pub low : Graph → ℕ → ℕ → ℕ
-low g i k = tally (λ v. atMost (rounds g i v) k) (upTo (g .nodes))
+low g i k = howMany (λ v. atMost (rounds g i v) k) (upTo (g .nodes))
 
 module _ (g : Graph) (closed : Closed g) where
   active-mono : (i : ℕ) → active g i ≤ active g (suc i)
   unfolding active
   active-mono i =
-      tally-mono (holds (rounds g i)) (holds (rounds g (suc i))) (g .covers)
+      howMany-mono (coverHolds (rounds g i)) (coverHolds (rounds g (suc i))) (g .covers)
       (λ c m e. meets-mono (c .bound) (rounds-fall g closed i (c .target) (closed .cover m)) e)
 
-  active-more : (i : ℕ) (c : Cover) → c ∈ g .covers → holds (rounds g i) c ≡ false → holds (rounds g (suc i)) c ≡ true → active g i < active g (suc i)
+  active-more : (i : ℕ) (c : Cover) → c ∈ g .covers → coverHolds (rounds g i) c ≡ false → coverHolds (rounds g (suc i)) c ≡ true → active g i < active g (suc i)
   unfolding active
   active-more i =
-      tally-more (holds (rounds g i)) (holds (rounds g (suc i))) (g .covers)
+      howMany-more (coverHolds (rounds g i)) (coverHolds (rounds g (suc i))) (g .covers)
       (λ c m e. meets-mono (c .bound) (rounds-fall g closed i (c .target) (closed .cover m)) e)
 
   low-le : (i k : ℕ) → low g i k ≤ g .nodes
   unfolding low
-  low-le i k = rw upTo-length at (tally-le (λ v. atMost (rounds g i v) k) (upTo (g .nodes)))
+  low-le i k = rw upTo-length at (howMany-le (λ v. atMost (rounds g i v) k) (upTo (g .nodes)))
 
   low-some : (i k v : ℕ) → v < g .nodes → rounds g i v ≼ k → 0 < low g i k
   unfolding low
-  low-some i k v l p = tally-some (λ v. atMost (rounds g i v) k) (upTo (g .nodes)) v (upTo-∈ (g .nodes) l) (p .test)
+  low-some i k v l p = howMany-some (λ v. atMost (rounds g i v) k) (upTo (g .nodes)) v (upTo-∈ (g .nodes) l) (p .test)
 
   -- a node that falls to k joins those that are at most k; those that were at most a smaller j stay
   low-more : (i j k v : ℕ) → v < g .nodes → j ≤ k → Change g i v k → low g i j < low g (suc i) k
   unfolding low
   low-more i j k v l h f =
-      tally-more (λ v. atMost (rounds g i v) j) (λ v. atMost (rounds g (suc i) v) k) (upTo (g .nodes))
+      howMany-more (λ v. atMost (rounds g i v) j) (λ v. atMost (rounds g (suc i) v) k) (upTo (g .nodes))
       (λ u m e. ≼-up (rounds-fall g closed i u (∈-upTo (g .nodes) m) .carries (record { test = e })) h .test)
       v (upTo-∈ (g .nodes) l) (not-≼ (λ p. f .not-before (≼-up p h))) (f .now .test)
 
@@ -80,7 +80,7 @@ module _ (g : Graph) (closed : Closed g) where
   pub settled-enough : (i : ℕ) → g .nodes * (length (g .covers) + 1) ≤ i → Settled g i
   unfolding active
   settled-enough i h = no-change-settled i λ v k l f.
-      let c : g .nodes * active g i ≤ g .nodes * length (g .covers) = mul-le-mul-left (g .nodes) (tally-le (holds (rounds g i)) (g .covers)) in
+      let c : g .nodes * active g i ≤ g .nodes * length (g .covers) = mul-le-mul-left (g .nodes) (howMany-le (coverHolds (rounds g i)) (g .covers)) in
       let u : g .nodes * (length (g .covers) + 1) ≡ g .nodes * length (g .covers) + g .nodes = simp (mul-add, mul-one) in
       omega (arith, change-bound i v k l f, low-le (suc i) k)
 

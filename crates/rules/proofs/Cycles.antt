@@ -10,7 +10,7 @@ use lib.Dec.{eqb, ltb}
 use borrow.Author.Tests.{eqb-true, eq-eqb, ltb-true, ltb-false}
 use Rattle.lists.specs.Lists.{_∈_, upTo}
 use Rattle.lists.proofs.Tests.{by-test, clash, or-right}
-use Rattle.lists.proofs.Lists.{all-false, tally, tally-le, tally-more, tally-some, upTo-length, ∈-upTo, upTo-∈}
+use Rattle.lists.proofs.Lists.{all-false, howMany, howMany-le, howMany-more, howMany-some, upTo-length, ∈-upTo, upTo-∈}
 use Rattle.rules.specs.Graph.{Graph, Cover, Closed}
 use Rattle.rules.specs.Count.{count}
 use Rattle.rules.specs.Walks.{Step, along, over, Walk, stay, onward, CoverCycle}
@@ -38,10 +38,10 @@ module _ (g : Graph) where
   add : (ℕ → Bool) → ℕ → ℕ → Bool
   add passed t u = eqb u t || passed u
 
-  more : (passed : ℕ → Bool) (t : ℕ) → t < g .nodes → passed t ≡ false → tally passed (upTo (g .nodes)) < tally (add passed t) (upTo (g .nodes))
+  more : (passed : ℕ → Bool) (t : ℕ) → t < g .nodes → passed t ≡ false → howMany passed (upTo (g .nodes)) < howMany (add passed t) (upTo (g .nodes))
   unfolding add
   more passed t l e =
-      tally-more passed (λ u. eqb u t || passed u) (upTo (g .nodes)) (λ u m. or-right (eqb u t) (passed u)) t (upTo-∈ (g .nodes) l) e
+      howMany-more passed (λ u. eqb u t || passed u) (upTo (g .nodes)) (λ u m. or-right (eqb u t) (passed u)) t (upTo-∈ (g .nodes) l) e
       (rw (eq-eqb t t refl))
 
   module _ (closed : Closed g) where
@@ -76,7 +76,7 @@ module _ (g : Graph) where
 
     -- a path in pass i + 1 has passed that many nodes less than all, and one is still to come; or there is a cycle
     abbrev Short : ℕ → (ℕ → Bool) → Type 0
-    Short i passed = CoverCycle g ⊎ (tally passed (upTo (g .nodes)) + i < g .nodes)
+    Short i passed = CoverCycle g ⊎ (howMany passed (upTo (g .nodes)) + i < g .nodes)
 
     abbrev Bound : ℕ → Type 0
     Bound i = (v y : ℕ) → v < g .nodes → Rises i v y → (passed : ℕ → Bool) → Path i v y passed → Short i passed
@@ -93,7 +93,7 @@ module _ (g : Graph) where
             ⊎-elim inl
             (λ new.
             let a = more passed (c .target) (closed .cover m) new in
-            let b = tally-le (add passed (c .target)) (upTo (g .nodes)) in
+            let b = howMany-le (add passed (c .target)) (upTo (g .nodes)) in
             let e = upTo-length (g .nodes) in
             inr (omega arith))
             (new-over path c m s)
@@ -140,8 +140,8 @@ module _ (g : Graph) where
         ⊎-elim (λ z. z) (λ b. absurd (omega (arith, some)))
         (bound i v (depths g i v) l (record { was = le-refl (depths g i v); is = k }) (λ u. eqb u v) path)
       where
-        some : 0 < tally (λ u. eqb u v) (upTo (g .nodes))
-        some = tally-some (λ u. eqb u v) (upTo (g .nodes)) v (upTo-∈ (g .nodes) l) (eq-eqb v v refl)
+        some : 0 < howMany (λ u. eqb u v) (upTo (g .nodes))
+        some = howMany-some (λ u. eqb u v) (upTo (g .nodes)) v (upTo-∈ (g .nodes) l) (eq-eqb v v refl)
 
         path : Path i v (depths g i v) (λ u. eqb u v)
         path = record {

@@ -9,7 +9,7 @@ use lib.Dec.{leb, ltb}
 use borrow.Author.Tests.{leb-true, le-leb, ltb-true, ltb-false, lt-ltb}
 use Rattle.lists.specs.Lists.{upTo}
 use Rattle.lists.proofs.Tests.{by-test, or-right, and-left, and-right}
-use Rattle.lists.proofs.Lists.{tally, tally-le, tally-more, tally-some, upTo-length, ∈-upTo, upTo-∈}
+use Rattle.lists.proofs.Lists.{howMany, howMany-le, howMany-more, howMany-some, upTo-length, ∈-upTo, upTo-∈}
 use Rattle.value.specs.Value.{atMost, _≼_}
 use Rattle.value.proofs.Values.{≼-up}
 use Rattle.rules.specs.Graph.{Graph, Closed}
@@ -27,7 +27,7 @@ module _ (g : Graph) (d : ℕ → ℕ) where
 
   -- how many do
   passes : ℕ → ℕ → ℕ → ℕ
-  passes i v k = tally (passed i v k) (upTo (g .nodes))
+  passes i v k = howMany (passed i v k) (upTo (g .nodes))
 
   data Passed (i v k u : ℕ) : Type 0 where
     less : d u < d v → Passed i v k u
@@ -53,7 +53,7 @@ module _ (g : Graph) (d : ℕ → ℕ) where
     earlier : (i v k t j : ℕ) → v < g .nodes → d t ≤ d v → (d v ≤ d t → j ≤ k) → Change g (suc i) v k → passes (suc i) t j < passes (suc (suc i)) v k
     unfolding passes
     earlier i v k t j l h le f =
-        tally-more (passed (suc i) t j) (passed (suc (suc i)) v k) (upTo (g .nodes))
+        howMany-more (passed (suc i) t j) (passed (suc (suc i)) v k) (upTo (g .nodes))
         (λ u m e. says-passed (more u (∈-upTo (g .nodes) m) (passed-says (suc i) t j u e)))
         v (upTo-∈ (g .nodes) l)
         (by-test (passed (suc i) t j v) (λ e. absurd (new (passed-says (suc i) t j v e))) (λ e. e))
@@ -73,7 +73,7 @@ module _ (g : Graph) (d : ℕ → ℕ) where
 
     change-bound : (i v k : ℕ) → v < g .nodes → Change g i v k → suc i ≤ passes (suc i) v k
     unfolding passes
-    change-bound zero v k l f = tally-some (passed 1 v k) (upTo (g .nodes)) v (upTo-∈ (g .nodes) l) (says-passed (low (le-refl (d v)) (f .now)))
+    change-bound zero v k l f = howMany-some (passed 1 v k) (upTo (g .nodes)) v (upTo-∈ (g .nodes) l) (says-passed (low (le-refl (d v)) (f .now)))
     change-bound (suc i) v k l f = go (chain g i v k f) (change-bound i)
       where
         go : Step g i v k → ((v k : ℕ) → v < g .nodes → Change g i v k → suc i ≤ passes (suc i) v k) → suc (suc i) ≤ passes (suc (suc i)) v k
@@ -86,7 +86,7 @@ module _ (g : Graph) (d : ℕ → ℕ) where
 
     passes-le : (i v k : ℕ) → passes i v k ≤ g .nodes
     unfolding passes
-    passes-le i v k = rw upTo-length at (tally-le (passed i v k) (upTo (g .nodes)))
+    passes-le i v k = rw upTo-length at (howMany-le (passed i v k) (upTo (g .nodes)))
 
     pub layered-settled : (i : ℕ) → g .nodes ≤ i → Settled g i
     layered-settled i h = no-change-settled g closed i λ v k l f. omega (arith, change-bound i v k l f, passes-le (suc i) v k)

@@ -12,12 +12,12 @@ use Rattle.value.specs.Value.{Value, fin, inf, plus, _≼_}
 use Rattle.lists.proofs.Tests.{and-left, and-right}
 use Rattle.lists.specs.Lists.{_∈_}
 use Rattle.rules.specs.Graph.{Target, Hyper, Cover, Graph}
-use Rattle.rules.specs.Rounds.{Assignment, holds, covered, worst, best, round}
+use Rattle.rules.specs.Rounds.{Assignment, coverHolds, covered, worst, best, round}
 use Rattle.lists.proofs.Lists.{any-true, true-any}
 use Rattle.value.proofs.Values.{fin-≼, ≼-inf, greatest-≼, ≼-greatest, least-≼, ≼-least}
 
 pub data Reason (g : Graph) (x : Assignment) (v k : ℕ) : Type 0 where
-  by-cover : (c : Cover) → c ∈ g .covers → c .source ≡ v → holds x c ≡ true → Reason g x v k
+  by-cover : (c : Cover) → c ∈ g .covers → c .source ≡ v → coverHolds x c ≡ true → Reason g x v k
   by-hyper : (h : Hyper) → h ∈ g .hypers → h .source ≡ v → ((t : Target) → t ∈ h .targets → plus (t .weight) (x (t .node)) ≼ k) → Reason g x v k
 
 module _ (x : Assignment) where
@@ -72,9 +72,9 @@ reason g x v {k} p = go (covered x v (g .covers)) refl p
   where
     go : (t : Bool) → covered x v (g .covers) ≡ t → cond t (fin 0) (best x v (g .hypers)) ≼ k → Reason g x v k
     go true e p =
-        let r = any-true (λ c. eqb (c .source) v && holds x c) (g .covers) e in
-        by-cover (r .0) (r .1) (eqb-true (r .0 .source) v (and-left (eqb (r .0 .source) v) (holds x (r .0)) (r .2)))
-        (and-right (eqb (r .0 .source) v) (holds x (r .0)) (r .2))
+        let r = any-true (λ c. eqb (c .source) v && coverHolds x c) (g .covers) e in
+        by-cover (r .0) (r .1) (eqb-true (r .0 .source) v (and-left (eqb (r .0 .source) v) (coverHolds x (r .0)) (r .2)))
+        (and-right (eqb (r .0 .source) v) (coverHolds x (r .0)) (r .2))
     go false e p =
         let r = ≼-best x v (g .hypers) p in
         let o = ≼-offer x v (r .0) (r .2) in
@@ -82,7 +82,7 @@ reason g x v {k} p = go (covered x v (g .covers)) refl p
 
 pub at-most : (g : Graph) (x : Assignment) (v : ℕ) {k : ℕ} → Reason g x v k → round g x v ≼ k
 unfolding round covered
-at-most g x v (by-cover c m s e) = rw (true-any (λ c. eqb (c .source) v && holds x c) (g .covers) c m (rw (eq-eqb (c .source) v s, e))) (fin-≼ (omega arith))
+at-most g x v (by-cover c m s e) = rw (true-any (λ c. eqb (c .source) v && coverHolds x c) (g .covers) c m (rw (eq-eqb (c .source) v s, e))) (fin-≼ (omega arith))
 at-most g x v {k} (by-hyper h m s f) = go (covered x v (g .covers))
   where
     go : (t : Bool) → cond t (fin 0) (best x v (g .hypers)) ≼ k

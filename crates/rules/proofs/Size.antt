@@ -11,7 +11,7 @@ use Rattle.value.specs.Value.{finite, _≼_}
 use Rattle.rules.specs.Graph.{Graph, Target, Hyper, Closed, heaviestOf, heaviest}
 use Rattle.rules.specs.Rounds.{rounds}
 use Rattle.value.proofs.Values.{≼-up, finite-≼, ≼-finite, ≼-plus, plus-≼}
-use Rattle.lists.proofs.Lists.{tally, tally-le, tally-mono, tally-more, tally-some, upTo-length, ∈-upTo, upTo-∈}
+use Rattle.lists.proofs.Lists.{howMany, howMany-le, howMany-mono, howMany-more, howMany-some, upTo-length, ∈-upTo, upTo-∈}
 use Rattle.rules.proofs.Order.{rounds-fall}
 use Rattle.rules.proofs.Reasons.{Reason, by-cover, by-hyper, reason, at-most}
 
@@ -21,15 +21,15 @@ pub record Light (g : Graph) (w : ℕ) : Type 0 where
 
 -- how many nodes are finite in round i
 pub finites : Graph → ℕ → ℕ
-finites g i = tally (λ v. finite (rounds g i v)) (upTo (g .nodes))
+finites g i = howMany (λ v. finite (rounds g i v)) (upTo (g .nodes))
 
 finites-le : (g : Graph) (i : ℕ) → finites g i ≤ g .nodes
 unfolding finites
-finites-le g i = rw upTo-length at (tally-le (λ v. finite (rounds g i v)) (upTo (g .nodes)))
+finites-le g i = rw upTo-length at (howMany-le (λ v. finite (rounds g i v)) (upTo (g .nodes)))
 
 finites-some : (g : Graph) (i v : ℕ) → v < g .nodes → finite (rounds g i v) ≡ true → 0 < finites g i
 unfolding finites
-finites-some g i v l e = tally-some (λ v. finite (rounds g i v)) (upTo (g .nodes)) v (upTo-∈ (g .nodes) l) e
+finites-some g i v l e = howMany-some (λ v. finite (rounds g i v)) (upTo (g .nodes)) v (upTo-∈ (g .nodes) l) e
 
 -- w for each of the nodes before the last, and w once more
 one-more : (w m a : ℕ) → a ≤ w → 0 < m → a + (m - 1) * w ≤ m * w
@@ -42,12 +42,12 @@ module _ (g : Graph) (closed : Closed g) (w : ℕ) (light : Light g w) where
   finites-mono : (i : ℕ) → finites g i ≤ finites g (suc i)
   unfolding finites
   finites-mono i =
-      tally-mono (λ v. finite (rounds g i v)) (λ v. finite (rounds g (suc i) v)) (upTo (g .nodes)) (λ v m e. stays i v (∈-upTo (g .nodes) m) e)
+      howMany-mono (λ v. finite (rounds g i v)) (λ v. finite (rounds g (suc i) v)) (upTo (g .nodes)) (λ v m e. stays i v (∈-upTo (g .nodes) m) e)
 
   finites-more : (i v : ℕ) → v < g .nodes → finite (rounds g i v) ≡ false → finite (rounds g (suc i) v) ≡ true → finites g i < finites g (suc i)
   unfolding finites
   finites-more i v l =
-      tally-more (λ v. finite (rounds g i v)) (λ v. finite (rounds g (suc i) v)) (upTo (g .nodes)) (λ v m e. stays i v (∈-upTo (g .nodes) m) e)
+      howMany-more (λ v. finite (rounds g i v)) (λ v. finite (rounds g (suc i) v)) (upTo (g .nodes)) (λ v m e. stays i v (∈-upTo (g .nodes) m) e)
       v (upTo-∈ (g .nodes) l)
 
   -- each finite value of round i is at most w for each other finite node

@@ -6,7 +6,7 @@ use Prim.Native.Nat.{ℕ, suc, _<_}
 use Rattle.lists.specs.Lists.{_∈_}
 use Rattle.value.specs.Value.{Value, fin, inf, plus, least, meets, _≼_, _⊑_}
 use Rattle.rules.specs.Graph.{Graph, Target, Hyper, Cover, Closed}
-use Rattle.rules.specs.Rounds.{Assignment, holds, round, rounds, Agree, Below}
+use Rattle.rules.specs.Rounds.{Assignment, coverHolds, round, rounds, Agree, Below}
 use Rattle.value.proofs.Values.{least-≼, ≼-least, ⊑-inf, ⊑-antisym}
 use Rattle.rules.proofs.Reasons.{Reason, by-cover, by-hyper, reason, at-most}
 use Rattle.rules.proofs.Order.{round-agree, rounds-fall}
@@ -16,7 +16,7 @@ pub record IdleHyper (x : Assignment) (h : Hyper) : Type 0 where
   pub gives : {k : ℕ} → ((t : Target) → t ∈ h .targets → plus (t .weight) (x (t .node)) ≼ k) → x (h .source) ≼ k
 
 pub record IdleCover (x : Assignment) (c : Cover) : Type 0 where
-  pub gives : (k : ℕ) → holds x c ≡ true → x (c .source) ≼ k
+  pub gives : (k : ℕ) → coverHolds x c ≡ true → x (c .source) ≼ k
 
 -- p is a part of g, and every edge of g that p lacks is idle under x
 pub record Part (g p : Graph) (x : Assignment) : Type 0 where

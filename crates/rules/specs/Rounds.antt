@@ -13,12 +13,12 @@ abbrev pub Assignment : Type 0
 Assignment = ℕ → Value
 
 -- the cover edge holds: its target's value is within its bound
-abbrev pub holds : Assignment → Cover → Bool
-holds x c = meets (c .bound) (x (c .target))
+abbrev pub coverHolds : Assignment → Cover → Bool
+coverHolds x c = meets (c .bound) (x (c .target))
 
 -- some cover edge of v holds
 unfoldable pub covered : Assignment → ℕ → List Cover → Bool
-covered x v cs = any (λ c. eqb (c .source) v && holds x c) cs
+covered x v cs = any (λ c. eqb (c .source) v && coverHolds x c) cs
 
 -- the greatest weight plus target value of a hyperedge; 0 with no target
 unfoldable pub worst : Assignment → List Target → Value

@@ -9,7 +9,7 @@ use mathlib.Core.Bool.{Bool, true, false}
 use mathlib.Core.List.{List, Memᴰ·cast}
 use Rattle.lists.specs.Lists.{any, upTo, firstFrom}
 use Rattle.lists.proofs.Tests.{by-test, clash}
-use Rattle.lists.proofs.Lists.{any-true, true-any, tally, tally-le, tally-more, tally-some, upTo-length, upTo-∈, firstFrom-before, firstFrom-passes}
+use Rattle.lists.proofs.Lists.{any-true, true-any, howMany, howMany-le, howMany-more, howMany-some, upTo-length, upTo-∈, firstFrom-before, firstFrom-passes}
 use Rattle.model.specs.Model.{Model, Transition}
 use Rattle.runs.specs.Systems.{System, systemOf}
 use Rattle.runs.specs.Runs.{Dead, Run, endless, ending}
@@ -122,14 +122,14 @@ module _ (M : Model) where
     within a l (suc i) = within (onward (f a)) (ranged (f a) l) i
 
     -- where a walk ends after just k + 1 steps, there are k + 2 states from which one ends by then: one for each number of steps
-    many : (k : ℕ) (a : ℕ) → a < M .states → ended f k a ≡ false → ended f (suc k) a ≡ true → suc k < tally (ended f (suc k)) all-states
+    many : (k : ℕ) (a : ℕ) → a < M .states → ended f k a ≡ false → ended f (suc k) a ≡ true → suc k < howMany (ended f (suc k)) all-states
     many zero a l before after =
-        let h = tally-some (ended f 0) all-states (onward (f a)) (upTo-∈ (M .states) (ranged (f a) l)) after in
-        let m = tally-more (ended f 0) (ended f 1) all-states (λ b n. stays f 0 1 b (omega arith)) a (upTo-∈ (M .states) l) before after in
+        let h = howMany-some (ended f 0) all-states (onward (f a)) (upTo-∈ (M .states) (ranged (f a) l)) after in
+        let m = howMany-more (ended f 0) (ended f 1) all-states (λ b n. stays f 0 1 b (omega arith)) a (upTo-∈ (M .states) l) before after in
         omega arith
     many (suc k) a l before after =
         let h = many k (onward (f a)) (ranged (f a) l) before after in
-        let m = tally-more (ended f (suc k)) (ended f (suc (suc k))) all-states (λ b n. stays f (suc k) (suc (suc k)) b (omega arith)) a
+        let m = howMany-more (ended f (suc k)) (ended f (suc (suc k))) all-states (λ b n. stays f (suc k) (suc (suc k)) b (omega arith)) a
         (upTo-∈ (M .states) l) before after in
         omega arith
 
@@ -140,7 +140,7 @@ module _ (M : Model) where
         let before = forever a l late k in
         by-test (ended f (suc k) a) (λ e.
         let h = many k a l before e in
-        let t = tally-le (ended f (suc k)) all-states in
+        let t = howMany-le (ended f (suc k)) all-states in
         let u = upTo-length (M .states) in
         clash (stays f (suc k) (M .states) a (omega arith) e) late)
         (λ e. e)

@@ -16,7 +16,7 @@ use Rattle.formula.specs.Layouts.{rowLayout}
 use Rattle.formula.specs.Message.{readFormula}
 use Rattle.formula.specs.WellFormed.{RowAt, WellFormed}
 use Rattle.formula.proofs.Good.{formula-good, header-good}
-use Rattle.formula.proofs.Accepted.{holds}
+use Rattle.formula.proofs.Accepted.{accepted-holds}
 use Rattle.formula.proofs.Exact.{accepted-written}
 use Rattle.text.specs.Text.{text}
 use Rattle.text.specs.Rows.{countOf, rowsOf, rowText, Ready}
@@ -39,7 +39,7 @@ module _ (p : ℕ) (s : List ℕ) (b : Bytes s) (rows : List Row) (e : readFormu
   count-is = let h = header-good s (length rows) (formula-good p s rows e .header) in omega (arith, h .long)
 
   rows-are : rowsOf s ≡ rows
-  rows-are = ap (λ (k : ℕ). items (rowLayout s) k formulaHeader) count-is ∙ sym (holds p s rows e .are)
+  rows-are = ap (λ (k : ℕ). items (rowLayout s) k formulaHeader) count-is ∙ sym (accepted-holds p s rows e .are)
 
   last-ready : Ready s (length rows - 1)
   last-ready =

@@ -19,7 +19,7 @@ use Rattle.rules.specs.Graph.{Graph}
 use Rattle.graph.specs.Write.{writeGraph}
 use Rattle.build.specs.declared.Built.{Built}
 use Rattle.build.specs.declared.Built.the-variants as Built
-use Rattle.build.specs.Built.{fits, roomy, builtOf, roomOf}
+use Rattle.build.specs.Built.{fits, roomy, builtOf, builtRoom}
 use Rattle.build.proofs.Writing.{fits-each}
 use Rattle.verdict.specs.Question.{Question, readQuestion, graphFor}
 use Rattle.verdict.specs.Asking.{heldQuestion, Held}
@@ -44,8 +44,8 @@ module _ (q : Question) (b : List ℕ) where
   abbrev w : List ℕ
   w = writeGraph g
 
-  built-is : (builtOf g b 8192 ≡ builtAlone (sized q b)) × (roomOf g b 8192 ≡ bytesOf (sized q b) b)
-  unfolding builtOf roomOf builtAlone bytesOf sized _>>_ demand
+  built-is : (builtOf g b 8192 ≡ builtAlone (sized q b)) × (builtRoom g b 8192 ≡ bytesOf (sized q b) b)
+  unfolding builtOf builtRoom builtAlone bytesOf sized _>>_ demand
   built-is = by-test (fits g) (λ e. rw (e, enough-values g b e) (fitting (leb (length w) (length b)))) (λ e. rw e (refl, refl))
     where
       fitting : (u : Bool) → (cond u (Built.Graph (length w)) (Built.Refused Room) ≡ builtAlone (demand u Room >> good q))
@@ -90,7 +90,7 @@ module _ (m f : List ℕ) (mb : Bytes m) (fb : Bytes f) (b : List ℕ) where
 
   -- both are accepted
   pub graph-built : {n p t k : ℕ} {r : Built} {b′ : List ℕ} → Held m f n p t k
-      → let g = graphFor (heldQuestion m n p t f k) in (r ≡ builtOf g b 8192) × (b′ ≡ roomOf g b 8192) → ShownGraph r b′
+      → let g = graphFor (heldQuestion m n p t f k) in (r ≡ builtOf g b 8192) × (b′ ≡ builtRoom g b 8192) → ShownGraph r b′
   unfolding readBuilt
   graph-built {n} {p} {t} {k} held s =
       let q = heldQuestion m n p t f k in

@@ -26,7 +26,7 @@ use Rattle.verdict.specs.Asking.{Held}
 -- a message that is checked as a model of these counts
 pub record ModelRead (m : List ℕ) (n p t : ℕ) : Type 0 where
   pub reads : readModel m ≡ good (heldModel m n p t)
-  pub holds : HoldsModel m n p t
+  pub stands : HoldsModel m n p t
 
 pub model-read : (m : List ℕ) {n p t : ℕ} → Bytes m → model.checked (readModel m) ≡ Model.Model n p t → ModelRead m n p t
 unfolding model.checked
@@ -39,7 +39,7 @@ model-read m {n} {p} {t} bytes e = go (readModel m) refl e
         let propositions : M .propositions ≡ p = cc in
         let transitions : length (M .transitions) ≡ t = cc in
         let held = model-held m M bytes r in
-        let base : ModelRead m (M .states) (M .propositions) (length (M .transitions)) = record { reads = r ∙ ap good (held .is); holds = held .holds } in
+        let base : ModelRead m (M .states) (M .propositions) (length (M .transitions)) = record { reads = r ∙ ap good (held .is); stands = held .stands } in
         rw (states, propositions, transitions) at base
 
 -- a refused model
@@ -60,8 +60,8 @@ module _ (m f : List ℕ) {n p t : ℕ} (read : ModelRead m n p t) where
       let held = rw (r .long) at (rows-held p f (r .rows) bytes (r .read)) in
       record {
         reads = good-bind _ (read .reads) (good-bind _ (r .read ∙ ap good (held .is)) refl);
-        model = read .holds;
-        rows = held .holds;
+        model = read .stands;
+        rows = held .stands;
       }
 
 -- both messages of a question that is read are accepted

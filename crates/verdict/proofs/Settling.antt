@@ -24,7 +24,7 @@ use Rattle.build.specs.declared.Built.{Built}
 use Rattle.build.specs.declared.Built.the-variants as Built
 use Rattle.build.specs.Held.{heldModel}
 use Rattle.build.proofs.Accepted.{rows-length}
-use Rattle.build.specs.Built.{fits, roomy, builtOf, roomOf}
+use Rattle.build.specs.Built.{fits, roomy, builtOf, builtRoom}
 use Rattle.verdict.specs.declared.AllStates.{AllStates}
 use Rattle.verdict.specs.declared.AllStates.the-variants as AllStates
 use Rattle.verdict.specs.Question.{Question, graphFor, rootNode}
@@ -49,12 +49,12 @@ was-built g b n {long} e = go (fits g) (roomy g b n) refl refl e
 
 -- the front of its room is the message
 module _ {g : Graph} {b : List ℕ} {n long : ℕ} (built : WasBuilt g b n long) where
-  pub front : {b′ : List ℕ} → b′ ≡ roomOf g b n → take long b′ ≡ writeGraph g
-  unfolding roomOf
+  pub front : {b′ : List ℕ} → b′ ≡ builtRoom g b n → take long b′ ≡ writeGraph g
+  unfolding builtRoom
   front r = rw (r, built .fitting, built .room, built .long-is) (take-at (writeGraph g) _ _ refl)
 
-  pub front-inside : {b′ : List ℕ} → b′ ≡ roomOf g b n → long ≤ length b′
-  unfolding roomOf
+  pub front-inside : {b′ : List ℕ} → b′ ≡ builtRoom g b n → long ≤ length b′
+  unfolding builtRoom
   front-inside r = rw (r, built .fitting, built .room, built .long-is, length-append (writeGraph g)) (omega arith)
 
   -- and two rounds fit theirs
@@ -78,8 +78,8 @@ module _ (q : Question) (budget : ℕ) (b v : List ℕ) where
   shows-as e s = (e ∙ s .0, s .1)
 
   -- the builder refuses what the reading does
-  not-roomed : {e : Refusal} → builtOf (graphFor q) b (length v) ≡ Built.Refused e → (roomed q b v ≡ bad e) × (roomOf (graphFor q) b (length v) ≡ b)
-  unfolding builtOf roomOf roomy roomed sized _>>_ demand
+  not-roomed : {e : Refusal} → builtOf (graphFor q) b (length v) ≡ Built.Refused e → (roomed q b v ≡ bad e) × (builtRoom (graphFor q) b (length v) ≡ b)
+  unfolding builtOf builtRoom roomy roomed sized _>>_ demand
   not-roomed {e} h =
       go (fits (graphFor q)) (leb (length w) (length b)) (leb (graphFor q .nodes + graphFor q .nodes) (length v)) h
     where
@@ -94,7 +94,7 @@ module _ (q : Question) (budget : ℕ) (b v : List ℕ) where
       go false u r z = let k : e ≡ Size = cc in (ap bad (sym k), refl)
 
   -- the graph was refused
-  pub shows-refused : {e : Refusal} {b′ : List ℕ} → builtOf (graphFor q) b (length v) ≡ Built.Refused e → b′ ≡ roomOf (graphFor q) b (length v)
+  pub shows-refused : {e : Refusal} {b′ : List ℕ} → builtOf (graphFor q) b (length v) ≡ Built.Refused e → b′ ≡ builtRoom (graphFor q) b (length v)
       → Shows (AllStates.Refused e) b′ v
   unfolding allOf bytesOf valuesOf
   shows-refused h r = let (is, stays) = not-roomed h in rw is (refl, (r ∙ stays, refl))
@@ -108,9 +108,9 @@ module _ (q : Question) (budget : ℕ) (b v : List ℕ) where
         let values = and-right (leb (length (writeGraph (graphFor q))) (length b)) _ (built .room) in
         good-after (good-demand _ (built .fitting) (good-demand _ message refl)) (good-demand _ values refl)
 
-    pub shows-ran : {d : Graph} {b′ v′ : List ℕ} {r r′ : Outcome} → d ≡ graphFor q → b′ ≡ roomOf (graphFor q) b (length v)
+    pub shows-ran : {d : Graph} {b′ v′ : List ℕ} {r r′ : Outcome} → d ≡ graphFor q → b′ ≡ builtRoom (graphFor q) b (length v)
         → r ≡ rounds.ended d budget → v′ ≡ rounds.filled d (rounds.outcomeCount r) v → r ≡ r′ → Shows (passed q long r′) b′ v′
-    unfolding allOf bytesOf valuesOf roomOf rounds.ended
+    unfolding allOf bytesOf valuesOf builtRoom rounds.ended
     shows-ran {d} {b′} {v′} {r} is rb ro rv same =
         let ended : r ≡ rounds.ended (graphFor q) budget = rw is at ro in
         let count-is = ap rounds.outcomeCount ended ∙ count-reported (graphFor q) budget in

@@ -7,7 +7,7 @@ use Rattle.wire.specs.declared.Step.the-variants.{Next, Refused}
 
 -- where the records of a list start
 abbrev pub start : ℕ → State
-start at = record { at = at; prev = 0; tally = 0 }
+start at = record { at = at; prev = 0; seen = 0 }
 
 -- the state past the records, or the first fault
 unfoldable pub step : Read State → Step

@@ -75,7 +75,7 @@ pub const START: usize = 6;
 pub struct State {
     pub at: usize,
     pub prev: u32,
-    pub tally: u32,
+    pub seen: u32,
 }
 
 // The state past what was read, or the first fault.

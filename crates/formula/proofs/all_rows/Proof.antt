@@ -31,7 +31,7 @@ record Left (s counts : List ℕ) (p k : ℕ) (st₀ st : State) : Type 0 where
 
 abbrev Inv-loop : tie.InvT-loop
 Inv-loop s p counts₀ st₀ counts st =
-    (st .at ≤ length s) × (length s + st .tally * rowWidth ≤ st .at + 64 * rowWidth) × (length counts ≡ 64) × ((j : ℕ) → getD counts j 0 ≤ 2 * st .tally)
+    (st .at ≤ length s) × (length s + st .seen * rowWidth ≤ st .at + 64 * rowWidth) × (length counts ≡ 64) × ((j : ℕ) → getD counts j 0 ≤ 2 * st .seen)
     × ((k : ℕ) → st₀ .at + k * rowWidth ≡ length s → Left s counts p k st₀ st)
 
 abbrev μ-loop : tie.MeasureT-loop

@@ -40,7 +40,7 @@ inside c = let a = c .args in omega (arith, value-inside 4 (now (a .s)) (a .st .
 abbrev judgement : tie.After-number-at4 → Read Row
 judgement c =
     let a = start c .args in
-    judgeRow (a .p) (a .st .tally) (c .before .before .before .number-at .result) (c .before .before .number-at2 .result) (c .before .number-at3 .result) (c .number-at4 .result) (a .bound)
+    judgeRow (a .p) (a .st .seen) (c .before .before .before .number-at .result) (c .before .before .number-at2 .result) (c .before .number-at3 .result) (c .number-at4 .result) (a .bound)
 
 fields-judged : (c : tie.After-number-at4) → let a = start c .args in readRow (now (a .s)) (a .p) (a .st) ≡ judgement c
 fields-judged c =

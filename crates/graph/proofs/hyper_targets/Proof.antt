@@ -17,15 +17,15 @@ use Rattle.graph.proofs.hyper_targets.Statement.{statement}
 use Rattle.graph.proofs.hyper_targets.Tie as tie
 
 -- the running total is within its limit
-few : (c : tie.Else1) → let a = c .before .before .args in leb (a .st .tally + a .count) mostTargets ≡ true
-few c = let a = c .before .before .args in le-leb (a .st .tally + a .count) mostTargets (omega arith)
+few : (c : tie.Else1) → let a = c .before .before .args in leb (a .st .seen + a .count) mostTargets ≡ true
+few c = let a = c .before .before .args in le-leb (a .st .seen + a .count) mostTargets (omega arith)
 
 sub-if1 : tie.Need-sub-if1
 sub-if1 c = search needs
 
 returns : tie.Need-returns
 unfolding readTargets step
-returns c = let a = c .before .before .args in simp (reading, lt-leb (a .st .tally + a .count) mostTargets (omega arith))
+returns c = let a = c .before .before .args in simp (reading, lt-leb (a .st .seen + a .count) mostTargets (omega arith))
 
 add-first : tie.Need-add-first
 add-first c = search needs
@@ -56,8 +56,8 @@ returns-3 c =
     let none = run-bad _ _ _ _ (step-refused _ (by (t .targets .ensures) (c .enum-told2 .given .1))) in
     c .enum-told2 .given .1 ∙ simp (reading, few (t .before .before .before), le-leb _ _ (t .before .if2 .left), none)
 
-add-so-far : tie.Need-add-so-far
-add-so-far c = search needs
+add-total : tie.Need-add-total
+add-total c = search needs
 
 returns-4 : tie.Need-returns-4
 unfolding readTargets step
@@ -80,5 +80,5 @@ hyper-targets-spec =
     enum-told
     enum-told-2
     returns-3
-    add-so-far
+    add-total
     returns-4)

@@ -15,7 +15,7 @@ use Rattle.graph.proofs.hypers.Statement.{statement}
 use Rattle.graph.proofs.hypers.Tie as tie
 
 abbrev Inv-loop : tie.InvT-loop
-Inv-loop s n k st₀ i₀ st i = (st .at ≤ length s) × (st .tally ≤ mostTargets) × (step (run (m.hypers s n) i st) ≡ step (run (m.hypers s n) k st₀))
+Inv-loop s n k st₀ i₀ st i = (st .at ≤ length s) × (st .seen ≤ mostTargets) × (step (run (m.hypers s n) i st) ≡ step (run (m.hypers s n) k st₀))
 
 abbrev μ-loop : tie.MeasureT-loop
 μ-loop s n k st₀ i₀ st i = i
