@@ -15,6 +15,12 @@ pub enum Refusal {
     Profile,
 }
 
+// A refusal, and where in the message at fault the field starts that was found wrong: its offset, and 0 where no field is at fault.
+pub struct Fault {
+    pub refusal: Refusal,
+    pub offset: usize,
+}
+
 impl Refusal {
     // The number that the paper gives the refusal.
     pub fn number(self) -> u8

@@ -5,7 +5,7 @@ use mathlib.Core.Path.{_≡_, refl, sym, ap, subst, _∙_}
 use native.Mathlib.Nat.{not-suc-le-zero}
 use native.Mathlib.Numerals.{sub-one}
 use lib.ListN.{length}
-use Rattle.refusal.specs.declared.Refusal.{Refusal}
+use Rattle.refusal.specs.declared.Fault.{Fault}
 use Rattle.wire.specs.Read.{Read, good, bad, _>>=_}
 use Rattle.wire.specs.Reader.{Reader, readAll, past, one, run}
 use Rattle.wire.proofs.Reading.{bind-good, good-same, never}
@@ -53,7 +53,7 @@ module _ {S A : Type 0} (R : Reader S A) where
       let xs = bind-good _ _ e in
       record { got = xs .value; there = xs .first; ends = good-same (xs .rest) }
 
-  pub run-bad : (k : ℕ) (st : S) (f : Refusal) → run R k st ≡ bad f → readAll R k st ≡ bad f
+  pub run-bad : (k : ℕ) (st : S) (f : Fault) → run R k st ≡ bad f → readAll R k st ≡ bad f
   unfolding run _>>=_
   run-bad k st f e = go (readAll R k st) e
     where

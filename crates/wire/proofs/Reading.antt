@@ -1,22 +1,21 @@
 -- How a reading goes on, and what a good one says. Assumes nothing.
 use Prim.Native.Nat.{ℕ}
 use mathlib.Core.List.{List}
-use mathlib.Core.Path.{_≡_, refl}
+use mathlib.Core.Path.{_≡_, refl, sym, ap, _∙_}
 use mathlib.Core.Bool.{Bool, true, false}
 use native.Mathlib.Omega.{arith}
-use Rattle.refusal.specs.declared.Refusal.{Refusal}
-use Rattle.refusal.specs.declared.Refusal.the-variants.{Length}
+use Rattle.refusal.specs.declared.Fault.{Fault}
 use Rattle.wire.specs.Field.{fieldAt}
-use Rattle.wire.specs.Read.{Read, good, bad, _>>=_, _>>_, demand, ofField, field}
+use Rattle.wire.specs.Read.{Read, good, bad, _>>=_, _>>_, unless, ofField, field, found, faultOf}
 use Rattle.wire.specs.declared.Field.{Field}
-use Rattle.wire.specs.declared.Field.the-variants.{Number, Short}
+use Rattle.wire.specs.declared.Field.the-variants.{Number, Refused}
 
 -- how a reading goes on, for `simp reading`
 pub good-then : {A B : Type 0} (a : A) (f : A → Read B) → good a >>= f ≡ f a
 unfolding _>>=_
 good-then a f = refl
 
-pub bad-then : {A B : Type 0} (e : Refusal) (f : A → Read B) → bad e >>= f ≡ bad e
+pub bad-then : {A B : Type 0} (e : Fault) (f : A → Read B) → bad e >>= f ≡ bad e
 unfolding _>>=_
 bad-then e f = refl
 
@@ -24,36 +23,48 @@ pub good-and : {A B : Type 0} (a : A) (r : Read B) → good a >> r ≡ r
 unfolding _>>_
 good-and a r = refl
 
-pub bad-and : (A : Type 0) {B : Type 0} (e : Refusal) (r : Read B) → _>>_ {A = A} (bad e) r ≡ bad e
+pub bad-and : (A : Type 0) {B : Type 0} (e : Fault) (r : Read B) → _>>_ {A = A} (bad e) r ≡ bad e
 unfolding _>>_
 bad-and A e r = refl
 
-pub met : (e : Refusal) → demand true e ≡ good tt
-unfolding demand
+pub met : (e : Fault) → unless true e ≡ good tt
+unfolding unless
 met e = refl
 
-pub unmet : (e : Refusal) → demand false e ≡ bad e
-unfolding demand
+pub unmet : (e : Fault) → unless false e ≡ bad e
+unfolding unless
 unmet e = refl
 
 pub there : (n : ℕ) → ofField (Number n) ≡ good n
 unfolding ofField
 there n = refl
 
-pub short : ofField Short ≡ bad Length
+pub refused : (e : Fault) → ofField (Refused e) ≡ bad e
 unfolding ofField
-short = refl
+refused e = refl
 
-pub ruleset reading = (good-then, bad-then, good-and, bad-and, met, unmet, there, short)
+pub found-number : (n : ℕ) → found (good n) ≡ Number n
+unfolding found
+found-number n = refl
+
+pub found-refused : (e : Fault) → found (bad e) ≡ Refused e
+unfolding found
+found-refused e = refl
+
+pub fault-is : (e : Fault) → faultOf (Refused e) ≡ e
+unfolding faultOf
+fault-is e = refl
+
+pub ruleset reading = (good-then, bad-then, good-and, bad-and, met, unmet, there, refused, found-number, found-refused, fault-is)
 
 -- no reading is both
-pub never : {A : Type 0} {r : Refusal} {a : A} → bad r ≡ good a → ⊥
+pub never : {A : Type 0} {r : Fault} {a : A} → bad r ≡ good a → ⊥
 never e = let z : _≡_ {A = ℕ} 0 1 = cc in omega arith
 
 pub good-same : {A : Type 0} {a b : A} → good a ≡ good b → a ≡ b
 good-same e = cc
 
-pub bad-same : {A : Type 0} {e f : Refusal} → _≡_ {A = Read A} (bad e) (bad f) → e ≡ f
+pub bad-same : {A : Type 0} {e f : Fault} → _≡_ {A = Read A} (bad e) (bad f) → e ≡ f
 bad-same p = cc
 
 -- a reading that goes on was good so far
@@ -72,8 +83,8 @@ unfolding _>>_
 and-good (good a) r e = (refl, e)
 and-good (bad f) r e = absurd (never e)
 
-pub demand-good : {B : Type 0} (t : Bool) (e : Refusal) (r : Read B) {b : B} → demand t e >> r ≡ good b → (t ≡ true) × (r ≡ good b)
-unfolding _>>_ demand
+pub demand-good : {B : Type 0} (t : Bool) (e : Fault) (r : Read B) {b : B} → unless t e >> r ≡ good b → (t ≡ true) × (r ≡ good b)
+unfolding _>>_ unless
 demand-good true e r h = (refl, h)
 demand-good false e r h = absurd (never h)
 
@@ -83,12 +94,31 @@ field-good k s at {n} e = go (fieldAt k s at) e
   where
     go : (x : Field) → ofField x ≡ good n → x ≡ Number n
     go (Number m) h = cc
-    go Short h = absurd (never h)
+    go (Refused f) h = absurd (never h)
 
--- where what follows a field is LENGTH, so is the whole, be the field there or not
-pub length-after : {B : Type 0} (k : ℕ) (s : List ℕ) (at : ℕ) (f : ℕ → Read B) → ((n : ℕ) → f n ≡ bad Length) → field k s at >>= f ≡ bad Length
-length-after k s at f h = go (fieldAt k s at)
-  where
-    go : (x : Field) → ofField x >>= f ≡ bad Length
-    go (Number n) = simp reading (h n)
-    go Short = simp reading
+-- the reading from the answer of a function that reads a field
+pub found-good : (x : Read ℕ) {n : ℕ} → found x ≡ Number n → x ≡ good n
+unfolding found
+found-good (good m) e = cc
+found-good (bad f) e = cc
+
+pub found-bad : (x : Read ℕ) {f : Fault} → found x ≡ Refused f → x ≡ bad f
+unfolding found
+found-bad (good m) e = cc
+found-bad (bad g) e = cc
+
+-- a field, as the answer of a function that reads it
+pub field-found : (x : Field) → x ≡ found (ofField x)
+unfolding found ofField
+field-found (Number n) = refl
+field-found (Refused e) = refl
+
+-- a function that reads a field answers a refusal: its caller hands on the answer, or the fault
+pub stopped : (x : Read ℕ) {r : Field} {f : Fault} (k : ℕ → Read ℕ) → r ≡ found x → r ≡ Refused f → r ≡ found (x >>= k)
+stopped x {r} {f} k e is =
+    let read : x ≡ bad f = found-bad x (sym e ∙ is) in
+    is ∙ sym (rw (read, bad-then, found-refused))
+
+pub handed : (x : Read ℕ) {r : Field} {f : Fault} → r ≡ found x → r ≡ Refused f → x ≡ bad (faultOf r)
+unfolding faultOf
+handed x {r} {f} e is = found-bad x (sym e ∙ is) ∙ ap (λ (y : Field). bad (faultOf y)) (sym is)
