@@ -1,9 +1,10 @@
 -- What a field that is there, or too short, says of the bytes. Assumes nothing.
-use Prim.Native.Nat.{ℕ, _+_, _<_, _≤_}
-use mathlib.Core.Path.{_≡_, refl, sym, ap, _∙_}
+use Prim.Native.Nat.{ℕ, zero, suc, _+_, _*_, _<_, _≤_}
+use mathlib.Core.Path.{_≡_, refl, sym, ap, ap₂, _∙_}
 use mathlib.Core.List.{List}
 use mathlib.Core.Bool.{Bool, true, false, cond}
-use lib.ListN.{length}
+use lib.ListN.{length, getD, take, drop, length-drop}
+use lib.Seq.{getD-take, getD-drop, length-take-le}
 use lib.Dec.{leb}
 use borrow.Author.Tests.{lt-leb, le-leb, leb-true, leb-false}
 use native.Mathlib.Omega.{arith}
@@ -57,3 +58,19 @@ width-le Four = omega arith
 -- a field is refused for one reason only
 pub refused-short : (k : ℕ) (s : List ℕ) (at : ℕ) {e : Fault} → fieldAt k s at ≡ Refused e → e ≡ short
 refused-short k s at {e} h = let is : Refused e ≡ Refused short = sym h ∙ field-short k s at (short-past k s at h) in cc
+
+-- a part of a message has the fields of the message
+module _ (s : List ℕ) (at w : ℕ) where
+  part-number : (k x : ℕ) → x + k ≤ w → number k (take w (drop at s)) x ≡ number k s (at + x)
+  unfolding number
+  part-number zero x h = refl
+  part-number (suc k) x h =
+      let first = part-number k x (omega arith) in
+      let byte : getD (take w (drop at s)) (x + k) 0 ≡ getD s (at + x + k) 0 =
+      getD-take w (drop at s) (x + k) 0 (omega arith) ∙ getD-drop at s (x + k) 0 ∙ ap (λ (i : ℕ). getD s i 0) (omega arith) in
+      ap₂ (λ (a b : ℕ). a * 256 + b) first byte
+
+  pub part-field : (k x : ℕ) → at + w ≤ length s → x + k ≤ w → fieldAt k (take w (drop at s)) x ≡ fieldAt k s (at + x)
+  part-field k x inside h =
+      let long : length (take w (drop at s)) ≡ w = length-take-le w (drop at s) (simp length-drop (omega arith)) in
+      field-value k (take w (drop at s)) x (omega arith) ∙ ap Number (part-number k x h) ∙ sym (field-value k s (at + x) (omega arith))

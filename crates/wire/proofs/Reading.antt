@@ -1,12 +1,16 @@
 -- How a reading goes on, and what a good one says. Assumes nothing.
-use Prim.Native.Nat.{ℕ}
+use Prim.Native.Nat.{ℕ, _+_, _≤_, _<_}
 use mathlib.Core.List.{List}
+use lib.ListN.{length, take, drop}
+use borrow.Author.Tests.{ltb-true, lt-ltb, leb-true, le-leb}
 use mathlib.Core.Path.{_≡_, refl, sym, ap, _∙_}
 use mathlib.Core.Bool.{Bool, true, false}
+use native.Mathlib.Nat.{add-zero}
 use native.Mathlib.Omega.{arith}
 use Rattle.refusal.specs.declared.Fault.{Fault}
 use Rattle.wire.specs.Field.{fieldAt}
-use Rattle.wire.specs.Read.{Read, good, bad, _>>=_, _>>_, unless, ofField, field, found, faultOf}
+use Rattle.wire.specs.Read.{Read, good, bad, _>>=_, _>>_, unless, ofField, field, found, faultOf, below, misnamed, sourceFrom}
+use Rattle.wire.proofs.Fields.{part-field}
 use Rattle.wire.specs.declared.Field.{Field}
 use Rattle.wire.specs.declared.Field.the-variants.{Number, Refused}
 
@@ -122,3 +126,41 @@ stopped x {r} {f} k e is =
 pub handed : (x : Read ℕ) {r : Field} {f : Fault} → r ≡ found x → r ≡ Refused f → x ≡ bad (faultOf r)
 unfolding faultOf
 handed x {r} {f} e is = found-bad x (sym e ∙ is) ∙ ap (λ (y : Field). bad (faultOf y)) (sym is)
+
+-- a field with its limit: what a good one says, that one within it is read, and that a part of a message has it
+module _ (k : ℕ) (s : List ℕ) (at limit : ℕ) (fault : Fault) where
+  pub below-good : {n : ℕ} → below k s at limit fault ≡ good n → (fieldAt k s at ≡ Number n) × (n < limit)
+  unfolding below
+  below-good {n} e =
+      let v = bind-good _ _ e in
+      let less = demand-good _ _ _ (v .rest) in
+      let same = good-same (less .1) in
+      (rw (← same) (field-good k s at (v .first)), rw (← same) (ltb-true _ _ (less .0)))
+
+  pub good-below : {n : ℕ} → field k s at ≡ good n → n < limit → below k s at limit fault ≡ good n
+  unfolding below
+  good-below {n} e less = simp (e, lt-ltb n limit less, good-then, good-and, met)
+
+pub part-below : (k : ℕ) (s : List ℕ) (at w x limit : ℕ) (fault : Fault) → at + w ≤ length s → x + k ≤ w → below k (take w (drop at s)) x limit fault ≡ below k s (at + x) limit fault
+unfolding below
+part-below k s at w x limit fault inside h = rw (part-field s at w k x inside h) refl
+
+-- the same of a source
+module _ (s : List ℕ) (at n prev offset : ℕ) where
+  pub source-good : {v : ℕ} → sourceFrom s at n prev offset ≡ good v → (fieldAt 2 s at ≡ Number v) × ((v < n) × (prev ≤ v))
+  unfolding sourceFrom
+  source-good {v} e =
+      let u = bind-good _ _ e in
+      let more = demand-good _ _ _ (u .rest) in
+      let same = good-same (more .1) in
+      let b = below-good 2 s at n _ (u .first) in
+      (rw (← same) (b .0), (rw (← same) (b .1), rw (← same) (leb-true _ _ (more .0))))
+
+  pub good-source : {v : ℕ} → field 2 s at ≡ good v → v < n → prev ≤ v → sourceFrom s at n prev offset ≡ good v
+  unfolding sourceFrom
+  good-source {v} e less more = simp (good-below 2 s at n (misnamed offset) e less, le-leb prev v more, good-then, good-and, met)
+
+pub part-source : (s : List ℕ) (at w n prev offset : ℕ) → at + w ≤ length s → 2 ≤ w → sourceFrom (take w (drop at s)) 0 n prev offset ≡ sourceFrom s at n prev offset
+unfolding sourceFrom
+part-source s at w n prev offset inside h =
+    rw (part-below 2 s at w 0 n (misnamed offset) inside h, add-zero) refl

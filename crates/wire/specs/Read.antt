@@ -50,12 +50,25 @@ below k s at limit fault = do
   unless (ltb n limit) fault
   good n
 
--- a source (2), one of n nodes or states, else NAME; below the one before it ORDER; it stands at this offset in its message
-unfoldable pub source : List ℕ → (at n prev offset : ℕ) → Read ℕ
-source s at n prev offset = do
-  v ← below 2 s at n (record { refusal = Name; offset = offset })
+-- the fault of a field that names something that doesn't exist
+abbrev pub misnamed : (offset : ℕ) → Fault
+misnamed offset = record { refusal = Name; offset = offset }
+
+-- a field that names one of so many, else NAME
+abbrev pub named : ℕ → List ℕ → (at limit : ℕ) → Read ℕ
+named k s at limit = below k s at limit (misnamed at)
+
+-- a source (2), one of n nodes or states, else NAME; below the one before it ORDER. Its bytes may be read from a part of the message:
+-- then its offset is told beside them
+unfoldable pub sourceFrom : List ℕ → (at n prev offset : ℕ) → Read ℕ
+sourceFrom s at n prev offset = do
+  v ← below 2 s at n (misnamed offset)
   demand (leb prev v) Order offset
   good v
+
+-- the same, of a message
+abbrev pub source : List ℕ → (at n prev : ℕ) → Read ℕ
+source s at n prev = sourceFrom s at n prev at
 
 -- what a function that reads a field answers
 unfoldable pub found : Read ℕ → Field

@@ -5,7 +5,7 @@ ghost use lib.ListN.{length};
 ghost use Rattle.wire.specs.Bytes.{number, put};
 ghost use Rattle.wire.specs.Field.{widthOf, longWidth, fieldAt};
 ghost use Rattle.wire.specs.Start.{readStart, openedOf, only};
-ghost use Rattle.wire.specs.Read.{found, faultOf, below, source};
+ghost use Rattle.wire.specs.Read.{found, faultOf, below, sourceFrom};
 ghost use Rattle.wire.specs.Counts.{readCount};
 use refusal::Fault;
 use refusal::Refusal;
@@ -186,7 +186,7 @@ pub fn read_below(s: &[u8], at: usize, width: Width, limit: u64, fault: Fault) -
 
 // A source, one of n nodes or states and not below the one before it, that stands here in its message.
 pub fn read_source(s: &[u8], at: usize, n: u32, prev: u32, offset: usize) -> Field
-    ensures { λ r. ⌜ r ≡ found (source (now (s .entry)) at n prev offset) ⌝ }
+    ensures { λ r. ⌜ r ≡ found (sourceFrom (now (s .entry)) at n prev offset) ⌝ }
 {
     let name = Fault {
         refusal: Refusal::Name,

@@ -4,15 +4,14 @@ use denote.Ref.{now}
 use borrow.Author.Needs.{needs}
 use borrow.Author.Tests.{lt-leb, le-leb}
 use Rattle.lists.proofs.Tests.{by}
-use Rattle.refusal.specs.declared.Refusal.the-variants.{Name}
-use Rattle.wire.specs.Read.{good, below, source}
+use Rattle.wire.specs.Read.{good, below, misnamed, sourceFrom}
 use Rattle.wire.proofs.Reading.{reading, stopped, found-good}
 use Rattle.wire.proofs.read_source.Statement.{statement}
 use Rattle.wire.proofs.read_source.Tie as tie
 
 -- the source is one that exists
 named : (c : tie.After-known-told)
-    → let a = c .before .before .before .before .before .args in below 2 (now (a .s)) (a .at) (a .n) (record { refusal = Name; offset = a .offset }) ≡ good (c .before .field .given .0 .0)
+    → let a = c .before .before .before .before .before .args in below 2 (now (a .s)) (a .at) (a .n) (misnamed (a .offset)) ≡ good (c .before .field .given .0 .0)
 named c = found-good _ (by (c .before .before .before .read-below .ensures) (c .before .field .given .1))
 
 read-below-requires : tie.Need-read-below-requires
@@ -25,15 +24,15 @@ enum-told : tie.Need-enum-told
 enum-told c = search needs
 
 returns : tie.Need-returns
-unfolding source
+unfolding sourceFrom
 returns c = stopped _ _ (c .before .before .read-below .ensures) (c .enum-told .given .1)
 
 returns-2 : tie.Need-returns-2
-unfolding source
+unfolding sourceFrom
 returns-2 c = simp (reading, named (c .before), lt-leb _ _ (c .if1 .taken))
 
 returns-3 : tie.Need-returns-3
-unfolding source
+unfolding sourceFrom
 returns-3 c = simp (reading, named (c .before), le-leb _ _ (c .if1 .left))
 
 pub read-source-spec : {M : Type 1} → statement M
