@@ -39,3 +39,13 @@ impl Refusal {
         }
     }
 }
+
+impl Fault {
+    // The number that the paper gives its refusal.
+    pub fn number(self) -> u8
+        ensures { λ r. ⌜ r ≡ numberOf (self .refusal) ⌝ }
+    {
+        let refusal = self.refusal;
+        refusal.number()
+    }
+}
