@@ -8,6 +8,7 @@ mod build;
 mod bytes;
 mod known;
 mod message;
+mod offsets;
 mod program;
 mod random;
 mod refusal;
