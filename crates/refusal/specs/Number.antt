@@ -28,5 +28,5 @@ abbrev pub nowhere : ℕ
 nowhere = 0
 
 -- a refusal that no field of a message is at fault for
-abbrev pub plain : Refusal → Fault
-plain e = record { refusal = e; offset = nowhere }
+abbrev pub unplaced : Refusal → Fault
+unplaced e = record { refusal = e; offset = nowhere }

@@ -1,5 +1,5 @@
 -- How a reading goes on, and what a good one says. Assumes nothing.
-use Prim.Native.Nat.{ℕ, _+_, _≤_, _<_}
+use Prim.Native.Nat.{ℕ, _+_, _-_, _≤_, _<_}
 use mathlib.Core.List.{List}
 use lib.ListN.{length, take, drop}
 use borrow.Author.Tests.{ltb-true, lt-ltb, leb-true, le-leb}
@@ -164,3 +164,14 @@ pub part-source : (s : List ℕ) (at w n prev offset : ℕ) → at + w ≤ lengt
 unfolding sourceFrom
 part-source s at w n prev offset inside h =
     rw (part-below 2 s at w 0 n (misnamed offset) inside h, add-zero) refl
+
+-- the parts that the code hands on go from a position to an end
+module _ (s : List ℕ) (at end : ℕ) (inside : end ≤ length s) where
+  pub cut-field : (k x : ℕ) → at + x + k ≤ end → fieldAt k (take (end - at) (drop at s)) x ≡ fieldAt k s (at + x)
+  cut-field k x h = part-field s at (end - at) k x (omega arith) (omega arith)
+
+  pub cut-below : (k x limit : ℕ) (fault : Fault) → at + x + k ≤ end → below k (take (end - at) (drop at s)) x limit fault ≡ below k s (at + x) limit fault
+  cut-below k x limit fault h = part-below k s at (end - at) x limit fault (omega arith) (omega arith)
+
+  pub cut-source : (n prev offset : ℕ) → at + 2 ≤ end → sourceFrom (take (end - at) (drop at s)) 0 n prev offset ≡ sourceFrom s at n prev offset
+  cut-source n prev offset h = part-source s at (end - at) n prev offset (omega arith) (omega arith)

@@ -6,7 +6,7 @@ use lib.ListN.{length}
 use lib.Dec.{leb}
 use Rattle.refusal.specs.declared.Fault.{Fault}
 use Rattle.refusal.specs.declared.Refusal.the-variants.{Length}
-use Rattle.refusal.specs.Number.{plain}
+use Rattle.refusal.specs.Number.{unplaced}
 use Rattle.wire.specs.Bytes.{number}
 use Rattle.wire.specs.declared.Width.{Width}
 use Rattle.wire.specs.declared.Width.the-variants.{One, Two, Four}
@@ -25,7 +25,7 @@ longWidth = 8
 
 -- too few bytes are LENGTH, and no field's fault
 abbrev pub short : Fault
-short = plain Length
+short = unplaced Length
 
 -- the number that the k bytes at the position make, or LENGTH where they run past the end
 unfoldable pub fieldAt : ℕ → List ℕ → ℕ → Field
