@@ -97,9 +97,9 @@ fn model_end(input: &[u8]) -> Cut
     if 8192 < input.len() {
         return Cut::Refused(wire::SHORT);
     }
-    let length = wire::read(input, 0, Width::Four);
-    let Field::Number(total) = length else {
-        return Cut::Refused(length.fault());
+    let told = wire::read(input, 0, Width::Four);
+    let Field::Number(total) = told else {
+        return Cut::Refused(told.fault());
     };
     if input.len() < total as usize {
         return Cut::Refused(wire::SHORT);
