@@ -5,3 +5,4 @@ pub mod Message
 pub mod Write
 pub mod WellFormed
 pub mod Answers
+pub mod Located

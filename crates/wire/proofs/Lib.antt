@@ -14,6 +14,7 @@
 --     Written    records that are written one behind the other
 --     Laid       bytes laid into a room one after another are laid in at once; what a loop has still to lay in
 --     Spans      a loop over numbers that lays in the bytes of each
+--     Onward     readings go onward: nothing before a fault's offset is to blame, and the field there can be mended
 --     One        one answer of each public function
 pub mod Bytes
 pub mod Fields
@@ -30,4 +31,5 @@ pub mod Counts
 pub mod Written
 pub mod Laid
 pub mod Spans
+pub mod Onward
 pub mod One

@@ -9,3 +9,4 @@ pub mod Write
 pub mod Layout
 pub mod Step
 pub mod Laid
+pub mod Located

@@ -1,0 +1,75 @@
+-- A fault of a model message lies where a field starts, nothing before it is to blame, and that field can be mended. Assumes nothing.
+use Prim.Native.Nat.{ℕ, _+_, _*_, _^_, _≤_, _<_}
+use mathlib.Core.List.{List, []}
+use mathlib.Core.Path.{_≡_, refl, sym, ap, _∙_}
+use native.Mathlib.Nat.{one-le-pow}
+use native.Mathlib.Omega.{arith}
+use lib.ListN.{length}
+use lib.Dec.{eqb}
+use Rattle.refusal.specs.declared.Fault.{Fault}
+use Rattle.refusal.specs.Number.{nowhere}
+use Rattle.wire.specs.declared.State.{State}
+use Rattle.wire.specs.Read.{Read, good, bad, misnamed}
+use Rattle.wire.specs.Reader.{readAll, past}
+use Rattle.wire.specs.Step.{start}
+use Rattle.wire.specs.Field.{widthOf}
+use Rattle.wire.specs.Located.{Located, From, SameBefore, Mendable}
+use Rattle.wire.proofs.Fields.{value-is}
+use Rattle.wire.proofs.Reading.{source-good}
+use Rattle.wire.proofs.Readers.{all-length}
+use Rattle.wire.proofs.Counts.{CountAt, count-good}
+use Rattle.wire.proofs.Onward.{Blames, blames-field, blames-free, blames-good, blames-demand, blames-bind, blames-and, blames-all, blames-start, below-judged, source-judged, count-judged, past-wide}
+use Rattle.model.specs.Model.{Model, Transition}
+use Rattle.model.specs.Format.{modelHeader, modelHead, statesCount, propositionsCount, transitionsCount, labelWidth, weightAt, toAt, transitionWidth, labelAt, transitionAt, modelLength}
+use Rattle.model.specs.Message.{readLabel, readTransition, readHeader, readModel, labels, transitions, Counts}
+use Rattle.model.specs.Located.{FieldStart, told, version, kind, state-count, proposition-count, transition-count, label, from, to}
+use Rattle.model.proofs.Good.{header-good}
+
+-- ---- where a fault lies
+
+module _ (s : List ℕ) where
+  -- inside, and where a field starts
+  abbrev Placed : ℕ → Type 0
+  Placed at = (at < length s) × FieldStart s at
+
+  header-blames : Blames Placed (readHeader s)
+  unfolding readHeader
+  header-blames =
+      blames-and Placed _ _ (blames-start Placed s modelHead (λ inside. (inside, version refl)) (λ inside. (inside, kind refl)))
+      (blames-bind Placed _ _ (blames-field Placed (count-judged statesCount) (omega arith) s (λ inside. (inside, state-count refl))) (λ n h₀.
+      blames-bind Placed _ _ (blames-field Placed (count-judged propositionsCount) (omega arith) s (λ inside. (inside, proposition-count refl))) (λ p h₁.
+      blames-bind Placed _ _ (blames-field Placed (count-judged transitionsCount) (omega arith) s (λ inside. (inside, transition-count refl))) (λ t h₂.
+      blames-and Placed _ _ (blames-demand Placed _ _) (blames-good Placed _)))))
+
+  -- a label that stands where a field starts
+  label-blames : (p : ℕ) (st : State) → FieldStart s (st .at) → Blames Placed (readLabel s p st)
+  unfolding readLabel
+  label-blames p st here = blames-field Placed (below-judged 4 (st .at) (2 ^ p) _ refl) (omega arith) s (λ inside. (inside, here))
+
+  -- a transition: its from, or its to
+  transition-blames : (n : ℕ) (st : State) → FieldStart s (st .at) → FieldStart s (st .at + toAt) → Blames Placed (readTransition s n st)
+  unfolding readTransition
+  transition-blames n st from-here to-here =
+      blames-bind Placed _ _ (blames-field Placed (source-judged (st .at) n (st .prev)) (omega arith) s (λ inside. (inside, from-here))) (λ v h₀.
+      blames-bind Placed _ _ (blames-free Placed 4 s (st .at + weightAt)) (λ w h₁.
+      blames-bind Placed _ _ (blames-field Placed (below-judged 2 (st .at + toAt) n (misnamed (st .at + toAt)) refl) (omega arith) s (λ inside. (inside, to-here))) (λ t h₂.
+      blames-good Placed _)))
+
+pub fault-located : (s : List ℕ) {f : Fault} → readModel s ≡ bad f → Located (FieldStart s) s f
+unfolding readModel
+fault-located s {f} e =
+    blames-bind (Placed s) _ _ (header-blames s) (λ k header.
+    let h = header-good s k header in
+    let n : told s statesCount ≡ k .states = value-is _ s _ (h .states-counted .there) in
+    let t : told s transitionsCount ≡ k .transitions = value-is _ s _ (h .transitions-counted .there) in
+    blames-bind (Placed s) _ _ (blames-all (Placed s) (labels s (k .propositions)) (k .states) (start modelHeader) (λ i xs less read.
+    let L = labels s (k .propositions) in
+    let at : past L (start modelHeader) xs .at ≡ labelAt i =
+    past-wide L labelWidth (λ st a. refl) (start modelHeader) xs ∙ ap labelAt (all-length L i _ xs read) in
+    label-blames s (k .propositions) _ (label i (omega arith) at))) (λ ls h₁.
+    blames-bind (Placed s) _ _ (blames-all (Placed s) (transitions s (k .states)) (k .transitions) (start (labelAt (k .states))) (λ j xs less read.
+    let T = transitions s (k .states) in
+    let at : past T (start (labelAt (k .states))) xs .at ≡ transitionAt (told s statesCount) j =
+    past-wide T transitionWidth (λ st a. refl) (start (labelAt (k .states))) xs ∙ rw (all-length T j _ xs read, n) in
+    transition-blames s (k .states) _ (from j (omega arith) at) (to j (omega arith) (ap (λ (x : ℕ). x + toAt) at)))) (λ ts h₂.
+    blames-good (Placed s) _))) f e

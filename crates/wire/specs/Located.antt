@@ -1,0 +1,32 @@
+-- Where a fault lies in its message, and what mends it.
+use Prim.Native.Nat.{ℕ, _+_, _^_, _≤_, _<_}
+use mathlib.Core.List.{List}
+use mathlib.Core.Logic.{_⊎_}
+use mathlib.Core.Path.{_≡_}
+use lib.ListN.{length, take}
+use Rattle.refusal.specs.declared.Fault.{Fault}
+use Rattle.refusal.specs.Number.{nowhere}
+use Rattle.wire.specs.Bytes.{put}
+use Rattle.wire.specs.Read.{Read, bad}
+
+-- no field is at fault, or the offset lies inside the message and a field starts there
+abbrev pub Located : (FieldStart : ℕ → Type 0) → List ℕ → Fault → Type 0
+Located FieldStart s f = (f .offset ≡ nowhere) ⊎ ((f .offset < length s) × FieldStart (f .offset))
+
+-- no field is at fault, or one that starts at this offset or behind it
+abbrev pub From : ℕ → Fault → Type 0
+From offset f = (f .offset ≡ nowhere) ⊎ (offset ≤ f .offset)
+
+-- a message of the same length, with the same bytes before the offset: whatever one writes from there on
+pub record SameBefore (offset : ℕ) (s s′ : List ℕ) : Type 0 where
+  pub as-long : length s′ ≡ length s
+  pub bytes-are : take offset s′ ≡ take offset s
+
+-- one field, of at most 4 bytes, can be mended: with this number in it the message reads past it
+pub record Mendable {A : Type 0} (read : List ℕ → Read A) (s : List ℕ) (offset : ℕ) : Type 0 where
+  pub width : ℕ
+  pub value : ℕ
+  pub narrow : width ≤ 4
+  pub inside : offset + width ≤ length s
+  pub fits : value < 256 ^ width
+  pub reads-past : {f : Fault} → read (put s offset width value) ≡ bad f → From (offset + 1) f
