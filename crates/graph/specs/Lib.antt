@@ -6,3 +6,4 @@ pub mod Write
 pub mod WellFormed
 pub mod Answers
 pub mod Layouts
+pub mod Located

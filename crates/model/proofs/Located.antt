@@ -13,7 +13,7 @@ use Rattle.wire.specs.Read.{Read, good, bad, misnamed}
 use Rattle.wire.specs.Reader.{readAll, past}
 use Rattle.wire.specs.Step.{start}
 use Rattle.wire.specs.Field.{widthOf}
-use Rattle.wire.specs.Located.{Located, From, SameBefore, Mendable}
+use Rattle.wire.specs.Located.{told, Located, From, SameBefore, Mendable}
 use Rattle.wire.proofs.Fields.{value-is}
 use Rattle.wire.proofs.Reading.{source-good}
 use Rattle.wire.proofs.Readers.{all-length}
@@ -22,7 +22,7 @@ use Rattle.wire.proofs.Onward.{Blames, blames-field, blames-free, blames-good, 
 use Rattle.model.specs.Model.{Model, Transition}
 use Rattle.model.specs.Format.{modelHeader, modelHead, statesCount, propositionsCount, transitionsCount, labelWidth, weightAt, toAt, transitionWidth, labelAt, transitionAt, modelLength}
 use Rattle.model.specs.Message.{readLabel, readTransition, readHeader, readModel, labels, transitions, Counts}
-use Rattle.model.specs.Located.{FieldStart, told, version, kind, state-count, proposition-count, transition-count, label, from, to}
+use Rattle.model.specs.Located.{FieldStart, version, kind, state-count, proposition-count, transition-count, label, from, to}
 use Rattle.model.proofs.Good.{transition-good, header-good}
 
 -- ---- where a fault lies
@@ -85,18 +85,18 @@ transition-onward : (n : ℕ) → n ≤ 65536 → (st : State) → st .prev < n 
 unfolding readTransition
 transition-onward n few st below =
     onward-bind (onward-field (omega arith) (omega arith) (omega arith) (source-judged (st .at) n (st .prev)) (source-takes (st .at) n (st .prev) below few)) _ (λ v h₀.
-      onward-bind (onward-field (omega arith) (omega arith) (omega arith) (field-judged 4 (st .at + weightAt)) (field-takes 4 (st .at + weightAt))) _ (λ w h₁.
-        onward-bind (onward-field (omega arith) (omega arith) (omega arith) (below-judged 2 (st .at + toAt) n (misnamed (st .at + toAt)) refl) (below-takes 2 (st .at + toAt) n (misnamed (st .at + toAt)) (omega arith))) _ (λ t h₂.
-          onward-good _ _ (omega arith))))
+    onward-bind (onward-field (omega arith) (omega arith) (omega arith) (field-judged 4 (st .at + weightAt)) (field-takes 4 (st .at + weightAt))) _ (λ w h₁.
+    onward-bind (onward-field (omega arith) (omega arith) (omega arith) (below-judged 2 (st .at + toAt) n (misnamed (st .at + toAt)) refl) (below-takes 2 (st .at + toAt) n (misnamed (st .at + toAt)) (omega arith))) _ (λ t h₂.
+    onward-good _ _ (omega arith))))
 
 header-onward : Onward 0 readHeader (λ k. modelHeader)
 unfolding readHeader
 header-onward =
     onward-and (onward-start modelHead (omega arith) (omega arith))
     (onward-bind (onward-count statesCount (omega arith) (omega arith) (omega arith)) _ (λ n h₀.
-      onward-bind (onward-count propositionsCount (omega arith) (omega arith) (omega arith)) _ (λ p h₁.
-        onward-bind (onward-count transitionsCount (omega arith) (omega arith) (omega arith)) _ (λ t h₂.
-          onward-and (onward-demand _ (λ long. eqb long (modelLength n t)) _) (onward-good _ _ (omega arith))))))
+    onward-bind (onward-count propositionsCount (omega arith) (omega arith) (omega arith)) _ (λ p h₁.
+    onward-bind (onward-count transitionsCount (omega arith) (omega arith) (omega arith)) _ (λ t h₂.
+    onward-and (onward-demand _ (λ long. eqb long (modelLength n t)) _) (onward-good _ _ (omega arith))))))
 
 -- where a model's transitions end
 abbrev ends : Model → ℕ
@@ -106,16 +106,16 @@ model-onward : Onward 0 readModel ends
 unfolding readModel
 model-onward =
     onward-bind header-onward _ (λ k reached.
-      let h = header-good (reached .message) k (reached .given) in
-      let L = labels [] (k .propositions) in
-      let T = transitions [] (k .states) in
-      onward-bind (onward-all (L .position) (λ s. labels s (k .propositions) .read) (L .next) (λ st. Unit) (λ st v. label-onward (k .propositions) st) (λ st a v r. tt) (k .states) (start modelHeader) tt) _ (λ ls read.
-        let long : past L (start modelHeader) ls .at ≡ labelAt (k .states) =
-        past-wide L labelWidth (λ st a. refl) (start modelHeader) ls ∙ ap labelAt (all-length _ _ _ ls (read .given)) in
-        onward-bind (onward-sooner (omega arith) (onward-all (T .position) (λ s. transitions s (k .states) .read) (T .next) (λ st. st .prev < k .states)
-          (λ st below. transition-onward (k .states) (omega (arith, h .states-counted .no-more)) st below)
-          (λ st t below r. transition-good (r .message) (k .states) st t (r .given) .from-named)
-          (k .transitions) (start (labelAt (k .states))) (omega (arith, h .states-counted .no-less)))) _ (λ ts h₂. onward-good _ _ (omega arith))))
+    let h = header-good (reached .message) k (reached .given) in
+    let L = labels [] (k .propositions) in
+    let T = transitions [] (k .states) in
+    onward-bind (onward-all (L .position) (λ s. labels s (k .propositions) .read) (L .next) (λ st. Unit) (λ st v. label-onward (k .propositions) st) (λ st a v r. tt) (k .states) (start modelHeader) tt) _ (λ ls read.
+    let long : past L (start modelHeader) ls .at ≡ labelAt (k .states) =
+    past-wide L labelWidth (λ st a. refl) (start modelHeader) ls ∙ ap labelAt (all-length _ _ _ ls (read .given)) in
+    onward-bind (onward-sooner (omega arith) (onward-all (T .position) (λ s. transitions s (k .states) .read) (T .next) (λ st. st .prev < k .states)
+    (λ st below. transition-onward (k .states) (omega (arith, h .states-counted .no-more)) st below)
+    (λ st t below r. transition-good (r .message) (k .states) st t (r .given) .from-named)
+    (k .transitions) (start (labelAt (k .states))) (omega (arith, h .states-counted .no-less)))) _ (λ ts h₂. onward-good _ _ (omega arith))))
 
 -- ---- the laws
 

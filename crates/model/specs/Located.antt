@@ -2,15 +2,9 @@
 use Prim.Native.Nat.{ℕ, _+_, _<_}
 use mathlib.Core.List.{List}
 use mathlib.Core.Path.{_≡_}
-use Rattle.wire.specs.Bytes.{number}
-use Rattle.wire.specs.Field.{widthOf}
 use Rattle.wire.specs.Start.{versionAt, kindAt}
-use Rattle.wire.specs.declared.Count.{Count}
+use Rattle.wire.specs.Located.{told}
 use Rattle.model.specs.Format.{statesCount, propositionsCount, transitionsCount, labelAt, transitionAt, toAt}
-
--- the number where a count stands
-abbrev pub told : List ℕ → Count → ℕ
-told s count = number (widthOf (count .width)) s (count .at)
 
 -- a field of the message s starts here: of its header, the label of a state, or a state that a transition names
 pub data FieldStart (s : List ℕ) (at : ℕ) : Type 0 where

@@ -50,11 +50,15 @@ unfolding _>>=_ _>>_
 and-bind (good a) r = refl
 and-bind (bad e) r = refl
 
--- a reading in parts
-pub bind-parts : {A B C : Type 0} (x : Read A) (f : A → Read B) (g : B → Read C) → (x >>= f) >>= g ≡ x >>= λ a. f a >>= g
-unfolding _>>=_
-bind-parts (good a) f g = refl
-bind-parts (bad e) f g = refl
+-- a field that is judged, and what follows
+pub judged-parts : {B : Type 0} (x : Read ℕ) (test : ℕ → Bool) (e : Fault) (g : ℕ → Read B) → (x >>= λ n. unless (test n) e >> good n) >>= g ≡ x >>= λ n. unless (test n) e >> g n
+unfolding _>>=_ _>>_ unless
+judged-parts (good n) test e g = go (test n)
+  where
+    go : (t : Bool) → (unless t e >> good n) >>= g ≡ unless t e >> g n
+    go true = refl
+    go false = refl
+judged-parts (bad r) test e g = refl
 
 pub unless-bad : (t : Bool) (e : Fault) {f : Fault} → unless t e ≡ bad f → e ≡ f
 unfolding unless
@@ -174,6 +178,13 @@ pub record Takes (at k : ℕ) (read : List ℕ → Read ℕ) : Type 0 where
 pub field-takes : (k at : ℕ) → Takes at k (λ s. field k s at)
 field-takes k at = record { value = 0; fits = one-le-pow k 256 (omega arith); taken = λ s e. e }
 
+pub judged-takes : (k at : ℕ) (test : ℕ → Bool) (e : Fault) → test 0 ≡ true → Takes at k (λ s. field k s at >>= λ n. unless (test n) e >> good n)
+judged-takes k at test e passes = record {
+  value = 0;
+  fits = one-le-pow k 256 (omega arith);
+  taken = λ s h. good-bind _ h (good-demand e passes refl);
+}
+
 pub below-takes : (k at limit : ℕ) (fault : Fault) → 0 < limit → Takes at k (λ s. below k s at limit fault)
 below-takes k at limit fault some = record {
   value = 0;
@@ -220,6 +231,10 @@ module _ (P : ℕ → Type 0) where
 
   pub blames-good : {A : Type 0} (a : A) → Blames P (good a)
   blames-good a f e = absurd (never (sym e))
+
+  -- a demand on a field, and one on no field
+  pub blames-unless : (t : Bool) (e : Fault) → P (e .offset) → Blames P (unless t e)
+  blames-unless t e here f h = inr (subst P (ap (λ (g : Fault). g .offset) (unless-bad t e h)) here)
 
   pub blames-demand : (t : Bool) (e : Refusal) → Blames P (demand t e nowhere)
   blames-demand t e f h = inl (ap (λ (g : Fault). g .offset) (sym (unless-bad t _ h)))

@@ -6,8 +6,14 @@ use mathlib.Core.Path.{_≡_}
 use lib.ListN.{length, take}
 use Rattle.refusal.specs.declared.Fault.{Fault}
 use Rattle.refusal.specs.Number.{nowhere}
-use Rattle.wire.specs.Bytes.{put}
+use Rattle.wire.specs.Bytes.{number, put}
+use Rattle.wire.specs.Field.{widthOf}
 use Rattle.wire.specs.Read.{Read, bad}
+use Rattle.wire.specs.declared.Count.{Count}
+
+-- the number where a count of the header stands
+abbrev pub told : List ℕ → Count → ℕ
+told s count = number (widthOf (count .width)) s (count .at)
 
 -- no field is at fault, or the offset lies inside the message and a field starts there
 abbrev pub Located : (FieldStart : ℕ → Type 0) → List ℕ → Fault → Type 0
