@@ -1,13 +1,14 @@
 -- A fault of a graph message lies where a field starts, nothing before it is to blame, and that field can be mended. Assumes nothing.
 use Prim.Native.Nat.{ℕ, _+_, _*_, _^_, _≤_, _<_}
 use mathlib.Core.List.{List, []}
+use mathlib.Core.Bool.{Bool}
 use mathlib.Core.Path.{_≡_, refl, sym, ap, _∙_}
 use native.Mathlib.Omega.{arith}
 use lib.ListN.{length}
 use lib.Dec.{leb, eqb}
 use borrow.Author.Tests.{le-leb}
 use Rattle.refusal.specs.declared.Fault.{Fault}
-use Rattle.refusal.specs.declared.Refusal.the-variants.{Length}
+use Rattle.refusal.specs.declared.Refusal.the-variants.{Length, Limit}
 use Rattle.refusal.specs.Number.{nowhere}
 use Rattle.wire.specs.declared.State.{State}
 use Rattle.wire.specs.Bytes.{number}
@@ -107,3 +108,104 @@ fault-located s {f} e =
     let at : past C behind xs .at ≡ coverAt s j = past-wide C coverWidth (λ st a. refl) behind xs ∙ rw (all-length C j _ xs here, middle) in
     cover-blames s (k .n) _ (cover-source j (omega arith) at) (cover-target j (omega arith) (ap (λ (x : ℕ). x + coverTargetAt) at)))) (λ cs h₂.
     blames-and (Placed s) _ _ (blames-demand (Placed s) _ _) (blames-good (Placed s) _)))) f e
+
+-- ---- the reading goes onward
+
+-- what the states of the hyperedges keep: a source before that is a node, and a total within its limit
+record Kept (n : ℕ) (st : State) : Type 0 where
+  named : st .prev < n
+  few : st .seen ≤ mostTargets
+
+module _ (n : ℕ) (some : 0 < n) (small : n ≤ 65536) where
+  target-onward : (st : State) → Onward (st .at) (λ s. readTarget s n st) (λ t. st .at + targetWidth)
+  unfolding readTarget
+  target-onward st =
+      onward-bind (onward-field (omega arith) (omega arith) (omega arith) (field-judged 4 (st .at)) (field-takes 4 (st .at))) _ (λ w h₀.
+      onward-bind (onward-field (omega arith) (omega arith) (omega arith) (below-judged 2 (st .at + nodeAt) n (misnamed (st .at + nodeAt)) refl) (below-takes 2 (st .at + nodeAt) n (misnamed (st .at + nodeAt)) some)) _ (λ v h₁.
+      onward-good _ _ (omega arith)))
+
+  -- the target count, judged by the total
+  count-onward : (st : State) → st .seen ≤ mostTargets → Onward (st .at + 2) (λ s. field 2 s (st .at + targetCountAt) >>= λ count. demand (leb (st .seen + count) mostTargets) Limit (st .at + targetCountAt) >> good count) (λ count. st .at + targetCountAt + 2)
+  count-onward st few =
+      let at : ℕ = st .at + targetCountAt in
+      let within : ℕ → Bool = λ count. leb (st .seen + count) mostTargets in
+      onward-field (omega arith) (omega arith) (omega arith) (also-judged (field-judged 2 at) (judge-also within _ refl (judge-none at))) (judged-takes 2 at within _ (le-leb (st .seen + 0) mostTargets (omega arith)))
+
+  targets-onward : (k : ℕ) (st : State) → Onward (st .at) (λ s. readAll (targets s n) k st) (λ ts. past (targets [] n) st ts .at)
+  targets-onward k st =
+      onward-all (targets [] n .position) (λ s. targets s n .read) (targets [] n .next) (λ u. Unit) (λ u v. target-onward u) (λ u t v r. tt) k st tt
+
+  hyper-onward : (st : State) → Kept n st → Onward (st .at) (λ s. readHyper s n st) (λ h. st .at + hyperWidth + length (h .targets) * targetWidth)
+  unfolding readHyper readTargets
+  hyper-onward st kept =
+      onward-and (onward-demand (st .at) (λ long. leb (st .at + hyperWidth) long) Length)
+      (onward-bind (onward-field (omega arith) (omega arith) (omega arith) (source-judged (st .at) n (st .prev)) (source-takes (st .at) n (st .prev) (kept .named) small)) _ (λ v h₀.
+      onward-is (λ s. judged-parts (field 2 s (st .at + targetCountAt)) (λ count. leb (st .seen + count) mostTargets) _ _)
+      (onward-bind (count-onward st (kept .few)) _ (λ count h₁.
+      onward-and (onward-demand (st .at + targetCountAt + 2) (λ long. leb (st .at + hyperWidth + count * targetWidth) long) Length)
+      (onward-bind (onward-sooner (omega arith) (targets-onward count (firstTarget st))) _ (λ ts h₂.
+      onward-good _ _ (omega (arith, past-wide (targets [] n) targetWidth (λ u t. refl) (firstTarget st) ts))))))))
+
+  cover-onward : (st : State) → st .prev < n → Onward (st .at) (λ s. readCover s n st) (λ c. st .at + coverWidth)
+  unfolding readCover
+  cover-onward st named =
+      onward-and (onward-demand (st .at) (λ long. leb (st .at + coverWidth) long) Length)
+      (onward-bind (onward-field (omega arith) (omega arith) (omega arith) (source-judged (st .at) n (st .prev)) (source-takes (st .at) n (st .prev) named small)) _ (λ v h₀.
+      onward-bind (onward-field (omega arith) (omega arith) (omega arith) (field-judged 4 (st .at + coverBoundAt)) (field-takes 4 (st .at + coverBoundAt))) _ (λ b h₁.
+      onward-bind (onward-field (omega arith) (omega arith) (omega arith) (below-judged 2 (st .at + coverTargetAt) n (misnamed (st .at + coverTargetAt)) refl) (below-takes 2 (st .at + coverTargetAt) n (misnamed (st .at + coverTargetAt)) some)) _ (λ t h₂.
+      onward-good _ _ (omega arith)))))
+
+  hypers-onward : (k : ℕ) → Onward graphHeader (λ s. readAll (hypers s n) k (start graphHeader)) (λ hs. past (hypers [] n) (start graphHeader) hs .at)
+  hypers-onward k =
+      onward-all (hypers [] n .position) (λ s. hypers s n .read) (hypers [] n .next) (Kept n) hyper-onward
+      (λ st h kept r. let g = hyper-good (r .message) n st h (r .given) in record { named = g .named; few = g .few })
+      k (start graphHeader) (record { named = some; few = omega arith })
+
+  covers-onward : (k middle : ℕ) → Onward middle (λ s. readAll (covers s n) k (start middle)) (λ cs. past (covers [] n) (start middle) cs .at)
+  covers-onward k middle =
+      onward-all (covers [] n .position) (λ s. covers s n .read) (covers [] n .next) (λ st. st .prev < n) cover-onward
+      (λ st c kept r. cover-good (r .message) n st c (r .given) .named) k (start middle) some
+
+header-onward : Onward 0 readHeader (λ k. graphHeader)
+unfolding readHeader
+header-onward =
+    onward-and (onward-start graphHead (omega arith) (omega arith))
+    (onward-bind (onward-count nodesCount (omega arith) (omega arith) (omega arith)) _ (λ n h₀.
+    onward-bind (onward-count hypersCount (omega arith) (omega arith) (omega arith)) _ (λ h h₁.
+    onward-bind (onward-count coversCount (omega arith) (omega arith) (omega arith)) _ (λ c h₂.
+    onward-good _ _ (omega arith)))))
+
+-- where a graph's cover edges start, and where they end
+abbrev middle : ℕ → List Hyper → ℕ
+middle n hs = past (hypers [] n) (start graphHeader) hs .at
+
+abbrev ends : ℕ → List Hyper → List Cover → ℕ
+ends n hs cs = past (covers [] n) (start (middle n hs)) cs .at
+
+graph-onward : Onward 0 readGraph (λ g. ends (g .nodes) (g .hypers) (g .covers))
+unfolding readGraph
+graph-onward =
+    onward-bind header-onward _ (λ k reached.
+    let told-there = header-good (reached .message) k (reached .given) in
+    let n = k .n in
+    let some : 0 < n = omega (arith, told-there .n-counted .no-less) in
+    let small : n ≤ 65536 = omega (arith, told-there .n-counted .no-more) in
+    onward-bind (hypers-onward n some small (k .h)) _ (λ hs h₁.
+    onward-is {read = λ s. readAll (covers s n) (k .c) (start (middle n hs)) >>= λ cs. demand (eqb (ends n hs cs) (length s)) Length nowhere >> good (record { nodes = n; hypers = hs; covers = cs })}
+    (λ s i.
+    let M : past (hypers [] n) (start graphHeader) hs ≡ past (hypers s n) (start graphHeader) hs = past-same (hypers [] n) (hypers s n) refl (start graphHeader) hs in
+    let C : (cs : List Cover) → ends n hs cs ≡ past (covers s n) (start (past (hypers s n) (start graphHeader) hs .at)) cs .at =
+    λ cs. ap (λ (st : State). st .at) (past-same (covers [] n) (covers s n) refl (start (middle n hs)) cs) ∙ ap (λ (st : State). past (covers s n) (start (st .at)) cs .at) M in
+    readAll (covers s n) (k .c) (start (M i .at)) >>= λ cs. demand (eqb (C cs i) (length s)) Length nowhere >> good (record { nodes = n; hypers = hs; covers = cs }))
+    (onward-bind (covers-onward n some small (k .c) (middle n hs)) _ (λ cs h₂.
+    onward-and (onward-demand (ends n hs cs) (λ long. eqb (ends n hs cs) long) Length) (onward-good _ _ (omega arith))))))
+
+-- ---- the laws
+
+-- whatever one writes from the offset on, no field before it is found at fault
+pub nothing-before : (s s′ : List ℕ) {f f′ : Fault} → readGraph s ≡ bad f → SameBefore (f .offset) s s′ → readGraph s′ ≡ bad f′ → From (f .offset) f′
+nothing-before s s′ e alike e′ = none-before graph-onward s e s′ alike e′
+
+-- a number put into the field at fault makes the message read past it
+pub mended : (s : List ℕ) {f : Fault} → readGraph s ≡ bad f → nowhere < f .offset → Mendable readGraph s (f .offset)
+mended s e placed = mendable graph-onward s e placed
