@@ -2,76 +2,33 @@
 -- there can be mended. Proved of a field, and kept by whatever reads one thing after another. Assumes nothing.
 use Prim.Native.Nat.{ℕ, zero, suc, _+_, _*_, _^_, _≤_, _<_}
 use mathlib.Core.List.{List, [], _∷_, _++_, append-assoc}
-use mathlib.Core.Bool.{Bool, true, false, cond}
+use mathlib.Core.Bool.{Bool, true}
 use mathlib.Core.Logic.{_⊎_, inl, inr, ⊎-elim}
 use mathlib.Core.Path.{_≡_, refl, sym, ap, ap₂, subst, _∙_}
-use native.Mathlib.Nat.{one-le-pow, eq-or-lt-of-le}
+use native.Mathlib.Nat.{eq-or-lt-of-le}
 use native.Mathlib.Omega.{arith}
-use lib.ListN.{length, getD, take, drop, length-append, length-drop}
+use lib.ListN.{length, take, drop, length-append, length-drop}
 use lib.Seq.{getD-take, take-take, take-at, length-take-le}
-use lib.Dec.{leb, ltb, eqb}
-use borrow.Author.Tests.{eq-eqb}
+use lib.Dec.{leb, eqb}
 use Rattle.refusal.specs.declared.Fault.{Fault}
 use Rattle.refusal.specs.declared.Refusal.{Refusal}
 use Rattle.refusal.specs.Number.{nowhere}
 use Rattle.wire.specs.Bytes.{number, bytes, put}
-use Rattle.wire.specs.Field.{fieldAt, short, widthOf}
-use Rattle.wire.specs.Read.{Read, good, bad, _>>=_, _>>_, unless, demand, ofField, field, below, misnamed, sourceFrom}
+use Rattle.wire.specs.Field.{widthOf}
+use Rattle.wire.specs.Read.{Read, good, bad, _>>=_, _>>_, unless, demand, field, below, misnamed, sourceFrom}
 use Rattle.wire.specs.Reader.{Reader, readAll, past}
-use Rattle.wire.specs.Start.{readStart, only, versionAt, kindAt, startWidth}
+use Rattle.wire.specs.Start.{readStart, versionAt, kindAt, startWidth}
 use Rattle.wire.specs.Counts.{readCount}
-use Rattle.wire.specs.Located.{Located, From, SameBefore, Mendable}
-use Rattle.wire.specs.declared.Field.{Field}
-use Rattle.wire.specs.declared.Field.the-variants.{Number, Refused}
+use Rattle.wire.specs.Located.{From, SameBefore, Mendable}
+use Rattle.wire.specs.declared.Width.{Width}
+use Rattle.wire.specs.declared.Width.the-variants.{Two, Four}
 use Rattle.wire.specs.declared.Head.{Head}
 use Rattle.wire.specs.declared.Count.{Count}
 use Rattle.wire.proofs.Bytes.{length-bytes, number-bytes}
-use Rattle.wire.proofs.Fields.{field-value, value-inside, value-is, refused-short, width-le, width-some}
-use Rattle.wire.proofs.Reading.{reading, good-then, there, never, good-same, bad-same, bind-good, demand-good, field-good, good-below, good-source}
-use Rattle.wire.proofs.Counts.{good-count}
-use Rattle.wire.proofs.Exact.{good-bind, good-demand}
-
--- ---- what a bad reading says
-
--- a reading that went on, and found its fault later
-pub record Stopped {A B : Type 0} (x : Read A) (f : A → Read B) (e : Fault) : Type 0 where
-  pub value : A
-  pub first : x ≡ good value
-  pub rest : f value ≡ bad e
-
-pub bind-bad : {A B : Type 0} (x : Read A) (f : A → Read B) {e : Fault} → x >>= f ≡ bad e → (x ≡ bad e) ⊎ Stopped x f e
-unfolding _>>=_
-bind-bad (good a) f e = inr (record { value = a; first = refl; rest = e })
-bind-bad (bad r) f e = inl (ap bad (bad-same e))
-
--- what doesn't need the first reading's value
-pub and-bind : {A B : Type 0} (x : Read A) (r : Read B) → x >>= (λ a. r) ≡ x >> r
-unfolding _>>=_ _>>_
-and-bind (good a) r = refl
-and-bind (bad e) r = refl
-
--- a field that is judged, and what follows
-pub judged-parts : {B : Type 0} (x : Read ℕ) (test : ℕ → Bool) (e : Fault) (g : ℕ → Read B) → (x >>= λ n. unless (test n) e >> good n) >>= g ≡ x >>= λ n. unless (test n) e >> g n
-unfolding _>>=_ _>>_ unless
-judged-parts (good n) test e g = go (test n)
-  where
-    go : (t : Bool) → (unless t e >> good n) >>= g ≡ unless t e >> g n
-    go true = refl
-    go false = refl
-judged-parts (bad r) test e g = refl
-
-pub unless-bad : (t : Bool) (e : Fault) {f : Fault} → unless t e ≡ bad f → e ≡ f
-unfolding unless
-unless-bad true e h = absurd (never (sym h))
-unless-bad false e h = bad-same h
-
-pub field-bad : (k : ℕ) (s : List ℕ) (at : ℕ) {f : Fault} → field k s at ≡ bad f → f ≡ short
-unfolding ofField
-field-bad k s at {f} e = refused-short k s at (go (fieldAt k s at) e)
-  where
-    go : (x : Field) → ofField x ≡ bad f → x ≡ Refused f
-    go (Number n) h = absurd (never (sym h))
-    go (Refused g) h = cc
+use Rattle.wire.proofs.Fields.{field-value, width-some}
+use Rattle.wire.proofs.Reading.{good-then, there, never, good-same, bind-good}
+use Rattle.wire.proofs.Exact.{good-bind}
+use Rattle.wire.proofs.Judged.{bind-bad, and-bind, judged-parts, unless-bad, Judged, field-judged, test-judged, below-judged, source-judged, only-judged, count-judged, Takes, field-takes, test-takes, below-takes, source-takes, only-takes, count-takes}
 
 -- ---- messages with the same bytes before an offset
 
@@ -107,164 +64,6 @@ module _ (s : List ℕ) (o k v : ℕ) (inside : o + k ≤ length s) where
   unfolding put
   put-number fits = rw front at (number-bytes k v (take o s) (drop (o + k) s) fits)
 
--- ---- a field
-
--- a judgement of a number: it keeps the number, or it blames the field that starts at `at`
-pub record Judge (at : ℕ) (judge : ℕ → Read ℕ) : Type 0 where
-  pub keeps : (n : ℕ) {m : ℕ} → judge n ≡ good m → n ≡ m
-  pub blames : (n : ℕ) {f : Fault} → judge n ≡ bad f → f .offset ≡ at
-
-pub judge-none : (at : ℕ) → Judge at (λ n. good n)
-judge-none at = record {
-  keeps = λ n e. good-same e;
-  blames = λ n e. absurd (never (sym e));
-}
-
-pub judge-also : {at : ℕ} (test : ℕ → Bool) (e : Fault) {judge : ℕ → Read ℕ} → e .offset ≡ at → Judge at judge → Judge at (λ n. unless (test n) e >> judge n)
-judge-also test e {judge} is K = record {
-  keeps = λ n h. K .keeps n (demand-good _ _ _ h .1);
-  blames = λ n h.
-      ⊎-elim (λ p. ap (λ (f : Fault). f .offset) (sym (unless-bad (test n) e p)) ∙ is) (λ p. K .blames n (p .rest))
-      (bind-bad (unless (test n) e) (λ a. judge n) (and-bind (unless (test n) e) (judge n) ∙ h));
-}
-
--- a field of k bytes at a position, as it is read and judged
-pub record Judged (at k : ℕ) (read : List ℕ → Read ℕ) : Type 0 where
-  pub reads : (s : List ℕ) {n : ℕ} → read s ≡ good n → fieldAt k s at ≡ Number n
-  pub blames : (s : List ℕ) {f : Fault} → read s ≡ bad f → (f .offset ≡ nowhere) ⊎ ((f .offset ≡ at) × (at + k ≤ length s))
-  pub depends : (s s′ : List ℕ) → length s′ ≡ length s → number k s′ at ≡ number k s at → read s′ ≡ read s
-
-pub field-judged : (k at : ℕ) → Judged at k (λ s. field k s at)
-unfolding fieldAt
-field-judged k at = record {
-  reads = λ s e. field-good k s at e;
-  blames = λ s e. inl (ap (λ (f : Fault). f .offset) (field-bad k s at e));
-  depends = λ s s′ long same. rw (long, same);
-}
-
-pub also-judged : {at k : ℕ} {read : List ℕ → Read ℕ} {judge : ℕ → Read ℕ} → Judged at k read → Judge at judge → Judged at k (λ s. read s >>= judge)
-also-judged {at} {k} {read} {judge} R K = record {
-  reads = λ s e. let g = bind-good (read s) judge e in R .reads s (g .first) ∙ ap Number (K .keeps (g .value) (g .rest));
-  blames = λ s e.
-      ⊎-elim (λ p. R .blames s p) (λ p. inr (K .blames (p .value) (p .rest), value-inside k s at (R .reads s (p .first))))
-      (bind-bad (read s) judge e);
-  depends = λ s s′ long same. ap (λ (x : Read ℕ). x >>= judge) (R .depends s s′ long same);
-}
-
-pub below-judged : (k at limit : ℕ) (fault : Fault) → fault .offset ≡ at → Judged at k (λ s. below k s at limit fault)
-unfolding below
-below-judged k at limit fault is = also-judged (field-judged k at) (judge-also (λ n. ltb n limit) fault is (judge-none at))
-
-pub source-judged : (at n prev : ℕ) → Judged at 2 (λ s. sourceFrom s at n prev at)
-unfolding sourceFrom
-source-judged at n prev = also-judged (below-judged 2 at n (misnamed at) refl) (judge-also (λ v. leb prev v) _ refl (judge-none at))
-
-pub only-judged : (at allowed : ℕ) → Judged at 1 (λ s. only s at allowed)
-unfolding only
-only-judged at allowed = also-judged (field-judged 1 at) (judge-also (λ v. eqb v allowed) _ refl (judge-none at))
-
-pub count-judged : (count : Count) → Judged (count .at) (widthOf (count .width)) (λ s. readCount s count)
-unfolding readCount
-count-judged count =
-    also-judged (field-judged (widthOf (count .width)) (count .at))
-    (judge-also (λ n. leb (count .least) n) _ refl (judge-also (λ n. leb n (count .most)) _ refl (judge-none (count .at))))
-
--- a number that the field takes, whatever stands in the rest of the message
-pub record Takes (at k : ℕ) (read : List ℕ → Read ℕ) : Type 0 where
-  pub value : ℕ
-  pub fits : value < 256 ^ k
-  pub taken : (s : List ℕ) → field k s at ≡ good value → read s ≡ good value
-
-pub field-takes : (k at : ℕ) → Takes at k (λ s. field k s at)
-field-takes k at = record { value = 0; fits = one-le-pow k 256 (omega arith); taken = λ s e. e }
-
-pub judged-takes : (k at : ℕ) (test : ℕ → Bool) (e : Fault) → test 0 ≡ true → Takes at k (λ s. field k s at >>= λ n. unless (test n) e >> good n)
-judged-takes k at test e passes = record {
-  value = 0;
-  fits = one-le-pow k 256 (omega arith);
-  taken = λ s h. good-bind _ h (good-demand e passes refl);
-}
-
-pub below-takes : (k at limit : ℕ) (fault : Fault) → 0 < limit → Takes at k (λ s. below k s at limit fault)
-below-takes k at limit fault some = record {
-  value = 0;
-  fits = one-le-pow k 256 (omega arith);
-  taken = λ s e. good-below k s at limit fault e some;
-}
-
-pub source-takes : (at n prev : ℕ) → prev < n → n ≤ 65536 → Takes at 2 (λ s. sourceFrom s at n prev at)
-source-takes at n prev less few = record {
-  value = prev;
-  fits = omega arith;
-  taken = λ s e. good-source s at n prev at e less (omega arith);
-}
-
-pub only-takes : (at allowed : ℕ) → allowed < 256 → Takes at 1 (λ s. only s at allowed)
-unfolding only
-only-takes at allowed less = record {
-  value = allowed;
-  fits = less;
-  taken = λ s e. good-bind _ e (good-demand _ (eq-eqb allowed allowed refl) refl);
-}
-
-pub count-takes : (count : Count) → count .least ≤ count .most → count .least < 256 ^ widthOf (count .width) → Takes (count .at) (widthOf (count .width)) (λ s. readCount s count)
-count-takes count le fits = record {
-  value = count .least;
-  fits = fits;
-  taken = λ s e. good-count s count e (omega arith) le;
-}
-
--- ---- where a fault lies
-
--- every fault of a reading lies nowhere, or where P says
-abbrev pub Blames : {A : Type 0} (P : ℕ → Type 0) → Read A → Type 0
-Blames P x = (f : Fault) → x ≡ bad f → (f .offset ≡ nowhere) ⊎ P (f .offset)
-
-module _ (P : ℕ → Type 0) where
-  pub blames-field : {at k : ℕ} {read : List ℕ → Read ℕ} → Judged at k read → 0 < k → (s : List ℕ) → (at < length s → P at) → Blames P (read s)
-  blames-field {at} {k} {read} F some s here f e =
-      ⊎-elim inl (λ p. inr (subst P (sym (p .0)) (here (omega (arith, p .1))))) (F .blames s e)
-
-  -- a field whose number is free
-  pub blames-free : (k : ℕ) (s : List ℕ) (at : ℕ) → Blames P (field k s at)
-  blames-free k s at f e = inl (ap (λ (g : Fault). g .offset) (field-bad k s at e))
-
-  pub blames-good : {A : Type 0} (a : A) → Blames P (good a)
-  blames-good a f e = absurd (never (sym e))
-
-  -- a demand on a field, and one on no field
-  pub blames-unless : (t : Bool) (e : Fault) → P (e .offset) → Blames P (unless t e)
-  blames-unless t e here f h = inr (subst P (ap (λ (g : Fault). g .offset) (unless-bad t e h)) here)
-
-  pub blames-demand : (t : Bool) (e : Refusal) → Blames P (demand t e nowhere)
-  blames-demand t e f h = inl (ap (λ (g : Fault). g .offset) (sym (unless-bad t _ h)))
-
-  pub blames-bind : {A B : Type 0} (x : Read A) (g : A → Read B) → Blames P x → ((a : A) → x ≡ good a → Blames P (g a)) → Blames P (x >>= g)
-  blames-bind x g here later f e = ⊎-elim (λ p. here f p) (λ p. later (p .value) (p .first) f (p .rest)) (bind-bad x g e)
-
-  pub blames-and : {A B : Type 0} (x : Read A) (r : Read B) → Blames P x → Blames P r → Blames P (x >> r)
-  blames-and x r here later f e = blames-bind x (λ a. r) here (λ a h. later) f (and-bind x r ∙ e)
-
-  -- of records: the first so many are good, and the next is at fault
-  pub blames-all : {S A : Type 0} (R : Reader S A) (k : ℕ) (st : S) → ((i : ℕ) (xs : List A) → i < k → readAll R i st ≡ good xs → Blames P (R .read (past R st xs))) → Blames P (readAll R k st)
-  unfolding readAll past
-  blames-all R zero st each = blames-good []
-  blames-all R (suc k) st each =
-      blames-bind (R .read st) _ (each 0 [] (omega arith) refl)
-      (λ a h. blames-bind (readAll R k (R .next st a)) _
-      (blames-all R k (R .next st a) (λ i xs less e. each (suc i) (a ∷ xs) (omega arith) (good-bind _ h (good-bind _ e refl))))
-      (λ xs e. blames-good (a ∷ xs)))
-
-  -- of the start: the version or the kind
-  pub blames-start : (s : List ℕ) (head : Head) → (versionAt < length s → P versionAt) → (kindAt < length s → P kindAt) → Blames P (readStart s head)
-  unfolding readStart
-  blames-start s head version kind =
-      blames-and _ _ (blames-demand _ _)
-      (blames-bind _ _ (blames-free 4 s 0)
-      (λ total e. blames-and _ _ (blames-demand _ _)
-      (blames-bind _ _ (blames-field (only-judged versionAt (head .version)) (omega arith) s version)
-      (λ v e₁. blames-bind _ _ (blames-field (only-judged kindAt (head .kind)) (omega arith) s kind) (λ k e₂. blames-good tt)))))
-
 -- ---- readings that go onward
 
 from-sooner : {p q o : ℕ} → p ≤ q → (o ≡ nowhere) ⊎ (q ≤ o) → (o ≡ nowhere) ⊎ (p ≤ o)
@@ -272,14 +71,13 @@ from-sooner le h = ⊎-elim inl (λ x. inr (omega arith)) h
 
 -- the field at o is the one at fault: whatever one writes from o on, a fault is there or behind it; behind it, where that field is mended
 pub record AtFault {A : Type 0} (read : List ℕ → Read A) (end : A → ℕ) (s : List ℕ) (o : ℕ) : Type 0 where
-  pub width : ℕ
+  pub width : Width
   pub value : ℕ
-  pub narrow : width ≤ 4
-  pub inside : o + width ≤ length s
-  pub fits : value < 256 ^ width
+  pub inside : o + widthOf width ≤ length s
+  pub fits : value < 256 ^ widthOf width
   pub before : (s′ : List ℕ) {f : Fault} → SameBefore o s s′ → read s′ ≡ bad f → From o f
   pub behind : (s′ : List ℕ) {a : A} → SameBefore o s s′ → read s′ ≡ good a → o < end a
-  pub mended : (s′ : List ℕ) {f : Fault} → SameBefore o s s′ → number width s′ o ≡ value → read s′ ≡ bad f → From (o + 1) f
+  pub mended : (s′ : List ℕ) {f : Fault} → SameBefore o s s′ → number (widthOf width) s′ o ≡ value → read s′ ≡ bad f → From (o + 1) f
 
 -- a reading whose fields stand at p or behind it; what it gives says where it ends, and depends on the bytes before that only
 pub record Onward {A : Type 0} (p : ℕ) (read : List ℕ → Read A) (end : A → ℕ) : Type 0 where
@@ -316,8 +114,10 @@ onward-demand p test e = record {
 }
 
 -- a field
-pub onward-field : {p at k : ℕ} {read : List ℕ → Read ℕ} → p ≤ at → 0 < k → k ≤ 4 → Judged at k read → Takes at k read → Onward p read (λ n. at + k)
-onward-field {p} {at} {k} {read} le some narrow F T =
+onward-field : {p at : ℕ} {w : Width} {read : List ℕ → Read ℕ} → p ≤ at → Judged at w read → Takes at w read → Onward p read (λ n. at + widthOf w)
+onward-field {p} {at} {w} {read} le F T =
+    let k : ℕ = widthOf w in
+    let some : 0 < widthOf w = width-some w in
     let here : (s : List ℕ) (f : Fault) → read s ≡ bad f → From at f = λ s f e. ⊎-elim inl (λ q. inr (omega (arith, q .0))) (F .blames s e) in
     record {
       rises = λ s e. omega arith;
@@ -326,9 +126,8 @@ onward-field {p} {at} {k} {read} le some narrow F T =
       faulty = λ s {f} e placed.
           let blamed : (f .offset ≡ at) × (at + k ≤ length s) = ⊎-elim (λ z. absurd (omega arith)) (λ q. q) (F .blames s e) in
           subst (AtFault read (λ n. at + k) s) (sym (blamed .0)) (record {
-            width = k;
+            width = w;
             value = T .value;
-            narrow = narrow;
             inside = blamed .1;
             fits = T .fits;
             before = λ s′ alike e′. here s′ _ e′;
@@ -339,6 +138,22 @@ onward-field {p} {at} {k} {read} le some narrow F T =
                 absurd (never (sym e′ ∙ T .taken s′ value));
           });
     }
+
+-- one whose number is free, one below a limit, the name of one of n, a source, a count
+pub onward-free : {p : ℕ} (w : Width) (at : ℕ) → p ≤ at → Onward p (λ s. field (widthOf w) s at) (λ n. at + widthOf w)
+onward-free w at le = onward-field le (field-judged w at) (field-takes w at)
+
+pub onward-below : {p : ℕ} (w : Width) (at limit : ℕ) (fault : Fault) → p ≤ at → fault .offset ≡ at → 0 < limit → Onward p (λ s. below (widthOf w) s at limit fault) (λ n. at + widthOf w)
+onward-below w at limit fault le is some = onward-field le (below-judged w at limit fault is) (below-takes w at limit fault some)
+
+pub onward-named : {p : ℕ} (at n : ℕ) → p ≤ at → 0 < n → Onward p (λ s. below 2 s at n (misnamed at)) (λ v. at + 2)
+onward-named at n le some = onward-below Two at n (misnamed at) le refl some
+
+pub onward-source : {p : ℕ} (at n prev : ℕ) → p ≤ at → prev < n → n ≤ 65536 → Onward p (λ s. sourceFrom s at n prev at) (λ v. at + 2)
+onward-source at n prev le less few = onward-field le (source-judged at n prev) (source-takes at n prev less few)
+
+pub onward-count : {p : ℕ} (count : Count) → p ≤ count .at → count .least ≤ count .most → count .least < 256 ^ widthOf (count .width) → Onward p (λ s. readCount s count) (λ n. count .at + widthOf (count .width))
+onward-count count le most fits = onward-field le (count-judged count) (count-takes count most fits)
 
 -- some message gives this
 pub record Reached {A : Type 0} (read : List ℕ → Read A) (a : A) : Type 0 where
@@ -361,7 +176,6 @@ module _ {A B : Type 0} {p : ℕ} {read : List ℕ → Read A} {end : A → ℕ}
   first-faulty s {o} c = record {
     width = c .width;
     value = c .value;
-    narrow = c .narrow;
     inside = c .inside;
     fits = c .fits;
     before = λ s′ {f} alike e.
@@ -383,7 +197,6 @@ module _ {A B : Type 0} {p : ℕ} {read : List ℕ → Read A} {end : A → ℕ}
       record {
         width = c .width;
         value = c .value;
-        narrow = c .narrow;
         inside = c .inside;
         fits = c .fits;
         before = λ s′ alike h. c .before s′ alike (sym (goes-on s′ alike) ∙ h);
@@ -422,6 +235,14 @@ onward-is {p = p} {end = end} is R = subst (λ r. Onward p r end) (λ i s. is s 
 pub onward-and : {B : Type 0} {p q : ℕ} {read : List ℕ → Read Unit} {next : List ℕ → Read B} {last : B → ℕ} → Onward p read (λ u. q) → Onward q next last → Onward p (λ s. read s >> next s) last
 onward-and {read = read} {next = next} R G = onward-is (λ s. and-bind (read s) (next s)) (onward-bind R (λ u. next) (λ u h. G))
 
+-- a field with a test on its number, and what follows
+pub onward-test : {B : Type 0} {p : ℕ} (w : Width) (at : ℕ) (test : ℕ → Bool) (e : Fault) (next : ℕ → List ℕ → Read B) {last : B → ℕ}
+    → p ≤ at → e .offset ≡ at → test 0 ≡ true → ((n : ℕ) → Onward (at + widthOf w) (next n) last)
+    → Onward p (λ s. field (widthOf w) s at >>= λ n. unless (test n) e >> next n s) last
+onward-test w at test e next le is passes G =
+    onward-is (λ s. judged-parts (field (widthOf w) s at) test e (λ n. next n s))
+    (onward-bind (onward-field le (test-judged w at test e is) (test-takes w at test e passes)) next (λ n h. G n))
+
 -- records one after another; Inv says what their states keep
 module _ {S A : Type 0} (position : S → ℕ) (read : List ℕ → S → Read A) (next : S → A → S) where
   abbrev pub reader : List ℕ → Reader S A
@@ -450,19 +271,16 @@ unfolding past
 past-wide R w wide st [] = omega arith
 past-wide R w wide st (a ∷ xs) = omega (arith, past-wide R w wide (R .next st a) xs, wide st a)
 
--- the start of a message, and a count
+-- the start of a message
 pub onward-start : (head : Head) → head .version < 256 → head .kind < 256 → Onward 0 (λ s. readStart s head) (λ u. startWidth)
 unfolding readStart
 onward-start head version kind =
     onward-and (onward-demand 0 (λ n. leb (head .length) n) _)
-    (onward-bind (onward-field (omega arith) (omega arith) (omega arith) (field-judged 4 0) (field-takes 4 0)) _ (λ total h₀.
+    (onward-bind (onward-free Four 0 (omega arith)) _ (λ total h₀.
     onward-and (onward-demand 4 (λ n. eqb total n) _)
-    (onward-bind (onward-field (omega arith) (omega arith) (omega arith) (only-judged versionAt (head .version)) (only-takes versionAt (head .version) version)) _ (λ v h₁.
-    onward-bind (onward-field (omega arith) (omega arith) (omega arith) (only-judged kindAt (head .kind)) (only-takes kindAt (head .kind) kind)) _ (λ k h₂.
+    (onward-bind (onward-field (omega arith) (only-judged versionAt (head .version)) (only-takes versionAt (head .version) version)) _ (λ v h₁.
+    onward-bind (onward-field (omega arith) (only-judged kindAt (head .kind)) (only-takes kindAt (head .kind) kind)) _ (λ k h₂.
     onward-good _ (tt {0}) (omega arith))))))
-
-pub onward-count : {p : ℕ} (count : Count) → p ≤ count .at → count .least ≤ count .most → count .least < 256 ^ widthOf (count .width) → Onward p (λ s. readCount s count) (λ n. count .at + widthOf (count .width))
-onward-count count le most fits = onward-field le (width-some (count .width)) (width-le (count .width)) (count-judged count) (count-takes count most fits)
 
 -- ---- the laws
 
@@ -479,8 +297,7 @@ module _ {A : Type 0} {read : List ℕ → Read A} {end : A → ℕ} (R : Onward
       record {
         width = c .width;
         value = c .value;
-        narrow = c .narrow;
         inside = c .inside;
         fits = c .fits;
-        reads-past = λ h. c .mended _ (put-same s (f .offset) (c .width) (c .value) (c .inside)) (put-number s (f .offset) (c .width) (c .value) (c .inside) (c .fits)) h;
+        reads-past = λ h. c .mended _ (put-same s (f .offset) (widthOf (c .width)) (c .value) (c .inside)) (put-number s (f .offset) (widthOf (c .width)) (c .value) (c .inside) (c .fits)) h;
       }

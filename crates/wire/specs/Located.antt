@@ -10,6 +10,7 @@ use Rattle.wire.specs.Bytes.{number, put}
 use Rattle.wire.specs.Field.{widthOf}
 use Rattle.wire.specs.Read.{Read, bad}
 use Rattle.wire.specs.declared.Count.{Count}
+use Rattle.wire.specs.declared.Width.{Width}
 
 -- the number where a count of the header stands
 abbrev pub told : List ℕ → Count → ℕ
@@ -28,11 +29,10 @@ pub record SameBefore (offset : ℕ) (s s′ : List ℕ) : Type 0 where
   pub as-long : length s′ ≡ length s
   pub bytes-are : take offset s′ ≡ take offset s
 
--- one field, of at most 4 bytes, can be mended: with this number in it the message reads past it
+-- the field at the offset can be mended: with this number in it the message reads past it
 pub record Mendable {A : Type 0} (read : List ℕ → Read A) (s : List ℕ) (offset : ℕ) : Type 0 where
-  pub width : ℕ
+  pub width : Width
   pub value : ℕ
-  pub narrow : width ≤ 4
-  pub inside : offset + width ≤ length s
-  pub fits : value < 256 ^ width
-  pub reads-past : {f : Fault} → read (put s offset width value) ≡ bad f → From (offset + 1) f
+  pub inside : offset + widthOf width ≤ length s
+  pub fits : value < 256 ^ widthOf width
+  pub reads-past : {f : Fault} → read (put s offset (widthOf width) value) ≡ bad f → From (offset + 1) f
