@@ -6,6 +6,8 @@ use Rattle.wire.specs.Bytes.{number}
 use Rattle.wire.specs.Layout.{end}
 use Rattle.wire.specs.Start.{versionAt, kindAt}
 use Rattle.wire.specs.Located.{told}
+use Rattle.wire.specs.declared.Width.{Width}
+use Rattle.wire.specs.declared.Width.the-variants.{One, Two}
 use Rattle.graph.specs.Format.{graphHeader, nodesCount, hypersCount, coversCount, targetCountAt, hyperWidth, nodeAt, targetWidth, coverTargetAt, coverWidth}
 use Rattle.graph.specs.Layouts.{hyperLayout}
 
@@ -24,15 +26,15 @@ targetsTold s at = number 2 s (at + targetCountAt)
 abbrev pub coverAt : List ℕ → ℕ → ℕ
 coverAt s j = hyperAt s (told s hypersCount) + j * coverWidth
 
--- a field of the message s starts here: of its header, a node that an edge names, or a target count
-pub data FieldStart (s : List ℕ) (at : ℕ) : Type 0 where
-  version : at ≡ versionAt → FieldStart s at
-  kind : at ≡ kindAt → FieldStart s at
-  node-count : at ≡ nodesCount .at → FieldStart s at
-  hyper-count : at ≡ hypersCount .at → FieldStart s at
-  cover-count : at ≡ coversCount .at → FieldStart s at
-  source : (j : ℕ) → j < told s hypersCount → at ≡ hyperAt s j → FieldStart s at
-  target-count : (j : ℕ) → j < told s hypersCount → at ≡ hyperAt s j + targetCountAt → FieldStart s at
-  node : (j i : ℕ) → j < told s hypersCount → i < targetsTold s (hyperAt s j) → at ≡ targetAt (hyperAt s j) i + nodeAt → FieldStart s at
-  cover-source : (j : ℕ) → j < told s coversCount → at ≡ coverAt s j → FieldStart s at
-  cover-target : (j : ℕ) → j < told s coversCount → at ≡ coverAt s j + coverTargetAt → FieldStart s at
+-- a field of the message s, of this width, starts here: of its header, a node that an edge names, or a target count
+pub data FieldStart (s : List ℕ) (at : ℕ) : Width → Type 0 where
+  version : at ≡ versionAt → FieldStart s at One
+  kind : at ≡ kindAt → FieldStart s at One
+  node-count : at ≡ nodesCount .at → FieldStart s at (nodesCount .width)
+  hyper-count : at ≡ hypersCount .at → FieldStart s at (hypersCount .width)
+  cover-count : at ≡ coversCount .at → FieldStart s at (coversCount .width)
+  source : (j : ℕ) → j < told s hypersCount → at ≡ hyperAt s j → FieldStart s at Two
+  target-count : (j : ℕ) → j < told s hypersCount → at ≡ hyperAt s j + targetCountAt → FieldStart s at Two
+  node : (j i : ℕ) → j < told s hypersCount → i < targetsTold s (hyperAt s j) → at ≡ targetAt (hyperAt s j) i + nodeAt → FieldStart s at Two
+  cover-source : (j : ℕ) → j < told s coversCount → at ≡ coverAt s j → FieldStart s at Two
+  cover-target : (j : ℕ) → j < told s coversCount → at ≡ coverAt s j + coverTargetAt → FieldStart s at Two

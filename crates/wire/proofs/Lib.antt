@@ -15,8 +15,7 @@
 --     Laid       bytes laid into a room one after another are laid in at once; what a loop has still to lay in
 --     Spans      a loop over numbers that lays in the bytes of each
 --     Judged     a field as it is read and judged: what it depends on, its faults, and a number that it takes
---     Blames     where the faults of a reading lie
---     Onward     readings go onward: nothing before a fault's offset is to blame, and the field there can be mended
+--     Onward     readings go onward: a fault lies at a field, nothing before it is to blame, and it can be mended
 --     One        one answer of each public function
 pub mod Bytes
 pub mod Fields
@@ -34,6 +33,5 @@ pub mod Written
 pub mod Laid
 pub mod Spans
 pub mod Judged
-pub mod Blames
 pub mod Onward
 pub mod One

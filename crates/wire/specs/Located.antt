@@ -16,9 +16,15 @@ use Rattle.wire.specs.declared.Width.{Width}
 abbrev pub told : List ℕ → Count → ℕ
 told s count = number (widthOf (count .width)) s (count .at)
 
--- no field is at fault, or the offset lies inside the message and a field starts there
-abbrev pub Located : (FieldStart : ℕ → Type 0) → List ℕ → Fault → Type 0
-Located FieldStart s f = (f .offset ≡ nowhere) ⊎ ((f .offset < length s) × FieldStart (f .offset))
+-- a field starts at the offset, and lies inside the message
+pub record FieldAt (FieldStart : ℕ → Width → Type 0) (s : List ℕ) (offset : ℕ) : Type 0 where
+  pub width : Width
+  pub starts : FieldStart offset width
+  pub inside : offset + widthOf width ≤ length s
+
+-- no field is at fault, or one that starts at the fault's offset
+abbrev pub Located : (FieldStart : ℕ → Width → Type 0) → List ℕ → Fault → Type 0
+Located FieldStart s f = (f .offset ≡ nowhere) ⊎ FieldAt FieldStart s (f .offset)
 
 -- no field is at fault, or one that starts at this offset or behind it
 abbrev pub From : ℕ → Fault → Type 0
@@ -30,9 +36,8 @@ pub record SameBefore (offset : ℕ) (s s′ : List ℕ) : Type 0 where
   pub bytes-are : take offset s′ ≡ take offset s
 
 -- the field at the offset can be mended: with this number in it the message reads past it
-pub record Mendable {A : Type 0} (read : List ℕ → Read A) (s : List ℕ) (offset : ℕ) : Type 0 where
-  pub width : Width
+pub record Mendable {A : Type 0} (FieldStart : ℕ → Width → Type 0) (read : List ℕ → Read A) (s : List ℕ) (offset : ℕ) : Type 0 where
+  pub place : FieldAt FieldStart s offset
   pub value : ℕ
-  pub inside : offset + widthOf width ≤ length s
-  pub fits : value < 256 ^ widthOf width
-  pub reads-past : {f : Fault} → read (put s offset (widthOf width) value) ≡ bad f → From (offset + 1) f
+  pub fits : value < 256 ^ widthOf (place .width)
+  pub reads-past : {f : Fault} → read (put s offset (widthOf (place .width)) value) ≡ bad f → From (offset + 1) f
