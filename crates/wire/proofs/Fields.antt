@@ -55,6 +55,12 @@ width-le One = omega arith
 width-le Two = omega arith
 width-le Four = omega arith
 
+-- and none has less than 1
+pub width-some : (w : Width) → 0 < widthOf w
+width-some One = omega arith
+width-some Two = omega arith
+width-some Four = omega arith
+
 -- a field is refused for one reason only
 pub refused-short : (k : ℕ) (s : List ℕ) (at : ℕ) {e : Fault} → fieldAt k s at ≡ Refused e → e ≡ short
 refused-short k s at {e} h = let is : Refused e ≡ Refused short = sym h ∙ field-short k s at (short-past k s at h) in cc
