@@ -7,6 +7,7 @@ use Rattle.text.proofs.put_word.Reads as put-word
 use Rattle.text.proofs.put_decimal.Reads as put-decimal
 use Rattle.text.proofs.put_number.Reads as put-number
 use Rattle.text.proofs.Written.number.Reads as Written-number
+use Rattle.text.proofs.Written.offset.Reads as Written-offset
 use Rattle.text.proofs.Written.length.Reads as Written-length
 
 -- `text::text`: the answer and the room
@@ -18,6 +19,11 @@ one-text κs a r r′ s s′ p q = (p .0 ∙ sym (q .0), p .1 ∙ sym (q .1))
 pub one-number : (κs : _) (a : _) (r r′ : _) (s s′ : _) → Written-number.Post κs a r s → Written-number.Post κs a r′ s′
     → r ≡ r′
 one-number κs a r r′ s s′ p q = p ∙ sym q
+
+-- `text::Written::offset`
+pub one-offset : (κs : _) (a : _) (r r′ : _) (s s′ : _) → Written-offset.Post κs a r s → Written-offset.Post κs a r′ s′
+    → r ≡ r′
+one-offset κs a r r′ s s′ p q = p ∙ sym q
 
 -- `text::Written::length`
 pub one-length : (κs : _) (a : _) (r r′ : _) (s s′ : _) → Written-length.Post κs a r s → Written-length.Post κs a r′ s′
