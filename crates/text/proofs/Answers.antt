@@ -5,9 +5,9 @@ use mathlib.Core.Path.{_≡_, refl, ap, _∙_}
 use lib.ListN.{length, drop}
 use borrow.Author.Tests.{lt-ltb, le-ltb}
 use native.Mathlib.Omega.{arith}
+use Rattle.refusal.specs.Number.{unplaced}
 use Rattle.refusal.specs.declared.Fault.{Fault}
 use Rattle.refusal.specs.declared.Refusal.the-variants.{Room}
-use Rattle.refusal.specs.Number.{plain}
 use Rattle.wire.specs.Read.{Read, good, bad}
 use Rattle.formula.specs.declared.Row.{Row}
 use Rattle.formula.specs.Formula.{rootOf}
@@ -26,7 +26,7 @@ unfolding writtenOf textRoom
 refused x b h = rw h (refl, refl)
 
 module _ (x : Read (List Row)) (b : List ℕ) (rows : List Row) (h : x ≡ good rows) where
-  pub no-room : length b < length (text (rootOf rows)) → Answered x b (Refused (plain Room)) b
+  pub no-room : length b < length (text (rootOf rows)) → Answered x b (Refused (unplaced Room)) b
   unfolding writtenOf textRoom
   no-room k = rw (h, lt-ltb (length b) (length (text (rootOf rows))) k) (refl, refl)
 

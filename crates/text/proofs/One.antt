@@ -20,11 +20,6 @@ pub one-number : (κs : _) (a : _) (r r′ : _) (s s′ : _) → Written-number.
     → r ≡ r′
 one-number κs a r r′ s s′ p q = p ∙ sym q
 
--- `text::Written::offset`
-pub one-offset : (κs : _) (a : _) (r r′ : _) (s s′ : _) → Written-offset.Post κs a r s → Written-offset.Post κs a r′ s′
-    → r ≡ r′
-one-offset κs a r r′ s s′ p q = p ∙ sym q
-
 -- `text::Written::length`
 pub one-length : (κs : _) (a : _) (r r′ : _) (s s′ : _) → Written-length.Post κs a r s → Written-length.Post κs a r′ s′
     → r ≡ r′
@@ -44,3 +39,8 @@ one-put-decimal κs a r r′ s s′ p q = (p .next-is ∙ sym (q .next-is), p .r
 pub one-put-number : (κs : _) (a : _) (r r′ : _) (s s′ : _) → put-number.Post κs a r s → put-number.Post κs a r′ s′
     → (r ≡ r′) × (now (s .0) ≡ now (s′ .0))
 one-put-number κs a r r′ s s′ p q = (p .next-is ∙ sym (q .next-is), p .room-is ∙ sym (q .room-is))
+
+-- `text::Written::offset`
+pub one-offset : (κs : _) (a : _) (r r′ : _) (s s′ : _) → Written-offset.Post κs a r s → Written-offset.Post κs a r′ s′
+    → r ≡ r′
+one-offset κs a r r′ s s′ p q = p ∙ sym q

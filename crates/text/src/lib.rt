@@ -12,7 +12,6 @@ use formula::Checked;
 use formula::Quantifier;
 use formula::Row;
 use refusal::Fault;
-use refusal::Refusal;
 use value::Bound;
 
 // The length of the text, or why it was not written.
@@ -28,14 +27,11 @@ impl Written {
     {
         match self {
             Written::Text(_) => 0,
-            Written::Refused(e) => {
-                let refusal = e.refusal;
-                refusal.number()
-            }
+            Written::Refused(e) => e.number(),
         }
     }
 
-    // Where in the message the field starts that was found wrong, and 0 where none was.
+    // Where the field starts that was found wrong, and 0 where none was.
     pub fn offset(self) -> usize
         ensures { λ r. ⌜ r ≡ writtenOffset self ⌝ }
     {
@@ -225,10 +221,7 @@ pub fn text(s: &[u8], p: u32, room: &mut [u8]) -> Written
             let root = f - 1;
             let length = row_length(s, root);
             if room.len() < length {
-                return Written::Refused(Fault {
-                    refusal: Refusal::Room,
-                    offset: 0,
-                });
+                return Written::Refused(refusal::ROOM);
             }
             Written::Text(put_row(s, root, room, 0))
         }
