@@ -232,6 +232,7 @@ struct answer {
 };
 
 static uint32_t counts[3];
+static size_t offset;
 
 enum { A, B_GCC, B_CLANG, C, D_GCC, D_CLANG, VERSIONS };
 
@@ -247,7 +248,7 @@ enum { A, B_GCC, B_CLANG, C, D_GCC, D_CLANG, VERSIONS };
 static void run_rounds(int v, const struct input *in, struct answer *out)
 {
     if (v == A)
-        out->number = otzarvim_rounds_solve(in->message, in->length, in->budget, out->room, ROOM, &out->count);
+        out->number = otzarvim_rounds_solve(in->message, in->length, in->budget, out->room, ROOM, &out->count, &offset);
 #define CALL(p) out->number = PASTE(p, rounds)(in->message, in->length, in->budget, out->room, &out->count);
     VERSIONED(CALL)
 #undef CALL
@@ -256,7 +257,7 @@ static void run_rounds(int v, const struct input *in, struct answer *out)
 static void run_graph(int v, const struct input *in, struct answer *out)
 {
     if (v == A)
-        out->number = otzarvim_graph_check(in->message, in->length, counts);
+        out->number = otzarvim_graph_check(in->message, in->length, counts, &offset);
 #define CALL(p) out->number = PASTE(p, graph_check)(in->message, in->length);
     VERSIONED(CALL)
 #undef CALL
@@ -265,7 +266,7 @@ static void run_graph(int v, const struct input *in, struct answer *out)
 static void run_model(int v, const struct input *in, struct answer *out)
 {
     if (v == A)
-        out->number = otzarvim_model_check(in->message, in->length, counts);
+        out->number = otzarvim_model_check(in->message, in->length, counts, &offset);
 #define CALL(p) out->number = PASTE(p, model_check)(in->message, in->length);
     VERSIONED(CALL)
 #undef CALL
@@ -274,7 +275,7 @@ static void run_model(int v, const struct input *in, struct answer *out)
 static void run_formula(int v, const struct input *in, struct answer *out)
 {
     if (v == A)
-        out->number = otzarvim_formula_check(in->message, in->length, in->propositions, counts);
+        out->number = otzarvim_formula_check(in->message, in->length, in->propositions, counts, &offset);
 #define CALL(p) out->number = PASTE(p, formula_check)(in->message, in->length, in->propositions);
     VERSIONED(CALL)
 #undef CALL
@@ -284,7 +285,7 @@ static void build(int v, const struct input *in, struct answer *out)
 {
     if (v == A) {
         size_t length;
-        out->number = otzarvim_graph(in->message, in->length, in->formula, in->formula_length, out->graph, MESSAGE, &length);
+        out->number = otzarvim_graph(in->message, in->length, in->formula, in->formula_length, out->graph, MESSAGE, &length, &offset);
         out->length = length;
         return;
     }
@@ -314,7 +315,7 @@ static void run_verdict(int v, const struct input *in, struct answer *out)
         uint8_t verdict;
         size_t length;
         out->number = otzarvim_verdict(in->message, in->length, in->formula, in->formula_length, in->state, in->budget, out->graph,
-                                       MESSAGE, out->room, ROOM, &verdict, &out->count, &length);
+                                       MESSAGE, out->room, ROOM, &verdict, &out->count, &length, &offset);
         out->yes = verdict == OTZARVIM_YES;
         out->length = length;
         return;

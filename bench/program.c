@@ -1,5 +1,6 @@
 /* The program in plain C: what `otzarvim` does, by the functions of a plain version. P is the prefix of that version. Reads a model
- * and a formula from standard input, writes the formula's text, the count of rounds and each state's answer, or the refusal. */
+ * and a formula from standard input, writes the formula's text, the count of rounds and each state's answer, or the
+ * refusal's number alone: a plain version tells no offset. */
 #include "plain.h"
 
 #include <stdio.h>

@@ -172,15 +172,16 @@ static void run(int version, struct answer *out)
 {
     uint8_t verdict;
     uint32_t rounds;
+    size_t offset;
     switch (version) {
     case A:
-        out->number = otzarvim_search(message, length, ROOT, words, WORDS, &verdict, &out->count);
+        out->number = otzarvim_search(message, length, ROOT, words, WORDS, &verdict, &out->count, &offset);
         out->yes = verdict == OTZARVIM_YES;
         break;
     case B_GCC: out->yes = gcc_search(message, length, ROOT, &out->count); break;
     case B_CLANG: out->yes = clang_search(message, length, ROOT, &out->count); break;
     case ROUNDS:
-        out->number = otzarvim_rounds_solve(message, length, UINT32_MAX, room, OTZARVIM_MOST_VALUES, &rounds);
+        out->number = otzarvim_rounds_solve(message, length, UINT32_MAX, room, OTZARVIM_MOST_VALUES, &rounds, &offset);
         out->yes = room[ROOT] == 0;
         out->count = rounds;
     }

@@ -34,7 +34,7 @@ static size_t touched(void (*f)(void))
 }
 
 static uint8_t graph[1 << 20], plain[1 << 20], model[1 << 20], formula[1024], asked[1024], text[4096], built[OTZARVIM_MOST_GRAPH];
-static size_t graph_length, plain_length, model_length, formula_length, asked_length, length;
+static size_t graph_length, plain_length, model_length, formula_length, asked_length, length, offset;
 static uint64_t room[OTZARVIM_MOST_VALUES], taken;
 static uint32_t words[1 << 17];
 static uint32_t counts[3], count, states[2];
@@ -83,49 +83,49 @@ static void nothing(void)
 
 static void graph_check(void)
 {
-    number = otzarvim_graph_check(graph, graph_length, counts);
+    number = otzarvim_graph_check(graph, graph_length, counts, &offset);
 }
 
 static void model_check(void)
 {
-    number = otzarvim_model_check(model, model_length, counts);
+    number = otzarvim_model_check(model, model_length, counts, &offset);
 }
 
 static void formula_check(void)
 {
-    number = otzarvim_formula_check(formula, formula_length, 32, &count);
+    number = otzarvim_formula_check(formula, formula_length, 32, &count, &offset);
 }
 
 static void rounds_solve(void)
 {
-    number = otzarvim_rounds_solve(graph, graph_length, 5, room, OTZARVIM_MOST_VALUES, &count);
+    number = otzarvim_rounds_solve(graph, graph_length, 5, room, OTZARVIM_MOST_VALUES, &count, &offset);
 }
 
 static void search(void)
 {
-    number = otzarvim_search(plain, plain_length, 0, words, sizeof words / sizeof *words, &verdict, &taken);
+    number = otzarvim_search(plain, plain_length, 0, words, sizeof words / sizeof *words, &verdict, &taken, &offset);
 }
 
 static void formula_text(void)
 {
-    number = otzarvim_formula_text(formula, formula_length, 32, text, sizeof text, &length);
+    number = otzarvim_formula_text(formula, formula_length, 32, text, sizeof text, &length, &offset);
 }
 
 static void decide(void)
 {
     number = otzarvim_verdict(model, model_length, asked, asked_length, 255, 5, built, sizeof built, room, OTZARVIM_MOST_VALUES, &verdict,
-                              &count, &length);
+                              &count, &length, &offset);
 }
 
 static void build(void)
 {
-    number = otzarvim_graph(model, model_length, asked, asked_length, built, sizeof built, &length);
+    number = otzarvim_graph(model, model_length, asked, asked_length, built, sizeof built, &length, &offset);
 }
 
 static void settle(void)
 {
     number = otzarvim_settle(model, model_length, asked, asked_length, 5, built, sizeof built, room, OTZARVIM_MOST_VALUES, &count, &length,
-                             states);
+                             states, &offset);
 }
 
 static const struct {

@@ -8,14 +8,14 @@
 #include <string.h>
 
 /* 3 nodes, 2 hyperedges, 1 cover edge: 0 covers 1 with bound 5; 1 has {(4,2)}; 2 has {} */
-static const uint8_t graph[] = {
+static uint8_t graph[] = {
     0, 0, 0, 36, 1, 1, 0, 3, 0, 0, 0, 2, 0, 1,
     0, 1, 0, 1, 0, 0, 0, 4, 0, 2,
     0, 2, 0, 0,
     0, 0, 0, 0, 0, 5, 0, 1};
 
 /* 3 states, 5 propositions, 4 transitions */
-static const uint8_t model[] = {
+static uint8_t model[] = {
     0, 0, 0, 57, 1, 2, 0, 3, 5, 0, 0, 0, 4,
     0, 0, 0, 1, 0, 0, 0, 2, 0, 0, 0, 0,
     0, 0, 0, 0, 0, 3, 0, 0,
@@ -24,14 +24,14 @@ static const uint8_t model[] = {
     0, 2, 0, 0, 0, 1, 0, 2};
 
 /* E[p0 U<=2 p1] */
-static const uint8_t formula[] = {
+static uint8_t formula[] = {
     0, 0, 0, 31, 1, 3, 3,
     2, 0, 0, 0, 0, 0, 0, 0,
     2, 1, 0, 0, 0, 0, 0, 0,
     8, 0, 1, 0, 0, 0, 0, 2};
 
 /* 3 nodes, 3 hyperedges, no weight and no cover edge: 0 has {1} and {2}; 2 has {} */
-static const uint8_t plain[] = {
+static uint8_t plain[] = {
     0, 0, 0, 38, 1, 1, 0, 3, 0, 0, 0, 3, 0, 0,
     0, 0, 0, 1, 0, 0, 0, 0, 0, 1,
     0, 0, 0, 1, 0, 0, 0, 0, 0, 2,
@@ -41,7 +41,7 @@ static uint8_t bytes[256];
 static uint64_t values[32];
 static uint32_t counts[3], states[2], words[50], count, rows;
 static uint64_t taken;
-static size_t length;
+static size_t length, offset;
 static uint8_t verdict;
 
 /* Everything lent holds something else before each call. */
@@ -49,7 +49,8 @@ static void lend(void)
 {
     memset(bytes, 0xee, sizeof bytes);
     memset(values, 0xee, sizeof values);
-    counts[0] = 901, counts[1] = 902, counts[2] = 903, states[0] = 904, states[1] = 905, count = 906, rows = 907, length = 908, verdict = 99, taken = 909;
+    counts[0] = 901, counts[1] = 902, counts[2] = 903, states[0] = 904, states[1] = 905, count = 906, rows = 907, length = 908, verdict = 99, taken = 909,
+    offset = 910;
     memset(words, 0xee, sizeof words);
 }
 
@@ -66,57 +67,84 @@ static void sums(void)
 static void decide(uint32_t state, uint32_t budget)
 {
     lend();
-    unsigned number = otzarvim_verdict(model, sizeof model, formula, sizeof formula, state, budget, bytes, 200, values, 30, &verdict, &count, &length);
-    printf("verdict on %" PRIu32 " with %" PRIu32 ": %u, verdict %u, count %" PRIu32 ", length %zu,", state, budget, number, verdict, count, length);
+    unsigned number = otzarvim_verdict(model, sizeof model, formula, sizeof formula, state, budget, bytes, 200, values, 30, &verdict, &count, &length,
+                                       &offset);
+    printf("verdict on %" PRIu32 " with %" PRIu32 ": %u at %zu, verdict %u, count %" PRIu32 ", length %zu,", state, budget, number, offset, verdict, count,
+           length);
     sums();
 }
 
 static void settle(uint32_t budget)
 {
     lend();
-    unsigned number = otzarvim_settle(model, sizeof model, formula, sizeof formula, budget, bytes, 200, values, 30, &count, &length, states);
-    printf("settle with %" PRIu32 ": %u, count %" PRIu32 ", length %zu, states %" PRIu32 " %" PRIu32 ",", budget, number, count, length, states[0], states[1]);
+    unsigned number = otzarvim_settle(model, sizeof model, formula, sizeof formula, budget, bytes, 200, values, 30, &count, &length, states, &offset);
+    printf("settle with %" PRIu32 ": %u at %zu, count %" PRIu32 ", length %zu, states %" PRIu32 " %" PRIu32 ",", budget, number, offset, count, length,
+           states[0], states[1]);
     sums();
 }
 
 static void search(uint32_t root)
 {
     lend();
-    unsigned number = otzarvim_search(plain, sizeof plain, root, words, 45, &verdict, &taken);
+    unsigned number = otzarvim_search(plain, sizeof plain, root, words, 45, &verdict, &taken, &offset);
     uint64_t sum = 1;
     for (size_t i = 0; i < sizeof words / sizeof *words; i++)
         sum = sum * 31 + words[i];
-    printf("search from %" PRIu32 ": %u, verdict %u, count %" PRIu64 ", words %016" PRIx64 "\n", root, number, verdict, taken, sum);
+    printf("search from %" PRIu32 ": %u at %zu, verdict %u, count %" PRIu64 ", words %016" PRIx64 "\n", root, number, offset, verdict, taken, sum);
+}
+
+static void checks(void)
+{
+    lend();
+    unsigned number = otzarvim_graph_check(graph, sizeof graph, counts, &offset);
+    printf("graph: %u at %zu, %" PRIu32 " %" PRIu32 " %" PRIu32 "\n", number, offset, counts[0], counts[1], counts[2]);
+    lend();
+    number = otzarvim_model_check(model, sizeof model, counts, &offset);
+    printf("model: %u at %zu, %" PRIu32 " %" PRIu32 " %" PRIu32 "\n", number, offset, counts[0], counts[1], counts[2]);
+    for (uint32_t p = 1; p <= 2; p++) {
+        lend();
+        number = otzarvim_formula_check(formula, sizeof formula, p, &rows, &offset);
+        printf("formula with %" PRIu32 ": %u at %zu, %" PRIu32 "\n", p, number, offset, rows);
+    }
+}
+
+static void rounds(uint32_t budget)
+{
+    lend();
+    unsigned number = otzarvim_rounds_solve(graph, sizeof graph, budget, values, 7, &count, &offset);
+    printf("rounds with %" PRIu32 ": %u at %zu, count %" PRIu32 ",", budget, number, offset, count);
+    sums();
+}
+
+static void text(void)
+{
+    lend();
+    unsigned number = otzarvim_formula_text(formula, sizeof formula, 2, bytes, 100, &length, &offset);
+    printf("text: %u at %zu, length %zu,", number, offset, length);
+    sums();
+}
+
+static void build(void)
+{
+    lend();
+    unsigned number = otzarvim_graph(model, sizeof model, formula, sizeof formula, bytes, 200, &length, &offset);
+    printf("built: %u at %zu, length %zu,", number, offset, length);
+    sums();
 }
 
 int main(void)
 {
-    lend();
-    unsigned number = otzarvim_graph_check(graph, sizeof graph, counts);
-    printf("graph: %u, %" PRIu32 " %" PRIu32 " %" PRIu32 "\n", number, counts[0], counts[1], counts[2]);
-    number = otzarvim_model_check(model, sizeof model, counts);
-    printf("model: %u, %" PRIu32 " %" PRIu32 " %" PRIu32 "\n", number, counts[0], counts[1], counts[2]);
-    for (uint32_t p = 1; p <= 2; p++) {
-        lend();
-        number = otzarvim_formula_check(formula, sizeof formula, p, &rows);
-        printf("formula with %" PRIu32 ": %u, %" PRIu32 "\n", p, number, rows);
-    }
-    for (uint32_t budget = 1; budget <= 9; budget += 8) {
-        lend();
-        number = otzarvim_rounds_solve(graph, sizeof graph, budget, values, 7, &count);
-        printf("rounds with %" PRIu32 ": %u, count %" PRIu32 ",", budget, number, count);
-        sums();
-    }
+    checks();
+    rounds(1), rounds(9);
     search(0), search(1), search(3);
-    lend();
-    number = otzarvim_formula_text(formula, sizeof formula, 2, bytes, 100, &length);
-    printf("text: %u, length %zu,", number, length);
-    sums();
-    lend();
-    number = otzarvim_graph(model, sizeof model, formula, sizeof formula, bytes, 200, &length);
-    printf("built: %u, length %zu,", number, length);
-    sums();
+    text(), build();
     decide(0, 9), decide(2, 9), decide(1, 2), decide(2, 1), decide(9, 4);
     settle(9), settle(2);
+
+    /* A wrong field of each message: a name of each graph, the last row's zero, and then the third transition's start. */
+    graph[sizeof graph - 1] = 3, plain[23] = 3, formula[26] = 1;
+    checks(), rounds(9), search(0), text(), build(), decide(0, 9), settle(9);
+    model[42] = 3;
+    checks(), build(), decide(0, 9), settle(9);
     return 0;
 }

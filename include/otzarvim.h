@@ -5,15 +5,21 @@
  *
  * Every function is proved, and asks nothing of what it is handed but that each pointer and its length
  * name memory that is really there. Any bytes are safe: a message that is not well-formed is refused,
- * and the number says what the first fault is. No function keeps anything between calls, allocates, or
+ * and the number says what the first fault is, the offset where it is. No function keeps anything between calls, allocates, or
  * writes anywhere but into what it is lent; 16 KiB of stack suffice (measured, on x86-64); two threads may call at once.
  * Memory that is lent to be written must not overlap anything else that the same call is lent. Where a
  * length is 0, its pointer is not used and may be null.
  *
  * Every function returns one of the numbers below. Any number but OTZARVIM_OK is a refusal. A refusal
  * leaves rooms, counts, rows and states as they came; only OTZARVIM_BUDGET writes, and only the rooms.
- * The count, the length and the verdict are part of the answer and are always written: with a refusal
- * they are 0, 0 and OTZARVIM_NONE, but for the count and the length of OTZARVIM_BUDGET.
+ * The count, the length, the verdict and the offset are part of the answer and are always written: with a
+ * refusal the first three are 0, 0 and OTZARVIM_NONE, but for the count and the length of OTZARVIM_BUDGET.
+ *
+ * The offset, the last parameter of every function, gets where the first byte of the field stands that was
+ * found wrong, counted from the start of the message at fault. It is 0 where no field is: with OK, BUDGET,
+ * LENGTH, SIZE, ROOM and PROFILE, for a number handed in beside a message (p, the state, the root), and with
+ * FORM where a row is not used exactly once. No field that can be found wrong stands at 0. Of two messages
+ * the model is at fault where otzarvim_model_check refuses it, else the formula.
  */
 #ifndef OTZARVIM_H
 #define OTZARVIM_H
@@ -80,20 +86,22 @@ enum {
  *
  *   message, message_length   the bytes; only read
  *   counts                    gets the nodes, the hyperedges and the cover edges
+ *   offset                    gets where the fault is; 0 for none and with LENGTH
  *
  * Returns OK, LENGTH, VERSION, LIMIT, ORDER or NAME: the first fault in the message's own order.
  */
-uint8_t otzarvim_graph_check(const uint8_t *message, size_t message_length, uint32_t counts[3]);
+uint8_t otzarvim_graph_check(const uint8_t *message, size_t message_length, uint32_t counts[3], size_t *offset);
 
 /*
  * Checks a model message (kind 2).
  *
  *   message, message_length   the bytes; only read
  *   counts                    gets the states, the propositions and the transitions
+ *   offset                    gets where the fault is; 0 for none and with LENGTH
  *
  * Returns OK, LENGTH, VERSION, LIMIT, FORM, ORDER or NAME: the first fault in the message's own order.
  */
-uint8_t otzarvim_model_check(const uint8_t *message, size_t message_length, uint32_t counts[3]);
+uint8_t otzarvim_model_check(const uint8_t *message, size_t message_length, uint32_t counts[3], size_t *offset);
 
 /*
  * Checks a formula message (kind 3) whose propositions must be below p.
@@ -101,10 +109,12 @@ uint8_t otzarvim_model_check(const uint8_t *message, size_t message_length, uint
  *   message, message_length   the bytes; only read
  *   p                         how many propositions there are; above 32 is LIMIT, before any byte is read
  *   rows                      gets the rows
+ *   offset                    gets where the fault is; 0 for none, with LENGTH, with LIMIT of p, and with FORM of
+ *                             a row that is not used exactly once
  *
  * Returns OK, LENGTH, VERSION, LIMIT, NAME or FORM: the first fault in the message's own order.
  */
-uint8_t otzarvim_formula_check(const uint8_t *message, size_t message_length, uint32_t p, uint32_t *rows);
+uint8_t otzarvim_formula_check(const uint8_t *message, size_t message_length, uint32_t p, uint32_t *rows, size_t *offset);
 
 /*
  * Runs the rounds on a graph message of n nodes, until a round changes nothing or the budget is spent.
@@ -114,6 +124,7 @@ uint8_t otzarvim_formula_check(const uint8_t *message, size_t message_length, ui
  *                             where no cycle passes through a cover edge
  *   room, room_length         so many numbers; below 2n is ROOM; OTZARVIM_MOST_VALUES always suffice
  *   count                     gets m, the smaller of the budget and the first round that the next repeats
+ *   offset                    as for otzarvim_graph_check
  *
  * With OK and BUDGET the first n numbers of the room hold round m, the next n round m + 1, and the
  * others stay. With OK both are the settled values: the largest that obey the graph's rules.
@@ -121,7 +132,7 @@ uint8_t otzarvim_formula_check(const uint8_t *message, size_t message_length, ui
  * Returns OK, BUDGET, ROOM, or what otzarvim_graph_check returns of the message.
  */
 uint8_t otzarvim_rounds_solve(const uint8_t *message, size_t message_length, uint32_t budget,
-                              uint64_t *room, size_t room_length, uint32_t *count);
+                              uint64_t *room, size_t room_length, uint32_t *count, size_t *offset);
 
 /*
  * Searches from one node of a graph message of n nodes, h hyperedges and t targets in all, whose weights are all 0 and
@@ -134,13 +145,14 @@ uint8_t otzarvim_rounds_solve(const uint8_t *message, size_t message_length, uin
  *   count                     gets how many edges were taken off the search's stacks: at most the root's number of
  *                             hyperedges, plus, over every target place of every hyperedge, one more than the number
  *                             of hyperedges of that target node
+ *   offset                    as for otzarvim_graph_check; 0 for NAME of the root
  *
  * With OK those first words are 0 afterwards, and the others stay.
  *
  * Returns OK, what otzarvim_graph_check returns of the message, PROFILE, NAME of the root, ROOM: in this order.
  */
 uint8_t otzarvim_search(const uint8_t *message, size_t message_length, uint32_t root, uint32_t *words,
-                        size_t words_length, uint8_t *verdict, uint64_t *count);
+                        size_t words_length, uint8_t *verdict, uint64_t *count, size_t *offset);
 
 /*
  * Writes the text of a formula message whose propositions must be below p, as E[p0 U<=2 p1].
@@ -149,11 +161,12 @@ uint8_t otzarvim_search(const uint8_t *message, size_t message_length, uint32_t 
  *   p                         as for otzarvim_formula_check
  *   room, room_length         so many bytes; OTZARVIM_MOST_TEXT always suffices; no 0 is added at the end
  *   length                    gets how many bytes were written
+ *   offset                    as for otzarvim_formula_check
  *
  * Returns OK, ROOM, or what otzarvim_formula_check returns of the message.
  */
 uint8_t otzarvim_formula_text(const uint8_t *message, size_t message_length, uint32_t p,
-                              uint8_t *room, size_t room_length, size_t *length);
+                              uint8_t *room, size_t room_length, size_t *length, size_t *offset);
 
 /*
  * Decides whether a state satisfies a formula: checks the model, then the formula with the model's
@@ -169,6 +182,7 @@ uint8_t otzarvim_formula_text(const uint8_t *message, size_t message_length, uin
  *   verdict                   gets OTZARVIM_YES or OTZARVIM_NO with OK, else OTZARVIM_NONE
  *   count                     gets m, the smaller of the budget and the first round that the next repeats
  *   length                    gets how many bytes the graph's message has
+ *   offset                    gets where the fault is, in the model or in the formula; 0 for NAME of the state
  *
  * With OK the verdict is OTZARVIM_YES exactly when the state satisfies the formula by its maximal runs:
  * those that are endless, and those that end in a state without transitions. With OK and BUDGET the first
@@ -179,13 +193,15 @@ uint8_t otzarvim_formula_text(const uint8_t *message, size_t message_length, uin
  */
 uint8_t otzarvim_verdict(const uint8_t *model, size_t model_length, const uint8_t *formula, size_t formula_length,
                          uint32_t state, uint32_t budget, uint8_t *bytes, size_t bytes_length,
-                         uint64_t *values, size_t values_length, uint8_t *verdict, uint32_t *count, size_t *length);
+                         uint64_t *values, size_t values_length, uint8_t *verdict, uint32_t *count, size_t *length,
+                         size_t *offset);
 
 /*
  * Builds the graph of a model and a formula alone, as otzarvim_verdict does, and runs no rounds.
  *
  *   model, formula, bytes     as for otzarvim_verdict
  *   length                    gets how many bytes the graph's message has
+ *   offset                    as for otzarvim_verdict
  *
  * With OK the first bytes hold the graph's message, which otzarvim_graph_check accepts; the others stay.
  *
@@ -193,12 +209,12 @@ uint8_t otzarvim_verdict(const uint8_t *model, size_t model_length, const uint8_
  * otzarvim_formula_check returns of the formula, SIZE, ROOM.
  */
 uint8_t otzarvim_graph(const uint8_t *model, size_t model_length, const uint8_t *formula, size_t formula_length,
-                       uint8_t *bytes, size_t bytes_length, size_t *length);
+                       uint8_t *bytes, size_t bytes_length, size_t *length, size_t *offset);
 
 /*
  * The same as otzarvim_verdict for all states of a model at once; one graph and one run of the rounds answer for all.
  *
- *   model, formula, budget, bytes, values, count, length   as for otzarvim_verdict
+ *   model, formula, budget, bytes, values, count, length, offset   as for otzarvim_verdict
  *   states                    gets with OK, in states[0], the place among the values of state 0's number,
  *                             and in states[1] how many states there are
  *
@@ -209,7 +225,7 @@ uint8_t otzarvim_graph(const uint8_t *model, size_t model_length, const uint8_t 
  */
 uint8_t otzarvim_settle(const uint8_t *model, size_t model_length, const uint8_t *formula, size_t formula_length,
                         uint32_t budget, uint8_t *bytes, size_t bytes_length, uint64_t *values, size_t values_length,
-                        uint32_t *count, size_t *length, uint32_t states[2]);
+                        uint32_t *count, size_t *length, uint32_t states[2], size_t *offset);
 
 #ifdef __cplusplus
 }

@@ -45,15 +45,15 @@ static uint8_t ask(uint8_t bound, uint32_t state)
 {
     uint8_t verdict;
     uint32_t count;
-    size_t length;
+    size_t length, offset;
     formula[sizeof formula - 1] = bound;
     uint8_t number = otzarvim_verdict(model, sizeof model, formula, sizeof formula, state, OTZARVIM_MOST_NODES, bytes, sizeof bytes, values,
-                                      OTZARVIM_MOST_VALUES, &verdict, &count, &length);
+                                      OTZARVIM_MOST_VALUES, &verdict, &count, &length, &offset);
     printf("A[true U<=%u interpreted] from %s: ", bound, names[state]);
     if (number == OTZARVIM_OK)
         printf("%s, after %" PRIu32 " rounds on a graph of %zu bytes\n", verdict == OTZARVIM_YES ? "yes" : "no", count, length);
     else
-        printf("refused %u\n", number);
+        printf("refused %u at %zu\n", number, offset);
     return number;
 }
 
@@ -64,9 +64,9 @@ int main(void)
 
     /* All states at once. */
     uint32_t count, states[2];
-    size_t length;
+    size_t length, offset;
     uint8_t number = otzarvim_settle(model, sizeof model, formula, sizeof formula, OTZARVIM_MOST_NODES, bytes, sizeof bytes, values,
-                                     OTZARVIM_MOST_VALUES, &count, &length, states);
+                                     OTZARVIM_MOST_VALUES, &count, &length, states, &offset);
     if (number != OTZARVIM_OK)
         return 1;
     for (uint32_t a = 0; a < states[1]; a++)

@@ -4,7 +4,7 @@
 //! The bytes are those of
 //! `tools/otz compile examples/formula_life.otz 'A[true U<=42 interpreted]' -o - | od -An -v -tu1`
 
-use otzarvim::{Answer, Refusal, Verdict, MOST_GRAPH, MOST_ROUNDS, MOST_VALUES};
+use otzarvim::{Answer, Fault, Verdict, MOST_GRAPH, MOST_ROUNDS, MOST_VALUES};
 
 const NAMES: [&str; 6] = ["cold", "hot", "speculated", "guard_failed", "interpreted", "retired"];
 const GUARD_FAILED: u32 = 3;
@@ -37,7 +37,7 @@ fn formula(bound: u8) -> [u8; 31] {
     ]
 }
 
-fn main() -> Result<(), Refusal> {
+fn main() -> Result<(), Fault> {
     // Rooms that suffice for any question.
     let (mut bytes, mut values) = (vec![0; MOST_GRAPH], vec![0; MOST_VALUES]);
     for bound in [42, 41] {

@@ -1,7 +1,7 @@
 //! A tour of the library: the paper's graph G, its model M, and the formula E[p0 U<=2 p1]. bindings/check.sh builds and runs it, and
 //! compares what it writes with tour.txt.
 
-use otzarvim::{Refusal, Rounds, INFINITE};
+use otzarvim::{Fault, Rounds, INFINITE};
 
 const GRAPH: [u8; 62] = [
     0, 0, 0, 62, 1, 1, 0, 4, 0, 0, 0, 4, 0, 1, // 62 bytes, version 1, kind 1; 4 nodes, 4 hyperedges, 1 cover edge
@@ -27,7 +27,7 @@ const FORMULA: [u8; 31] = [
     8, 0, 1, 0, 0, 0, 0, 2, // E[row 0 U<=2 row 1]
 ];
 
-fn main() -> Result<(), Refusal> {
+fn main() -> Result<(), Fault> {
     let graph = otzarvim::check_graph(&GRAPH)?;
     println!("{graph:?}");
 
@@ -56,12 +56,18 @@ fn main() -> Result<(), Refusal> {
     println!("{model:?}");
     println!("{} rows", otzarvim::check_formula(&FORMULA, model.propositions)?);
     println!("{}", otzarvim::text_of(&FORMULA, model.propositions)?);
-    if let Err(refusal) = otzarvim::check_formula(&FORMULA, 1) {
-        println!("refused {}: {refusal}", refusal.number());
+    if let Err(fault) = otzarvim::check_formula(&FORMULA, 1) {
+        println!("refused {} at {}: {}", fault.refusal.number(), fault.offset, fault.refusal);
     }
 
     let mut built = [0; 106];
     println!("{:?}", otzarvim::graph(&MODEL, &FORMULA, &mut built[1..]));
     println!("{:?}", otzarvim::check_graph(otzarvim::graph(&MODEL, &FORMULA, &mut built)?)?);
+
+    let mut damaged = MODEL;
+    damaged[36] = 2; // the second transition leads to state 2 of 2
+    if let Err(fault) = otzarvim::satisfying(&damaged, &FORMULA) {
+        println!("{fault}");
+    }
     Ok(())
 }

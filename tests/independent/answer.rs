@@ -231,13 +231,15 @@ pub fn answer(call: &Call) -> Expected {
 
 type Line = (String, Option<Fault>);
 
-fn number(fault: Option<Fault>) -> u8 {
-    fault.map_or(Number::Ok, |fault| fault.number) as u8
+/// "From request 4 on every line .. has the offset as a field right after the number: `G 6 21`."
+fn number_and_offset(fault: Option<Fault>) -> String {
+    let (number, offset) = fault.map_or((Number::Ok, 0), |fault| (fault.number, fault.offset));
+    format!("{} {offset}", number as u8)
 }
 
 fn answer_check(call: &Call) -> Line {
     let fault = check(call).err();
-    (number(fault).to_string(), fault)
+    (number_and_offset(fault), fault)
 }
 
 /// The check of the call's message. What it accepts must be the writing of what was read.
@@ -260,7 +262,8 @@ fn answer_text(call: &Call) -> Line {
     let written = verdict::write_text(call.numbers[0], &call.messages[0], &mut room);
     let length = *written.as_ref().unwrap_or(&0);
     let fault = written.err();
-    (format!("{} {length} {}", number(fault), sum(&room)), fault)
+    let told = number_and_offset(fault);
+    (format!("{told} {length} {}", sum(&room)), fault)
 }
 
 fn answer_rounds(call: &Call) -> Line {
@@ -269,10 +272,8 @@ fn answer_rounds(call: &Call) -> Line {
         Ok(report) => (spent(verdict::number_of(&report)), report.rounds),
         Err(fault) => (Some(fault), 0),
     };
-    (
-        format!("{} {count} {}", number(fault), sum_of_values(&room)),
-        fault,
-    )
+    let told = number_and_offset(fault);
+    (format!("{told} {count} {}", sum_of_values(&room)), fault)
 }
 
 fn answer_verdict(call: &Call) -> Line {
@@ -293,10 +294,8 @@ fn answer_verdict(call: &Call) -> Line {
     };
     let word = yes.map_or("none", |yes| if yes { "yes" } else { "no" });
     let rooms = format!("{} {}", sum(&graph), sum_of_values(&values));
-    (
-        format!("{} {word} {count} {length} {rooms}", number(fault)),
-        fault,
-    )
+    let told = number_and_offset(fault);
+    (format!("{told} {word} {count} {length} {rooms}"), fault)
 }
 
 fn answer_search(call: &Call) -> Line {
@@ -305,8 +304,11 @@ fn answer_search(call: &Call) -> Line {
         Ok(found) => (None, if found.yes { "yes" } else { "no" }, found.taken),
         Err(fault) => (Some(fault), "none", 0),
     };
-    let sum = sum_of_words(&room);
-    (format!("{} {word} {taken} {sum}", number(fault)), fault)
+    let told = number_and_offset(fault);
+    (
+        format!("{told} {word} {taken} {}", sum_of_words(&room)),
+        fault,
+    )
 }
 
 fn spent(number: Number) -> Option<Fault> {

@@ -1,7 +1,8 @@
 //! Reading of graph, model and formula messages: document 01, "Message bytes" and, for the order of
-//! the faults, "Numbers given back".
+//! the faults, "Numbers given back". Document 02, request 4, for the offset of a fault.
 
 use crate::refusal::{Fault, Judge, Number, FORMULA, GRAPH, MODEL};
+use std::ops::RangeInclusive;
 
 /// "The bound 4,294,967,295 means no bound."
 pub type Bound = Option<u32>;
@@ -110,6 +111,20 @@ impl Row {
 /// "The root is the last row."
 pub type Formula = Vec<Row>;
 
+/// A field's number, and the offset of its first byte.
+#[derive(Clone, Copy)]
+struct Taken {
+    at: usize,
+    number: u32,
+}
+
+impl Taken {
+    /// The number as one of a node, a state, a proposition or a row, or as a count of them.
+    fn name(self) -> usize {
+        self.number as usize
+    }
+}
+
 /// A place in a message that moves forward.
 struct Cursor<'a> {
     bytes: &'a [u8],
@@ -122,16 +137,13 @@ impl Cursor<'_> {
     }
 
     /// "All numbers are unsigned and big-endian." The caller has seen that the bytes are there.
-    fn take(&mut self, width: usize) -> u32 {
-        let field = &self.bytes[self.at..self.at + width];
+    fn take(&mut self, width: usize) -> Taken {
+        let at = self.at;
         self.at += width;
-        field
+        let number = self.bytes[at..self.at]
             .iter()
-            .fold(0, |number, byte| number << 8 | u32::from(*byte))
-    }
-
-    fn take_name(&mut self, width: usize) -> usize {
-        self.take(width) as usize
+            .fold(0, |number, byte| number << 8 | u32::from(*byte));
+        Taken { at, number }
     }
 }
 
@@ -140,26 +152,29 @@ impl Cursor<'_> {
 fn open(judge: Judge, bytes: &[u8], header: usize, kind: u32) -> Result<Cursor<'_>, Fault> {
     judge.demand(bytes.len() >= header, Number::Length, "header bytes")?;
     let mut cursor = Cursor { bytes, at: 0 };
-    judge.demand(
-        cursor.take_name(4) == bytes.len(),
-        Number::Length,
-        "length field",
-    )?;
-    judge.demand(cursor.take(1) == 1, Number::Version, "version")?;
-    judge.demand(cursor.take(1) == kind, Number::Version, "kind")?;
+    let length = cursor.take(4).name();
+    judge.demand(length == bytes.len(), Number::Length, "length field")?;
+    let version = cursor.take(1);
+    judge
+        .at(version.at)
+        .demand(version.number == 1, Number::Version, "version")?;
+    let found = cursor.take(1);
+    judge
+        .at(found.at)
+        .demand(found.number == kind, Number::Version, "kind")?;
     Ok(cursor)
 }
 
 /// "4 LIMIT: a count outside the table above"
 fn limited(
     judge: Judge,
-    count: usize,
-    least: usize,
-    most: usize,
+    count: Taken,
+    allowed: RangeInclusive<usize>,
     place: &'static str,
 ) -> Result<usize, Fault> {
-    judge.demand((least..=most).contains(&count), Number::Limit, place)?;
-    Ok(count)
+    let judge = judge.at(count.at);
+    judge.demand(allowed.contains(&count.name()), Number::Limit, place)?;
+    Ok(count.name())
 }
 
 /// The limits of the table, by the names it gives them.
@@ -179,14 +194,10 @@ pub mod limit {
 /// over."
 pub fn graph(bytes: &[u8]) -> Result<Graph, Fault> {
     let mut cursor = open(GRAPH, bytes, 14, 1)?;
-    let (n, h, c) = (
-        cursor.take_name(2),
-        cursor.take_name(4),
-        cursor.take_name(2),
-    );
-    let nodes = limited(GRAPH, n, 1, limit::N, "n")?;
-    let h = limited(GRAPH, h, 0, limit::H, "h")?;
-    let c = limited(GRAPH, c, 0, limit::C, "c")?;
+    let (n, h, c) = (cursor.take(2), cursor.take(4), cursor.take(2));
+    let nodes = limited(GRAPH, n, 1..=limit::N, "n")?;
+    let h = limited(GRAPH, h, 0..=limit::H, "h")?;
+    let c = limited(GRAPH, c, 0..=limit::C, "c")?;
     let hyperedges = hyperedges(&mut cursor, nodes, h)?;
     let covers = covers(&mut cursor, nodes, c)?;
     GRAPH.demand(cursor.left() == 0, Number::Length, "bytes left over")?;
@@ -198,7 +209,7 @@ pub fn graph(bytes: &[u8]) -> Result<Graph, Fault> {
 }
 
 /// "Hyperedge: its 4 fixed bytes fit; source NAME; ORDER; running target total LIMIT; target bytes
-/// fit; each target's NAME."
+/// fit; each target's NAME." Request 4: "A target total over its limit points at the target count."
 fn hyperedges(cursor: &mut Cursor, nodes: usize, h: usize) -> Result<Vec<Hyperedge>, Fault> {
     let mut read: Vec<Hyperedge> = Vec::new();
     let mut total = 0;
@@ -208,20 +219,23 @@ fn hyperedges(cursor: &mut Cursor, nodes: usize, h: usize) -> Result<Vec<Hypered
             Number::Length,
             "hyperedge's fixed bytes",
         )?;
-        let (source, count) = (cursor.take_name(2), cursor.take_name(2));
-        GRAPH.demand(source < nodes, Number::Name, "hyperedge's source")?;
+        let (source, count) = (cursor.take(2), cursor.take(2));
+        let of_source = GRAPH.at(source.at);
+        of_source.demand(source.name() < nodes, Number::Name, "hyperedge's source")?;
         let before = read.last().map_or(0, |edge| edge.source);
-        GRAPH.demand(before <= source, Number::Order, "hyperedge's order")?;
-        total = limited(
-            GRAPH,
-            total + count,
-            0,
-            limit::TARGETS,
+        of_source.demand(before <= source.name(), Number::Order, "hyperedge's order")?;
+        total += count.name();
+        GRAPH.at(count.at).demand(
+            total <= limit::TARGETS,
+            Number::Limit,
             "targets of all hyperedges",
         )?;
-        GRAPH.demand(cursor.left() >= 6 * count, Number::Length, "target bytes")?;
-        let targets = targets(cursor, nodes, count)?;
-        read.push(Hyperedge { source, targets });
+        let fit = cursor.left() >= 6 * count.name();
+        GRAPH.demand(fit, Number::Length, "target bytes")?;
+        read.push(Hyperedge {
+            source: source.name(),
+            targets: targets(cursor, nodes, count.name())?,
+        });
     }
     Ok(read)
 }
@@ -230,9 +244,14 @@ fn hyperedges(cursor: &mut Cursor, nodes: usize, h: usize) -> Result<Vec<Hypered
 fn targets(cursor: &mut Cursor, nodes: usize, count: usize) -> Result<Vec<Target>, Fault> {
     let mut read = Vec::new();
     for _ in 0..count {
-        let (weight, node) = (cursor.take(4), cursor.take_name(2));
-        GRAPH.demand(node < nodes, Number::Name, "target")?;
-        read.push(Target { weight, node });
+        let (weight, node) = (cursor.take(4), cursor.take(2));
+        GRAPH
+            .at(node.at)
+            .demand(node.name() < nodes, Number::Name, "target")?;
+        read.push(Target {
+            weight: weight.number,
+            node: node.name(),
+        });
     }
     Ok(read)
 }
@@ -243,15 +262,17 @@ fn covers(cursor: &mut Cursor, nodes: usize, c: usize) -> Result<Vec<Cover>, Fau
     let mut read: Vec<Cover> = Vec::new();
     for _ in 0..c {
         GRAPH.demand(cursor.left() >= 8, Number::Length, "cover edge's bytes")?;
-        let (source, bound, target) = (cursor.take_name(2), cursor.take(4), cursor.take_name(2));
-        GRAPH.demand(source < nodes, Number::Name, "cover edge's source")?;
+        let (source, bound, target) = (cursor.take(2), cursor.take(4), cursor.take(2));
+        let of_source = GRAPH.at(source.at);
+        of_source.demand(source.name() < nodes, Number::Name, "cover edge's source")?;
         let before = read.last().map_or(0, |edge| edge.source);
-        GRAPH.demand(before <= source, Number::Order, "cover edge's order")?;
-        GRAPH.demand(target < nodes, Number::Name, "cover edge's target")?;
+        of_source.demand(before <= source.name(), Number::Order, "cover edge's order")?;
+        let of_target = GRAPH.at(target.at);
+        of_target.demand(target.name() < nodes, Number::Name, "cover edge's target")?;
         read.push(Cover {
-            source,
-            bound: bound_of(bound),
-            target,
+            source: source.name(),
+            bound: bound_of(bound.number),
+            target: target.name(),
         });
     }
     Ok(read)
@@ -261,14 +282,10 @@ fn covers(cursor: &mut Cursor, nodes: usize, c: usize) -> Result<Vec<Cover>, Fau
 /// must then have exactly 13 + 4s + 8t bytes". Request 1: "Number 7 is no longer given; t may be 0."
 pub fn model(bytes: &[u8]) -> Result<Model, Fault> {
     let mut cursor = open(MODEL, bytes, 13, 2)?;
-    let (s, p, t) = (
-        cursor.take_name(2),
-        cursor.take_name(1),
-        cursor.take_name(4),
-    );
-    let s = limited(MODEL, s, 1, limit::S, "s")?;
-    let p = limited(MODEL, p, 0, limit::P, "p")?;
-    let t = limited(MODEL, t, 0, limit::T, "t")?;
+    let (s, p, t) = (cursor.take(2), cursor.take(1), cursor.take(4));
+    let s = limited(MODEL, s, 1..=limit::S, "s")?;
+    let p = limited(MODEL, p, 0..=limit::P, "p")?;
+    let t = limited(MODEL, t, 0..=limit::T, "t")?;
     MODEL.demand(
         bytes.len() == 13 + 4 * s + 8 * t,
         Number::Length,
@@ -289,8 +306,9 @@ fn labels(cursor: &mut Cursor, s: usize, p: usize) -> Result<Vec<u32>, Fault> {
     let mut read = Vec::new();
     for _ in 0..s {
         let label = cursor.take(4);
-        MODEL.demand(u64::from(label) >> p == 0, Number::Form, "label")?;
-        read.push(label);
+        let below = u64::from(label.number) >> p == 0;
+        MODEL.at(label.at).demand(below, Number::Form, "label")?;
+        read.push(label.number);
     }
     Ok(read)
 }
@@ -299,12 +317,17 @@ fn labels(cursor: &mut Cursor, s: usize, p: usize) -> Result<Vec<u32>, Fault> {
 fn transitions(cursor: &mut Cursor, s: usize, t: usize) -> Result<Vec<Transition>, Fault> {
     let mut read: Vec<Transition> = Vec::new();
     for _ in 0..t {
-        let (from, weight, to) = (cursor.take_name(2), cursor.take(4), cursor.take_name(2));
-        MODEL.demand(from < s, Number::Name, "from")?;
+        let (from, weight, to) = (cursor.take(2), cursor.take(4), cursor.take(2));
+        let of_from = MODEL.at(from.at);
+        of_from.demand(from.name() < s, Number::Name, "from")?;
         let before = read.last().map_or(0, |step| step.from);
-        MODEL.demand(before <= from, Number::Order, "order")?;
-        MODEL.demand(to < s, Number::Name, "to")?;
-        read.push(Transition { from, weight, to });
+        of_from.demand(before <= from.name(), Number::Order, "order")?;
+        MODEL.at(to.at).demand(to.name() < s, Number::Name, "to")?;
+        read.push(Transition {
+            from: from.name(),
+            weight: weight.number,
+            to: to.name(),
+        });
     }
     Ok(read)
 }
@@ -312,9 +335,10 @@ fn transitions(cursor: &mut Cursor, s: usize, t: usize) -> Result<Vec<Transition
 /// "A formula is checked against a p handed in beside it; that p's LIMIT comes before any byte."
 /// "Formula, kind 3, header 7 bytes: row count f (1)." A formula must have exactly 7 + 8f bytes.
 pub fn formula(p: u32, bytes: &[u8]) -> Result<Formula, Fault> {
-    let p = limited(FORMULA, p as usize, 0, limit::P, "p handed in")?;
+    let p = p as usize;
+    FORMULA.demand(p <= limit::P, Number::Limit, "p handed in")?;
     let mut cursor = open(FORMULA, bytes, 7, 3)?;
-    let f = limited(FORMULA, cursor.take_name(1), 1, limit::F, "f")?;
+    let f = limited(FORMULA, cursor.take(1), 1..=limit::F, "f")?;
     FORMULA.demand(bytes.len() == 7 + 8 * f, Number::Length, "exact length")?;
     let mut rows = Vec::new();
     for index in 0..f {
@@ -326,22 +350,25 @@ pub fn formula(p: u32, bytes: &[u8]) -> Result<Formula, Fault> {
 
 /// The fields of a row: "operator (1), left (1), right (1), zero (1), bound (4)".
 struct Fields {
-    operator: u32,
-    left: usize,
-    right: usize,
-    zero: u32,
-    bound: u32,
+    operator: Taken,
+    left: Taken,
+    right: Taken,
+    zero: Taken,
+    bound: Taken,
 }
 
 fn row(cursor: &mut Cursor, index: usize, p: usize) -> Result<Row, Fault> {
     let fields = Fields {
         operator: cursor.take(1),
-        left: cursor.take_name(1),
-        right: cursor.take_name(1),
+        left: cursor.take(1),
+        right: cursor.take(1),
         zero: cursor.take(1),
         bound: cursor.take(4),
     };
-    FORMULA.demand(fields.operator <= 9, Number::Form, "operator")?;
+    let known = fields.operator.number <= 9;
+    FORMULA
+        .at(fields.operator.at)
+        .demand(known, Number::Form, "operator")?;
     unused_are_zero(&fields)?;
     names_exist(&fields, index, p)?;
     Ok(row_of(&fields))
@@ -361,41 +388,42 @@ fn uses_bound(operator: u32) -> bool {
 
 /// "the first unused field not zero FORM"
 fn unused_are_zero(fields: &Fields) -> Result<(), Fault> {
-    let operator = fields.operator;
-    FORMULA.demand(
-        uses_left(operator) || fields.left == 0,
-        Number::Form,
-        "left unused",
-    )?;
-    FORMULA.demand(
-        uses_right(operator) || fields.right == 0,
-        Number::Form,
-        "right unused",
-    )?;
-    FORMULA.demand(fields.zero == 0, Number::Form, "zero")?;
-    FORMULA.demand(
-        uses_bound(operator) || fields.bound == 0,
-        Number::Form,
-        "bound unused",
-    )
+    let operator = fields.operator.number;
+    let in_order = [
+        (uses_left(operator), fields.left, "left unused"),
+        (uses_right(operator), fields.right, "right unused"),
+        (false, fields.zero, "zero"),
+        (uses_bound(operator), fields.bound, "bound unused"),
+    ];
+    for (used, field, place) in in_order {
+        FORMULA
+            .at(field.at)
+            .demand(used || field.number == 0, Number::Form, place)?;
+    }
+    Ok(())
 }
 
 /// "then left and right NAME. An operand must be an earlier row."
 fn names_exist(fields: &Fields, index: usize, p: usize) -> Result<(), Fault> {
-    match fields.operator {
+    let (operator, left) = (fields.operator.number, fields.left.name());
+    let of_left = FORMULA.at(fields.left.at);
+    match operator {
         0 | 1 => {}
-        2 | 3 => FORMULA.demand(fields.left < p, Number::Name, "left proposition")?,
-        _ => FORMULA.demand(fields.left < index, Number::Name, "left row")?,
+        2 | 3 => of_left.demand(left < p, Number::Name, "left proposition")?,
+        _ => of_left.demand(left < index, Number::Name, "left row")?,
     }
-    let right = !uses_right(fields.operator) || fields.right < index;
-    FORMULA.demand(right, Number::Name, "right row")
+    let right = !uses_right(operator) || fields.right.name() < index;
+    FORMULA
+        .at(fields.right.at)
+        .demand(right, Number::Name, "right row")
 }
 
 /// "Operators: 0 true, 1 false, 2 proposition (left), 3 not that proposition, 4 and, 5 or (left,
 /// right), 6 EX, 7 AX (left and bound), 8 E until, 9 A until (left, right, bound)."
 fn row_of(fields: &Fields) -> Row {
-    let (left, right, bound) = (fields.left, fields.right, bound_of(fields.bound));
-    match fields.operator {
+    let (left, right) = (fields.left.name(), fields.right.name());
+    let bound = bound_of(fields.bound.number);
+    match fields.operator.number {
         0 => Row::True,
         1 => Row::False,
         2 => Row::Has(left),

@@ -20,14 +20,22 @@ pub struct Output {
     pub fault: Option<Fault>,
 }
 
-/// "Any refusal writes only `refused` and the number."
+/// "Any refusal writes only `refused` and the number." Request 4: "The program then writes `refused 6
+/// at 21`, and plain `refused 2` where the offset is 0."
 pub fn output(input: &[u8]) -> Output {
     match answered(input) {
         Ok(lines) => Output { lines, fault: None },
         Err(fault) => Output {
-            lines: format!("refused {}\n", fault.number as u8),
+            lines: refused(fault),
             fault: Some(fault),
         },
+    }
+}
+
+fn refused(fault: Fault) -> String {
+    match (fault.number as u8, fault.offset) {
+        (number, 0) => format!("refused {number}\n"),
+        (number, offset) => format!("refused {number} at {offset}\n"),
     }
 }
 

@@ -17,30 +17,57 @@ pub enum Number {
     Profile = 11,
 }
 
-/// A refusal: its number, what was being judged, and the rule that it broke. Only the number is
-/// answered; the other two let the self-test see that a batch meets every rule.
+/// A refusal: its number, the offset that request 4 adds, what was being judged, and the rule that it
+/// broke. Number and offset are answered; the other two let the self-test see that a batch meets every
+/// rule.
 #[derive(Clone, Copy, PartialEq, Eq, PartialOrd, Ord, Debug)]
 pub struct Fault {
     pub number: Number,
+    pub offset: usize,
     pub subject: &'static str,
     pub place: &'static str,
 }
 
-/// What judges one subject, as `GRAPH.demand(..)`.
-#[derive(Clone, Copy)]
-pub struct Judge(pub &'static str);
+/// A rule: what is judged, and what is demanded of it.
+pub type Rule = (&'static str, &'static str);
 
-pub const GRAPH: Judge = Judge("graph");
-pub const MODEL: Judge = Judge("model");
-pub const FORMULA: Judge = Judge("formula");
-pub const CALL: Judge = Judge("call");
-pub const PROGRAM: Judge = Judge("program");
+impl Fault {
+    pub fn rule(&self) -> Rule {
+        (self.subject, self.place)
+    }
+}
+
+/// What judges one subject, as `GRAPH.demand(..)`; or one field of it, as `GRAPH.at(12).demand(..)`.
+#[derive(Clone, Copy)]
+pub struct Judge {
+    subject: &'static str,
+    offset: usize,
+}
+
+pub const GRAPH: Judge = Judge::of("graph");
+pub const MODEL: Judge = Judge::of("model");
+pub const FORMULA: Judge = Judge::of("formula");
+pub const CALL: Judge = Judge::of("call");
+pub const PROGRAM: Judge = Judge::of("program");
 
 impl Judge {
+    /// Request 4: "The offset is 0 for OK, BUDGET, LENGTH, SIZE, ROOM, PROFILE, .., for a number
+    /// handed in beside a message, and for the rule that each row is used once."
+    const fn of(subject: &'static str) -> Judge {
+        Judge { subject, offset: 0 }
+    }
+
+    /// Request 4: "the offset of the first byte of the field it found wrong". "Offsets count within
+    /// the faulty message."
+    pub fn at(self, offset: usize) -> Judge {
+        Judge { offset, ..self }
+    }
+
     pub fn fault(self, number: Number, place: &'static str) -> Fault {
         Fault {
             number,
-            subject: self.0,
+            offset: self.offset,
+            subject: self.subject,
             place,
         }
     }

@@ -7,9 +7,10 @@ use crate::build::{self, Layout};
 use crate::bytes::{self, Bound, Formula, Graph, Model, Row, Runs};
 use crate::known::{self, graph, model};
 use crate::message;
+use crate::offsets;
 use crate::program;
 use crate::random::Random;
-use crate::refusal::{Number, RULES};
+use crate::refusal::{Fault, Number, RULES};
 use crate::rounds::{self, Value};
 use crate::sat;
 use crate::search;
@@ -21,6 +22,7 @@ pub fn run(seed: u64) {
     known_graphs();
     known_questions();
     sums();
+    report("offsets by hand", offsets::run());
     long_messages();
     large_graphs();
     let mut random = Random::new(seed);
@@ -116,7 +118,7 @@ fn sums() {
 
 // ---- limits that the messages of `trials` are too short for
 
-fn number<T>(read: Result<T, crate::refusal::Fault>) -> Number {
+fn number<T>(read: Result<T, Fault>) -> Number {
     read.err().map_or(Number::Ok, |fault| fault.number)
 }
 
@@ -136,7 +138,9 @@ fn long_messages() {
         Number::Ok
     );
     let mut past = wide(&[&four[..], &[5]].concat());
-    assert_eq!(number(bytes::graph(&past)), Number::Limit);
+    let fault = bytes::graph(&past).expect_err("a target too many");
+    // the fifth hyperedge stands at 14 + 4 · (4 + 6 · 65,535), its target count 2 further
+    assert_eq!((fault.number, fault.offset), (Number::Limit, 1_572_872));
     past.truncate(past.len() - 30);
     message::mend_length(&mut past);
     assert_eq!(
@@ -475,11 +479,41 @@ fn operands_first(rows: &[Row], index: usize, out: &mut Formula) -> usize {
 
 // ---- batches
 
+/// Request 4's list of what has no offset.
+fn has_no_offset(fault: &Fault) -> bool {
+    let numbers = [
+        Number::Budget,
+        Number::Length,
+        Number::Size,
+        Number::Room,
+        Number::Profile,
+    ];
+    let handed_in = ["asked state", "root", "p handed in"];
+    let used_once = ["row never used", "row used twice"];
+    numbers.contains(&fault.number)
+        || handed_in.contains(&fault.place)
+        || used_once.contains(&fault.place)
+}
+
+/// Each fault of a call or an input has an offset exactly where request 4 gives it one.
+fn offsets_where_due(faults: &[Fault]) {
+    for fault in faults {
+        assert_eq!(fault.offset == 0, has_no_offset(fault), "{fault:?}");
+    }
+    let offsets: BTreeSet<usize> = faults.iter().map(|fault| fault.offset).collect();
+    report("offsets met", offsets.len());
+}
+
 /// The systematic part breaks every rule in every kind of call that can break it, and so do the
 /// program's inputs; each kind of call, and the program, also go well.
 fn every_rule() {
     let calls = batch::systematic();
     let inputs = batch::inputs::systematic();
+    let of_calls = calls.iter().filter_map(|call| answer(call).fault);
+    let of_inputs = inputs
+        .iter()
+        .filter_map(|input| program::output(input).fault);
+    offsets_where_due(&of_calls.chain(of_inputs).collect::<Vec<Fault>>());
     let mut broken: BTreeSet<(char, &str, &str)> = calls.iter().filter_map(rule_broken).collect();
     broken.extend(inputs.iter().filter_map(|input| rule_broken_by(input)));
     for (subject, place, letters) in RULES {

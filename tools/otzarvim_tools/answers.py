@@ -26,16 +26,17 @@ class Answer:
 
 @dataclass(frozen=True)
 class Refused:
-    """The number of a refusal."""
+    """The number of a refusal, and the offset of the field that is wrong; 0 where there is none."""
 
     number: int
+    offset: int = 0
 
 
 def read_answer(output: str, states: int) -> Union[Answer, Refused]:
     """Reads what the program wrote, to the last line feed."""
-    refused = re.fullmatch(r"refused ([0-9]+)\n", output)
+    refused = re.fullmatch(r"refused ([0-9]+)(?: at ([1-9][0-9]*))?\n", output)
     if refused:
-        return Refused(int(refused.group(1)))
+        return Refused(int(refused.group(1)), int(refused.group(2) or 0))
     answered = re.fullmatch(r"(.+)\nrounds ([0-9]+)\n((?:[0-9]+ (?:yes|no)\n)+)", output)
     if answered:
         lines = [line.split(" ") for line in answered.group(3).splitlines()]
@@ -64,11 +65,12 @@ def render_answer(answer: Answer, question: Question, state: Optional[int] = Non
     return "".join(line + "\n" for line in lines)
 
 
-def render_refusal(number: int, reasons: List[str]) -> str:
-    """The number, its name and its meaning, then what in this question it is about."""
-    refusal = REFUSALS.get(number)
+def render_refusal(refused: Refused, reasons: List[str]) -> str:
+    """The number, its name and its meaning, then where it is and what in this question it is about."""
+    refusal = REFUSALS.get(refused.number)
     known = f"{refusal.name}: {refusal.meaning}" if refusal else "a number that document 01 doesn't have"
-    return "".join(line + "\n" for line in [f"refused {number}, {known}", *reasons])
+    at = f" at {refused.offset}" if refused.offset else ""
+    return "".join(line + "\n" for line in [f"refused {refused.number}{at}, {known}", *reasons])
 
 
 def reasons(number: int, question: Question, complaints: Iterator[Complaint]) -> List[str]:

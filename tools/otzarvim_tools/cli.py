@@ -12,7 +12,7 @@ from . import checks
 from .answers import Answer, read_answer, reasons, render_answer, render_refusal
 from .checks import Complaint, Complaints
 from .compiler import compile_formula, compile_model
-from .decoder import decode
+from .decoder import decode, stands_at
 from .drawing import draw
 from .mistakes import Mistake, Place
 from .model import Model
@@ -41,8 +41,12 @@ def _read_text(path: str) -> str:
         raise Mistake(Place(path), "not text in UTF-8") from None
 
 
+def _called(path: str) -> str:
+    return "standard input" if path == "-" else path
+
+
 def _model(path: str) -> Model:
-    return read_model(_read_text(path), "standard input" if path == "-" else path)
+    return read_model(_read_text(path), _called(path))
 
 
 def _question(model: Model, formula: str, raw: bool) -> Question:
@@ -93,8 +97,9 @@ def ask(words: argparse.Namespace) -> int:
         state = None if words.state is None else model.states.index(words.state)
         sys.stdout.write(render_answer(answer, question, state))
         return ANSWERED
-    about = reasons(answer.number, question, chain(_complaints(question), too_long))
-    sys.stdout.write(render_refusal(answer.number, about))
+    about = stands_at(answer.number, answer.offset, data, question.model) if answer.offset else []
+    about += reasons(answer.number, question, chain(_complaints(question), too_long))
+    sys.stdout.write(render_refusal(answer, about))
     return REFUSED
 
 
@@ -129,7 +134,8 @@ def compile_command(words: argparse.Namespace) -> int:
 
 def show(words: argparse.Namespace) -> int:
     """Writes messages as text: a model, a formula, or both, the formula then as a comment."""
-    model, formula = decode(_read_bytes(words.file), words.file, words.raw)
+    named = _model(words.names) if words.names else None
+    model, formula = decode(_read_bytes(words.file), _called(words.file), words.raw, named)
     if words.only == "model":
         if model is None:
             raise Mistake(Place(words.file), "there is no model here")
@@ -179,6 +185,7 @@ def _parser() -> argparse.ArgumentParser:
     shows = add("show", "write messages as text again", show)
     shows.add_argument("file", metavar="FILE", help="a model, a formula, or a model followed by a formula; - for standard input")
     shows.add_argument("--only", choices=("model", "formula"), help="write this part alone")
+    shows.add_argument("--names", metavar="MODEL", help="tell a fault in the names of this model's text")
     shows.add_argument("--raw", action="store_true", help="check no limits")
     return parser
 

@@ -1,14 +1,17 @@
 """From message bytes back to models and formulas.
 
-Faults are looked for in document 01's order and the first is raised, with its byte and number. Raw
-passes over what text can say too: counts outside their limits, propositions by number.
+Faults are looked for in document 01's order and the first is raised, with its number and, by request 4,
+the offset of the field that is wrong. Raw passes over what text can say too: counts outside their limits,
+propositions by number.
 """
 
 from __future__ import annotations
 
 import struct
+from dataclasses import dataclass
 from typing import List, Optional, Tuple
 
+from .fields import spot
 from .formula import Formula
 from .mistakes import Mistake, Place
 from .model import Model, Transition
@@ -38,18 +41,40 @@ from .paper import (
 )
 
 
+class Fault(Mistake):
+    """The first fault of a message: its number, and its offset in the message, 0 where no field is wrong."""
+
+    def __init__(self, message: "_Message", number: int, offset: int, words: str) -> None:
+        self.number = number
+        self.offset = offset
+        self.spot = spot(message.what, message.data, offset, message.named) if offset else None
+        super().__init__(Place(message.path), f"{self.where(message)}: {words} (refusal {number}, {REFUSALS[number].name})")
+
+    def where(self, message: "_Message") -> str:
+        if self.spot is None:
+            return f"in the {message.what}"
+        in_file = f" ({message.start + self.offset} of the file)" if message.start else ""
+        return f"byte {self.offset} of the {message.what}{in_file}, {self.spot}"
+
+    def __str__(self) -> str:
+        """The fault, and the record's bytes with a mark under the field."""
+        lines = self.spot.marked().splitlines() if self.spot else []
+        return "\n    ".join([super().__str__(), *lines])
+
+
+@dataclass(frozen=True)
 class _Message:
     """One message within a file, and how its faults are told."""
 
-    def __init__(self, data: bytes, what: str, path: str, start: int, raw: bool) -> None:
-        self.data = data
-        self.what = what
-        self.path = path
-        self.start = start
-        self.raw = raw
+    data: bytes
+    what: str
+    path: str
+    start: int
+    raw: bool
+    named: Optional[Model]
 
-    def fault(self, number: int, at: int, words: str) -> Mistake:
-        return Mistake(Place(self.path), f"byte {self.start + at}, in the {self.what}: {words} (refusal {number}, {REFUSALS[number].name})")
+    def fault(self, number: int, offset: int, words: str) -> Fault:
+        return Fault(self, number, offset, words)
 
     def header(self, layout: str, kind: int) -> Tuple[int, ...]:
         """The counts of the header, once length, version and kind are right."""
@@ -74,9 +99,10 @@ class _Message:
             raise self.fault(LENGTH, 0, f"its counts ask for {length} bytes and there are {len(self.data)}")
 
 
-def decode_model(data: bytes, path: str = "message", start: int = 0, raw: bool = False) -> Model:
-    """A model with the names s0, s1 .. for its states and p0, p1 .. for its propositions."""
-    message = _Message(data, "model", path, start, raw)
+def decode_model(data: bytes, path: str = "message", raw: bool = False, named: Optional[Model] = None) -> Model:
+    """A model with the names s0, s1 .. for its states and p0, p1 .. for its propositions. Faults are told in
+    the names of another, if one is given."""
+    message = _Message(data, "model", path, 0, raw, named)
     states, propositions, transitions = message.header(MODEL_HEADER, MODEL_KIND)
     message.limit("states", states, 6)
     message.limit("propositions", propositions, 8)
@@ -105,9 +131,9 @@ def decode_model(data: bytes, path: str = "message", start: int = 0, raw: bool =
     return model
 
 
-def decode_formula(data: bytes, propositions: int, path: str = "message", start: int = 0, raw: bool = False) -> Formula:
+def decode_formula(data: bytes, propositions: int, path: str = "message", start: int = 0, raw: bool = False, named: Optional[Model] = None) -> Formula:
     """A formula over so many propositions."""
-    message = _Message(data, "formula", path, start, raw)
+    message = _Message(data, "formula", path, start, raw, named)
     (count,) = message.header(FORMULA_HEADER, FORMULA_KIND)
     message.limit("rows", count, 6)
     at, record = struct.calcsize(FORMULA_HEADER), struct.calcsize(ROW)
@@ -150,14 +176,32 @@ def _row(message: _Message, at: int, earlier: List[Formula], uses: List[int], pr
     )
 
 
-def decode(data: bytes, path: str, raw: bool = False) -> Tuple[Optional[Model], Optional[Formula]]:
+def _end_of_model(data: bytes) -> int:
+    """Where a model at the front ends by its length field; the end of all where that can't be."""
+    (length,) = struct.unpack_from(">I", data) if len(data) >= 4 else (0,)
+    return length if struct.calcsize(MODEL_HEADER) <= length <= len(data) else len(data)
+
+
+def decode(data: bytes, path: str, raw: bool = False, named: Optional[Model] = None) -> Tuple[Optional[Model], Optional[Formula]]:
     """A model, a formula, or a model followed by a formula."""
     if len(data) >= 6 and data[5] == FORMULA_KIND:
         # alone, a formula may speak of any proposition that a model could have
-        return None, decode_formula(data, LIMITS["propositions"][1], path, raw=raw)
-    (length,) = struct.unpack_from(">I", data) if len(data) >= 4 else (0,)
-    end = length if struct.calcsize(MODEL_HEADER) <= length <= len(data) else len(data)
-    model = decode_model(data[:end], path, raw=raw)
+        return None, decode_formula(data, LIMITS["propositions"][1], path, raw=raw, named=named)
+    end = _end_of_model(data)
+    model = decode_model(data[:end], path, raw, named)
     if end == len(data):
         return model, None
-    return model, decode_formula(data[end:], len(model.propositions), path, end, raw)
+    return model, decode_formula(data[end:], len(model.propositions), path, end, raw, named)
+
+
+def stands_at(number: int, offset: int, data: bytes, named: Model) -> List[str]:
+    """What stands at the offset of a refusal, for a model followed by a formula. The program doesn't say in which of the two it
+    is: where the first fault found here isn't the program's, both are told."""
+    end = _end_of_model(data)
+    spots = {what: spot(what, message, offset, named) for what, message in (("model", data[:end]), ("formula", data[end:]))}
+    try:
+        decode(data, "", named=named)
+    except Fault as fault:
+        if (fault.number, fault.offset) == (number, offset):
+            spots = {what: found for what, found in spots.items() if found == fault.spot}
+    return [f"byte {offset} of the {what}: {found}, is {found.field.value}" for what, found in spots.items() if found]

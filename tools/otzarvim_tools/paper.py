@@ -9,11 +9,17 @@ VERSION = 1
 MODEL_KIND = 2
 FORMULA_KIND = 3
 
-MODEL_HEADER = ">IBBHBI"  # length, version, kind, states, propositions, transitions
+# The layout of each record, and the names of its fields.
+MODEL_HEADER = ">IBBHBI"
+MODEL_HEADER_FIELDS = ("length", "version", "kind", "states", "propositions", "transitions")
 LABEL = ">I"
-TRANSITION = ">HIH"  # from, weight, to
-FORMULA_HEADER = ">IBBB"  # length, version, kind, rows
-ROW = ">BBBBI"  # operator, left, right, zero, bound
+LABEL_FIELDS = ("label",)
+TRANSITION = ">HIH"
+TRANSITION_FIELDS = ("from", "weight", "to")
+FORMULA_HEADER = ">IBBB"
+FORMULA_HEADER_FIELDS = ("length", "version", "kind", "rows")
+ROW = ">BBBBI"
+ROW_FIELDS = ("operator", "left", "right", "zero", "bound")
 
 NO_BOUND = 4_294_967_295
 LARGEST_WEIGHT = 4_294_967_295

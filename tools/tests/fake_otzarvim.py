@@ -1,8 +1,7 @@
 #!/usr/bin/env python3
-"""A stand-in for the program, written from document 01 and request 1 alone; it shares nothing with the package.
+"""A stand-in for the program, written from document 01 and requests 1 and 4 alone; it shares nothing with the package.
 
-It is there for answers: of refusals it gives 2 for input that is too long, 6 for a proposition that the
-model doesn't have, 8 and 9. All else it trusts.
+It gives every refusal that the program can give but those of its text and value rooms and its budget, which suffice.
 """
 
 import sys
@@ -29,6 +28,59 @@ def read(data):
         at = end + 7 + 8 * r
         rows.append((data[at], data[at + 1], data[at + 2], number(data, at + 4, 4)))
     return labels, leads, rows
+
+
+def fault_of_model(data):
+    """The number and the offset of the first fault, or None."""
+    if len(data) < 13 or number(data, 0, 4) != len(data):
+        return 2, 0
+    states, propositions, transitions = number(data, 6, 2), data[8], number(data, 9, 4)
+    for wrong, refused, at in (
+        (data[4] != 1, 3, 4), (data[5] != 2, 3, 5), (not 1 <= states <= 256, 4, 6), (propositions > 32, 4, 8), (transitions > 65535, 4, 9),
+        (len(data) != 13 + 4 * states + 8 * transitions, 2, 0),
+    ):
+        if wrong:
+            return refused, at
+    for at in range(13, 13 + 4 * states, 4):
+        if number(data, at, 4) >> propositions:
+            return 10, at
+    before = 0
+    for at in range(13 + 4 * states, len(data), 8):
+        source = number(data, at, 2)
+        for wrong, refused, place in ((source >= states, 6, at), (source < before, 5, at), (number(data, at + 6, 2) >= states, 6, at + 6)):
+            if wrong:
+                return refused, place
+        before = source
+    return None
+
+
+def fault_of_formula(data, propositions):
+    """The same for a formula over so many propositions."""
+    if len(data) < 7 or number(data, 0, 4) != len(data):
+        return 2, 0
+    for wrong, refused, at in ((data[4] != 1, 3, 4), (data[5] != 3, 3, 5), (not 1 <= data[6] <= 64, 4, 6), (len(data) != 7 + 8 * data[6], 2, 0)):
+        if wrong:
+            return refused, at
+    uses = [0] * data[6]
+    for r in range(data[6]):
+        at = 7 + 8 * r
+        operator, left, right, zero = data[at:at + 4]
+        binary = operator in (4, 5, 8, 9)
+        for wrong, refused, place in (
+            (operator > 9, 10, at),
+            (operator < 2 and left, 10, at + 1),
+            (not binary and right, 10, at + 2),
+            (zero, 10, at + 3),
+            (operator < 6 and number(data, at + 4, 4), 10, at + 4),
+            (operator in (2, 3) and left >= propositions, 6, at + 1),
+            (operator >= 4 and left >= r, 6, at + 1),
+            (binary and right >= r, 6, at + 2),
+        ):
+            if wrong:
+                return refused, place
+        for row in ([left] if operator >= 4 else []) + ([right] if binary else []):
+            uses[row] += 1
+    return None if all(times == 1 for times in uses[:-1]) else (10, 0)
 
 
 def text(rows, r):
@@ -87,11 +139,13 @@ def next_round(hypers, covers, values):
 
 
 def answer(data):
-    if len(data) > 8192:
+    end = number(data, 0, 4)
+    if not 4 <= len(data) <= 8192 or end > len(data):
         return "refused 2\n"
+    fault = fault_of_model(data[:end]) or fault_of_formula(data[end:], data[8])
+    if fault:
+        return "refused %d at %d\n" % fault if fault[1] else "refused %d\n" % fault[0]
     labels, leads, rows = read(data)
-    if any(row[0] in (2, 3) and row[1] >= data[8] for row in rows):
-        return "refused 6\n"
     hypers, covers = graph(labels, leads, rows)
     if len(hypers) > 4096:
         return "refused 8\n"

@@ -16,9 +16,10 @@ class Reading(Case):
     def test_answers(self):
         self.assertEqual(read_answer("E[p0 U<=2 p1]\nrounds 4\n0 yes\n1 no\n", 2), Answer("E[p0 U<=2 p1]", 4, [True, False]))
         self.assertEqual(read_answer("refused 10\n", 2), Refused(10))
+        self.assertEqual(read_answer("refused 6 at 21\n", 2), Refused(6, 21))
 
     def test_what_is_no_answer(self):
-        for output in ("", "refused\n", "refused 3", "p0\nrounds 1\n0 yes\n", "p0\nrounds 1\n1 yes\n0 no\n", "p0\nrounds 1\n0 yes\n1 no\n2 no\n", "p0\nrounds x\n0 yes\n1 yes\n", "p0\nrounds 1\n0 yes\n1 no"):
+        for output in ("", "refused\n", "refused 3", "refused 3 at\n", "refused 3 at 0\n", "refused 3 at 04\n", "refused 3 4\n", "refused 3 at 4", "p0\nrounds 1\n0 yes\n", "p0\nrounds 1\n1 yes\n0 no\n", "p0\nrounds 1\n0 yes\n1 no\n2 no\n", "p0\nrounds x\n0 yes\n1 yes\n", "p0\nrounds 1\n0 yes\n1 no"):
             self.mistake(lambda: read_answer(output, 2), "isn't an answer")
 
 
@@ -140,14 +141,32 @@ class Asking(Case):
         self.assertEqual(self.otz("ask", alone, "A[true U !a]", "--program", FAKE)[1].splitlines()[-1], "a  no")
 
     def test_raw_leaves_refusing_to_the_program(self):
-        for model, formula, number, said in (
-            (self.model, "p9", 6, "there is no proposition p9"),
-            (self.model, "EX " * 64 + "p0", 4, "65 rows: 1 to 64 are allowed"),
-            (self.write("empty.otz", ""), "true", 4, "0 states: 1 to 256 are allowed"),
+        full = self.write("full.otz", "a: " + ", ".join(f"x{i}" for i in range(33)))
+        for model, formula, refused, at, said in (
+            (self.model, "p9", "refused 6 at 8, NAME: ", "byte 8 of the formula: row 0 (p9), field left, is 9", "formula: there is no proposition p9: the model has 2"),
+            (self.model, "EX " * 64 + "p0", "refused 4 at 6, LIMIT: ", "byte 6 of the formula: header, field rows, is 65", "formula: 65 rows: 1 to 64 are allowed"),
+            (self.write("empty.otz", ""), "true", "refused 4 at 6, LIMIT: ", "byte 6 of the model: header, field states, is 0", "0 states: 1 to 256 are allowed"),
+            (full, "true", "refused 4 at 8, LIMIT: ", "byte 8 of the model: header, field propositions, is 33", "33 propositions: 0 to 32 are allowed"),
         ):
-            status, out, _ = self.otz("ask", model, formula, "--raw", "--program", self.says(f"refused {number}\\n"))
-            self.assertEqual((status, out.split(",")[0]), (1, f"refused {number}"))
-            self.assertIn(said, out)
+            status, out, _ = self.otz("ask", model, formula, "--raw", "--program", FAKE)
+            first, *rest = out.splitlines()
+            self.assertEqual((status, first[:len(refused)]), (1, refused))
+            self.assertEqual(rest[0], at)
+            self.assertTrue(rest[1].endswith(said), out)
+            self.assertEqual(len(rest), 2)
+
+    def test_a_place_is_told_in_names(self):
+        # a program that finds a fault where there is none: what stands there in each message is told
+        for offset, said in (
+            (13, ["byte 13 of the model: state 0 (zero), field label, is 5"]),
+            (35, ["byte 35 of the model: transition 1 (zero -> one), field to, is 1"]),
+            (25, ["byte 25 of the formula: row 2 (E[row 0 U<=2 row 1]), field right, is 1"]),
+            (8, ["byte 8 of the model: header, field propositions, is 3", "byte 8 of the formula: row 0 (zero), field left, is 2"]),
+            (22, []),
+            (4000, []),
+        ):
+            status, out, _ = self.otz("ask", self.model, "E[zero U<=2 !p1]", "--program", self.says(f"refused 6 at {offset}\\n"))
+            self.assertEqual((status, out.splitlines()), (1, [f"refused 6 at {offset}, NAME: {REFUSALS[6].meaning}", *said]))
 
     def test_graphs_that_are_too_large(self):
         ring = self.write("ring.otz", "".join(f"s{i} -> s{(i + 1) % 256} 1\n" for i in range(256)))
@@ -178,6 +197,20 @@ class Files(Case):
         # the text of both is a model's text as well, because the formula is a comment
         self.otz("compile", self.write("both.otz", text), "-o", again)
         self.assertTrue(out.read_bytes().startswith(again.read_bytes()))
+
+    def test_damaged_bytes_are_marked(self):
+        names, out = self.write("m.otz", "cold -> hot 12\nhot -> cold 3\ncold: idle\n"), self.folder / "m.bin"
+        self.otz("compile", names, "EX idle", "-o", out)
+        good = out.read_bytes()
+        for at, byte, words, said in (
+            (28, 2, (), "byte 27 of the model, transition 0 (s0 -> ?), field to: a transition to state 2 of 2 (refusal 6, NAME)\n    21  0000 0000000C 0002\n                      ^^^^\n"),
+            (28, 2, ("--names", names), "byte 27 of the model, transition 0 (cold -> ?), field to: a transition to state 2 of 2 (refusal 6, NAME)\n    21  0000 0000000C 0002\n                      ^^^^\n"),
+            (4, 7, (), "byte 4 of the model, header, field version: version 7, not 1 (refusal 3, VERSION)\n    0  00000025 07 02 0002 01 00000002\n                ^^\n"),
+            (37 + 11, 1, ("--names", names), "byte 11 of the formula (48 of the file), row 0 (idle), field bound: row 0 has 16777216 in a field that it doesn't use (refusal 10, FORM)\n    7  02 00 00 00 01000000\n                   ^^^^^^^^\n"),
+            (3, 36, (), "in the model: its counts ask for 37 bytes and there are 36 (refusal 2, LENGTH)\n"),
+        ):
+            damaged = self.write("damaged", good[:at] + bytes([byte]) + good[at + 1:])
+            self.assertEqual(self.otz("show", damaged, *words), (2, "", f"{damaged}: {said}"), at)
 
     def test_one_part_that_is_not_there(self):
         path, out = self.write("m.otz", M), self.folder / "m.bin"

@@ -5,7 +5,7 @@ from collections.abc import Iterator
 
 from otzarvim_tools import checks
 from otzarvim_tools.compiler import compile_formula, compile_model
-from otzarvim_tools.decoder import decode
+from otzarvim_tools.decoder import Fault, decode
 from otzarvim_tools.formula import Formula
 from otzarvim_tools.formula_text import read_formula
 from otzarvim_tools.mistakes import Mistake, Place
@@ -47,6 +47,16 @@ def random_questions(seed: int, many: int) -> Iterator[tuple[Model, Formula]]:
     for _ in range(many):
         over = random_model(chance)
         yield over, random_formula(chance, len(over.propositions))
+
+
+def damaged_questions(seed: int, many: int) -> Iterator[bytes]:
+    """A model and a formula, a byte or two of which are changed; the model still ends where it did, and has its kind."""
+    chance = random.Random(seed)
+    for over, asked in random_questions(seed, many):
+        data = bytearray(compile_model(over) + compile_formula(asked))
+        for _ in range(chance.randint(1, 2)):
+            data[chance.choice([at for at in range(4, len(data)) if at != 5])] = chance.choice((0, 1, 2, 3, 4, 9, 10, 33, 64, 65, 255))
+        yield bytes(data)
 
 
 class Compiling(Case):
@@ -100,39 +110,52 @@ class Faults(Case):
 
     def test_first_fault_of_a_model(self):
         for data, said in (
-            (b"", "LENGTH"),
+            (b"", "in the model: 0 bytes are too few for its header (refusal 2, LENGTH)"),
             (M_BYTES[:12], "LENGTH"),
-            (M_BYTES[:44], "LENGTH"),
-            (M_BYTES + b"\0", "byte 45, in the formula: 1 bytes are too few"),
-            (self.change(M_BYTES, 4, 2), "byte 4, in the model: version 2"),
-            (self.change(M_BYTES, 5, 1), "byte 5, in the model: kind 1"),
-            (self.change(M_BYTES, 6, 0, 0), "byte 6, in the model: 0 states: 1 to 256 are allowed (refusal 4, LIMIT)"),
-            (self.change(M_BYTES, 8, 33), "byte 8, in the model: 33 propositions"),
-            (self.change(M_BYTES, 9, 0, 1, 0, 0), "byte 9, in the model: 65536 transitions"),
-            (self.change(M_BYTES, 12, 4), "its counts ask for 53 bytes"),
-            (self.change(M_BYTES, 16, 4), "byte 13, in the model: the label of state 0"),
-            (self.change(M_BYTES, 22, 2), "byte 21, in the model: a transition from state 2 of 2 (refusal 6, NAME)"),
-            (self.change(M_BYTES, 22, 1), "byte 29, in the model: a transition from state 0 after one from state 1 (refusal 5, ORDER)"),
-            (self.change(M_BYTES, 28, 2), "byte 27, in the model: a transition to state 2 of 2"),
+            (M_BYTES[:44], "in the model: the length field says 45 and there are 44 bytes"),
+            (M_BYTES + b"\0", "in the formula: 1 bytes are too few"),
+            (self.change(M_BYTES, 4, 2), "byte 4 of the model, header, field version: version 2"),
+            (self.change(M_BYTES, 5, 1), "byte 5 of the model, header, field kind: kind 1"),
+            (self.change(M_BYTES, 6, 0, 0), "byte 6 of the model, header, field states: 0 states: 1 to 256 are allowed (refusal 4, LIMIT)"),
+            (self.change(M_BYTES, 8, 33), "byte 8 of the model, header, field propositions: 33 propositions"),
+            (self.change(M_BYTES, 9, 0, 1, 0, 0), "byte 9 of the model, header, field transitions: 65536 transitions"),
+            (self.change(M_BYTES, 12, 4), "in the model: its counts ask for 53 bytes"),
+            (self.change(M_BYTES, 16, 4), "byte 13 of the model, state 0 (s0), field label: the label of state 0"),
+            (self.change(M_BYTES, 22, 2), "byte 21 of the model, transition 0 (? -> s0), field from: a transition from state 2 of 2 (refusal 6, NAME)"),
+            (self.change(M_BYTES, 22, 1), "byte 29 of the model, transition 1 (s0 -> s1), field from: a transition from state 0 after one from state 1 (refusal 5, ORDER)"),
+            (self.change(M_BYTES, 28, 2), "byte 27 of the model, transition 0 (s0 -> ?), field to: a transition to state 2 of 2"),
         ):
             self.mistake(lambda: decode(data, "x.bin"), "x.bin: ", said)
 
     def test_first_fault_of_a_formula(self):
         for at, value, said in (
-            (4, 2, "version 2"),
-            (6, 0, "byte 51, in the formula: 0 rows"),
-            (6, 2, "its counts ask for 23 bytes"),
-            (7, 10, "byte 52, in the formula: there is no operator 10 (refusal 10, FORM)"),
-            (9, 1, "byte 54, in the formula: row 0 has 1 in a field"),
-            (10, 1, "byte 55, in the formula: row 0 has 1 in a field"),
-            (14, 1, "byte 56, in the formula: row 0 has 1 in a field"),
-            (8, 2, "byte 53, in the formula: row 0 is about proposition 2 of 2 (refusal 6, NAME)"),
-            (24, 2, "byte 69, in the formula: row 2 has row 2 as operand"),
-            (25, 7, "byte 70, in the formula: row 2 has row 7 as operand"),
-            (25, 0, "row 0 is an operand 2 times"),
+            (4, 2, "byte 4 of the formula (49 of the file), header, field version: version 2"),
+            (6, 0, "byte 6 of the formula (51 of the file), header, field rows: 0 rows"),
+            (6, 2, "in the formula: its counts ask for 23 bytes"),
+            (7, 10, "byte 7 of the formula (52 of the file), row 0 (?), field operator: there is no operator 10 (refusal 10, FORM)"),
+            (9, 1, "byte 9 of the formula (54 of the file), row 0 (p0), field right: row 0 has 1 in a field"),
+            (10, 1, "byte 10 of the formula (55 of the file), row 0 (p0), field zero: row 0 has 1 in a field"),
+            (14, 1, "byte 11 of the formula (56 of the file), row 0 (p0), field bound: row 0 has 1 in a field"),
+            (8, 2, "byte 8 of the formula (53 of the file), row 0 (p2), field left: row 0 is about proposition 2 of 2 (refusal 6, NAME)"),
+            (24, 2, "byte 24 of the formula (69 of the file), row 2 (E[row 2 U<=2 row 1]), field left: row 2 has row 2 as operand"),
+            (25, 7, "byte 25 of the formula (70 of the file), row 2 (E[row 0 U<=2 row 7]), field right: row 2 has row 7 as operand"),
+            (25, 0, "in the formula: row 0 is an operand 2 times"),
         ):
             data = M_BYTES + self.change(UNTIL_BYTES, at, value)
             self.mistake(lambda: decode(data, "x.bin"), said)
+
+    def test_faults_are_the_programs(self):
+        for data in damaged_questions(5, 3000):
+            said = fake_otzarvim.answer(data)
+            try:
+                understood = decode(data, "x")[1]
+            except Fault as fault:
+                at = f" at {fault.offset}" if fault.offset else ""
+                self.assertEqual(said, f"refused {fault.number}{at}\n", data.hex())
+                self.assertEqual(fault.spot is None, fault.offset == 0)
+            else:
+                # the program wants both messages
+                self.assertEqual(said.split("\n")[0], understood.text() if understood else "refused 2", data.hex())
 
     def test_changed_bytes_are_a_fault_or_another_message(self):
         chance = random.Random(3)

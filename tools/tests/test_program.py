@@ -12,7 +12,7 @@ from otzarvim_tools.running import VARIABLE, run
 
 from . import fake_otzarvim
 from .common import Case
-from .test_messages import random_questions
+from .test_messages import damaged_questions, random_questions
 
 
 @unittest.skipUnless(os.environ.get(VARIABLE), f"the variable {VARIABLE} doesn't name the program")
@@ -20,6 +20,10 @@ class Program(Case):
     def test_answers_as_the_stand_in(self):
         for model, asked in random_questions(2, 60):
             data = compile_model(model) + compile_formula(asked)
+            self.assertEqual(run(Path(os.environ[VARIABLE]), data), fake_otzarvim.answer(data), data.hex())
+
+    def test_refuses_as_the_stand_in(self):
+        for data in damaged_questions(6, 60):
             self.assertEqual(run(Path(os.environ[VARIABLE]), data), fake_otzarvim.answer(data), data.hex())
 
     def test_input_that_is_too_long(self):

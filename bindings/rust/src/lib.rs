@@ -1,7 +1,7 @@
 //! A proved checker for weighted CTL with upper bounds.
 //!
 //! Messages are bytes: a graph, a model or a formula. Any bytes may be handed in; a message that is not well-formed is refused, and
-//! the [`Refusal`] says what its first fault is. A refusal leaves every lent slice as it came, and nothing is allocated but by
+//! the [`Fault`] says what is wrong first, and where. A refusal leaves every lent slice as it came, and nothing is allocated but by
 //! [`settled`], [`text_of`], [`satisfies`] and [`satisfying`].
 //!
 //! ```
@@ -9,7 +9,7 @@
 //! let model = [0, 0, 0, 25, 1, 2, 0, 1, 0, 0, 0, 0, 1, 0, 0, 0, 0, 0, 0, 0, 0, 0, 5, 0, 0];
 //! let formula = [0, 0, 0, 23, 1, 3, 2, 0, 0, 0, 0, 0, 0, 0, 0, 6, 0, 0, 0, 0, 0, 0, 5]; // EX<=5 true
 //! assert_eq!(otzarvim::satisfies(&model, &formula, 0), Ok(true));
-//! assert_eq!(otzarvim::satisfies(&model, &formula, 1), Err(otzarvim::Refusal::Name));
+//! assert_eq!(otzarvim::satisfies(&model, &formula, 1), Err(otzarvim::Refusal::Name.at(0)));
 //! ```
 
 use std::error::Error;
@@ -18,9 +18,9 @@ use std::fmt;
 mod foreign {
     #[link(name = "otzarvim", kind = "static")]
     extern "C" {
-        pub fn otzarvim_graph_check(message: *const u8, message_length: usize, counts: *mut u32) -> u8;
-        pub fn otzarvim_model_check(message: *const u8, message_length: usize, counts: *mut u32) -> u8;
-        pub fn otzarvim_formula_check(message: *const u8, message_length: usize, p: u32, rows: *mut u32) -> u8;
+        pub fn otzarvim_graph_check(message: *const u8, message_length: usize, counts: *mut u32, offset: *mut usize) -> u8;
+        pub fn otzarvim_model_check(message: *const u8, message_length: usize, counts: *mut u32, offset: *mut usize) -> u8;
+        pub fn otzarvim_formula_check(message: *const u8, message_length: usize, p: u32, rows: *mut u32, offset: *mut usize) -> u8;
         pub fn otzarvim_rounds_solve(
             message: *const u8,
             message_length: usize,
@@ -28,6 +28,7 @@ mod foreign {
             room: *mut u64,
             room_length: usize,
             count: *mut u32,
+            offset: *mut usize,
         ) -> u8;
         pub fn otzarvim_search(
             message: *const u8,
@@ -37,6 +38,7 @@ mod foreign {
             words_length: usize,
             verdict: *mut u8,
             count: *mut u64,
+            offset: *mut usize,
         ) -> u8;
         pub fn otzarvim_formula_text(
             message: *const u8,
@@ -45,6 +47,7 @@ mod foreign {
             room: *mut u8,
             room_length: usize,
             length: *mut usize,
+            offset: *mut usize,
         ) -> u8;
         pub fn otzarvim_verdict(
             model: *const u8,
@@ -60,6 +63,7 @@ mod foreign {
             verdict: *mut u8,
             count: *mut u32,
             length: *mut usize,
+            offset: *mut usize,
         ) -> u8;
         pub fn otzarvim_graph(
             model: *const u8,
@@ -69,6 +73,7 @@ mod foreign {
             bytes: *mut u8,
             bytes_length: usize,
             length: *mut usize,
+            offset: *mut usize,
         ) -> u8;
         pub fn otzarvim_settle(
             model: *const u8,
@@ -83,6 +88,7 @@ mod foreign {
             count: *mut u32,
             length: *mut usize,
             states: *mut u32,
+            offset: *mut usize,
         ) -> u8;
     }
 }
@@ -105,7 +111,7 @@ pub const MOST_VALUES: usize = 2 * 4_096;
 /// A budget with which every question settles: no graph has more nodes, and none that is built needs more rounds than it has nodes.
 pub const MOST_ROUNDS: u32 = 4_096;
 
-/// Why a call is refused. Each case has the number that C sees; that of a spent budget, 1, is [`Rounds::Spent`], [`Answer::Spent`]
+/// What is wrong, where a call is refused. Each case has the number that C sees; that of a spent budget, 1, is [`Rounds::Spent`], [`Answer::Spent`]
 /// and [`Answers::Spent`].
 #[derive(Clone, Copy, Debug, PartialEq, Eq, Hash)]
 pub enum Refusal {
@@ -165,9 +171,14 @@ impl Refusal {
         Refusal::ALL.into_iter().find(|refusal| refusal.number() == number)
     }
 
-    /// The refusal of a number that a function of the library returned, which is proved to be one of the paper's.
-    fn of(number: u8) -> Refusal {
-        Refusal::from_number(number).unwrap_or_else(|| unreachable!("the library returned {number}"))
+    /// The fault with this refusal at an offset; 0 where no field is wrong.
+    ///
+    /// ```
+    /// let fault = otzarvim::Refusal::Name.at(21);
+    /// assert_eq!((fault.refusal.number(), fault.offset), (6, 21));
+    /// ```
+    pub fn at(self, offset: usize) -> Fault {
+        Fault { refusal: self, offset }
     }
 }
 
@@ -189,6 +200,56 @@ impl fmt::Display for Refusal {
 }
 
 impl Error for Refusal {}
+
+/// Why a call is refused: what is wrong, and where.
+///
+/// ```
+/// // A state without propositions, and a transition of weight 5 to state 1.
+/// let model = [0, 0, 0, 25, 1, 2, 0, 1, 0, 0, 0, 0, 1, 0, 0, 0, 0, 0, 0, 0, 0, 0, 5, 0, 1];
+/// let fault = otzarvim::check_model(&model).unwrap_err();
+/// assert_eq!((fault.refusal, fault.offset), (otzarvim::Refusal::Name, 23));
+/// assert_eq!(fault.to_string(), "a node, state, proposition or operand that doesn't exist, at byte 23");
+///
+/// // Every function says it: here of that model, of a row with no operator, and of a hyperedge whose source doesn't exist.
+/// let formula = [0, 0, 0, 15, 1, 3, 1, 77, 0, 0, 0, 0, 0, 0, 0];
+/// let graph = [0, 0, 0, 18, 1, 1, 0, 1, 0, 0, 0, 1, 0, 0, 0, 1, 0, 0];
+/// let (mut bytes, mut values, mut words) = ([0; 9], [0; 9], [0; 9]);
+/// assert_eq!(otzarvim::verdict(&model, &formula, 0, 9, &mut bytes, &mut values), Err(fault));
+/// assert_eq!(otzarvim::settle(&model, &formula, 9, &mut bytes, &mut values), Err(fault));
+/// assert_eq!(otzarvim::graph(&model, &formula, &mut bytes), Err(fault));
+/// assert_eq!(otzarvim::text(&formula, 0, &mut bytes), Err(otzarvim::Refusal::Form.at(7)));
+/// assert_eq!(otzarvim::solve(&graph, 9, &mut values), Err(otzarvim::Refusal::Name.at(14)));
+/// assert_eq!(otzarvim::search(&graph, 0, &mut words), Err(otzarvim::Refusal::Name.at(14)));
+/// ```
+#[derive(Clone, Copy, Debug, PartialEq, Eq, Hash)]
+pub struct Fault {
+    /// What is wrong.
+    pub refusal: Refusal,
+    /// Where the first byte of the field stands that was found wrong, counted from the start of the message at fault: of two
+    /// messages the model, where [`check_model`] refuses it, else the formula.
+    ///
+    /// It is 0 where no field is: for [`Refusal::Length`], [`Refusal::Size`], [`Refusal::Room`] and [`Refusal::Profile`], for a number
+    /// handed in beside a message (the propositions, the state, the root), and for a formula a row of which is not used exactly once.
+    pub offset: usize,
+}
+
+impl Fault {
+    /// The fault of a number that a function of the library returned, which is proved to be one of the paper's.
+    fn of(number: u8, offset: usize) -> Fault {
+        Refusal::from_number(number).unwrap_or_else(|| unreachable!("the library returned {number}")).at(offset)
+    }
+}
+
+impl fmt::Display for Fault {
+    fn fmt(&self, f: &mut fmt::Formatter) -> fmt::Result {
+        match self.offset {
+            0 => write!(f, "{}", self.refusal),
+            offset => write!(f, "{}, at byte {offset}", self.refusal),
+        }
+    }
+}
+
+impl Error for Fault {}
 
 /// The counts of an accepted graph message.
 #[derive(Clone, Copy, Debug, PartialEq, Eq, Hash)]
@@ -298,18 +359,19 @@ pub enum Answers<'a> {
 ///
 /// let graph = [0, 0, 0, 18, 1, 1, 0, 1, 0, 0, 0, 1, 0, 0, 0, 0, 0, 0];
 /// assert_eq!(otzarvim::check_graph(&graph), Ok(Graph { nodes: 1, hyperedges: 1, covers: 0 }));
-/// assert_eq!(otzarvim::check_graph(&graph[..17]), Err(Refusal::Length));
-/// assert_eq!(otzarvim::check_graph(&[]), Err(Refusal::Length));
+/// assert_eq!(otzarvim::check_graph(&graph[..17]), Err(Refusal::Length.at(0)));
+/// assert_eq!(otzarvim::check_graph(&[]), Err(Refusal::Length.at(0)));
 /// ```
-pub fn check_graph(message: &[u8]) -> Result<Graph, Refusal> {
-    let mut counts = [0; 3];
-    // SAFETY: the message is a slice, and there is room for three counts. The function is proved to read and write only these.
-    match unsafe { foreign::otzarvim_graph_check(message.as_ptr(), message.len(), counts.as_mut_ptr()) } {
+pub fn check_graph(message: &[u8]) -> Result<Graph, Fault> {
+    let (mut counts, mut offset) = ([0; 3], 0);
+    // SAFETY: the message is a slice, and there is room for three counts and an offset. The function is proved to read and write only
+    // these.
+    match unsafe { foreign::otzarvim_graph_check(message.as_ptr(), message.len(), counts.as_mut_ptr(), &mut offset) } {
         0 => {
             let [nodes, hyperedges, covers] = counts;
             Ok(Graph { nodes, hyperedges, covers })
         }
-        number => Err(Refusal::of(number)),
+        number => Err(Fault::of(number, offset)),
     }
 }
 
@@ -322,20 +384,20 @@ pub fn check_graph(message: &[u8]) -> Result<Graph, Refusal> {
 /// let mut model = [0, 0, 0, 25, 1, 2, 0, 1, 0, 0, 0, 0, 1, 0, 0, 0, 0, 0, 0, 0, 0, 0, 5, 0, 0];
 /// assert_eq!(otzarvim::check_model(&model), Ok(Model { states: 1, propositions: 0, transitions: 1 }));
 /// model[24] = 1;
-/// assert_eq!(otzarvim::check_model(&model), Err(Refusal::Name));
+/// assert_eq!(otzarvim::check_model(&model), Err(Refusal::Name.at(23)));
 /// // The same state without a transition: runs end there.
 /// let model = [0, 0, 0, 17, 1, 2, 0, 1, 0, 0, 0, 0, 0, 0, 0, 0, 0];
 /// assert_eq!(otzarvim::check_model(&model), Ok(Model { states: 1, propositions: 0, transitions: 0 }));
 /// ```
-pub fn check_model(message: &[u8]) -> Result<Model, Refusal> {
-    let mut counts = [0; 3];
+pub fn check_model(message: &[u8]) -> Result<Model, Fault> {
+    let (mut counts, mut offset) = ([0; 3], 0);
     // SAFETY: as for check_graph.
-    match unsafe { foreign::otzarvim_model_check(message.as_ptr(), message.len(), counts.as_mut_ptr()) } {
+    match unsafe { foreign::otzarvim_model_check(message.as_ptr(), message.len(), counts.as_mut_ptr(), &mut offset) } {
         0 => {
             let [states, propositions, transitions] = counts;
             Ok(Model { states, propositions, transitions })
         }
-        number => Err(Refusal::of(number)),
+        number => Err(Fault::of(number, offset)),
     }
 }
 
@@ -346,15 +408,15 @@ pub fn check_model(message: &[u8]) -> Result<Model, Refusal> {
 ///
 /// let formula = [0, 0, 0, 15, 1, 3, 1, 2, 7, 0, 0, 0, 0, 0, 0]; // p7
 /// assert_eq!(otzarvim::check_formula(&formula, 8), Ok(1));
-/// assert_eq!(otzarvim::check_formula(&formula, 7), Err(Refusal::Name));
-/// assert_eq!(otzarvim::check_formula(&formula, 33), Err(Refusal::Limit));
+/// assert_eq!(otzarvim::check_formula(&formula, 7), Err(Refusal::Name.at(8)));
+/// assert_eq!(otzarvim::check_formula(&formula, 33), Err(Refusal::Limit.at(0)));
 /// ```
-pub fn check_formula(message: &[u8], propositions: u32) -> Result<u32, Refusal> {
-    let mut rows = 0;
-    // SAFETY: the message is a slice, and rows is a number of its own. The function is proved to read and write only these.
-    match unsafe { foreign::otzarvim_formula_check(message.as_ptr(), message.len(), propositions, &mut rows) } {
+pub fn check_formula(message: &[u8], propositions: u32) -> Result<u32, Fault> {
+    let (mut rows, mut offset) = (0, 0);
+    // SAFETY: the message is a slice, and rows and offset are numbers of its own. The function is proved to read and write only these.
+    match unsafe { foreign::otzarvim_formula_check(message.as_ptr(), message.len(), propositions, &mut rows, &mut offset) } {
         0 => Ok(rows),
-        number => Err(Refusal::of(number)),
+        number => Err(Fault::of(number, offset)),
     }
 }
 
@@ -366,24 +428,32 @@ pub fn check_formula(message: &[u8], propositions: u32) -> Result<u32, Refusal> 
 ///
 /// let graph = [0, 0, 0, 18, 1, 1, 0, 1, 0, 0, 0, 1, 0, 0, 0, 0, 0, 0];
 /// let mut room = [7; 3];
-/// assert_eq!(otzarvim::solve(&graph, 1, &mut room[..1]), Err(Refusal::Room));
+/// assert_eq!(otzarvim::solve(&graph, 1, &mut room[..1]), Err(Refusal::Room.at(0)));
 /// assert_eq!(room, [7, 7, 7]);
 /// assert_eq!(otzarvim::solve(&graph, 0, &mut room), Ok(Rounds::Spent { count: 0 }));
 /// assert_eq!(room, [INFINITE, 0, 7]);
 /// assert_eq!(otzarvim::solve(&graph, 1, &mut room), Ok(Rounds::Settled { count: 1 }));
 /// assert_eq!(room, [0, 0, 7]);
 /// ```
-pub fn solve(message: &[u8], budget: u32, room: &mut [u64]) -> Result<Rounds, Refusal> {
-    let mut count = 0;
-    // SAFETY: two slices, of which the room is lent to this function alone, and a number of its own. The function is proved to read
+pub fn solve(message: &[u8], budget: u32, room: &mut [u64]) -> Result<Rounds, Fault> {
+    let (mut count, mut offset) = (0, 0);
+    // SAFETY: two slices, of which the room is lent to this function alone, and numbers of its own. The function is proved to read
     // and write only these.
     let number = unsafe {
-        foreign::otzarvim_rounds_solve(message.as_ptr(), message.len(), budget, room.as_mut_ptr(), room.len(), &mut count)
+        foreign::otzarvim_rounds_solve(
+            message.as_ptr(),
+            message.len(),
+            budget,
+            room.as_mut_ptr(),
+            room.len(),
+            &mut count,
+            &mut offset,
+        )
     };
     match number {
         0 => Ok(Rounds::Settled { count }),
         1 => Ok(Rounds::Spent { count }),
-        number => Err(Refusal::of(number)),
+        number => Err(Fault::of(number, offset)),
     }
 }
 
@@ -407,13 +477,12 @@ pub struct Found {
 /// let found = otzarvim::search(&graph, 0, &mut words);
 /// assert_eq!(found, Ok(otzarvim::Found { verdict: otzarvim::Verdict::Yes, count: 1 }));
 /// assert_eq!(words, [0, 0, 0, 0, 0, 0, 0, 0, 0, 0, 0, 0, 7]);
-/// assert_eq!(otzarvim::search(&graph, 1, &mut words), Err(otzarvim::Refusal::Name));
-/// assert_eq!(otzarvim::search(&graph, 0, &mut words[..11]), Err(otzarvim::Refusal::Room));
+/// assert_eq!(otzarvim::search(&graph, 1, &mut words), Err(otzarvim::Refusal::Name.at(0)));
+/// assert_eq!(otzarvim::search(&graph, 0, &mut words[..11]), Err(otzarvim::Refusal::Room.at(0)));
 /// ```
-pub fn search(message: &[u8], root: u32, words: &mut [u32]) -> Result<Found, Refusal> {
-    let mut verdict = 0;
-    let mut count = 0;
-    // SAFETY: two slices, of which the words are lent to this function alone, and two numbers of its own. The function is proved to
+pub fn search(message: &[u8], root: u32, words: &mut [u32]) -> Result<Found, Fault> {
+    let (mut verdict, mut count, mut offset) = (0, 0, 0);
+    // SAFETY: two slices, of which the words are lent to this function alone, and numbers of its own. The function is proved to
     // read and write only these.
     let number = unsafe {
         foreign::otzarvim_search(
@@ -424,12 +493,13 @@ pub fn search(message: &[u8], root: u32, words: &mut [u32]) -> Result<Found, Ref
             words.len(),
             &mut verdict,
             &mut count,
+            &mut offset,
         )
     };
     match (number, verdict) {
         (0, 1) => Ok(Found { verdict: Verdict::Yes, count }),
         (0, _) => Ok(Found { verdict: Verdict::No, count }),
-        (number, _) => Err(Refusal::of(number)),
+        (number, _) => Err(Fault::of(number, offset)),
     }
 }
 
@@ -443,7 +513,7 @@ pub fn search(message: &[u8], root: u32, words: &mut [u32]) -> Result<Found, Ref
 /// ];
 /// assert_eq!(otzarvim::settled(&graph), Ok(vec![Some(4294967295), Some(0), None]));
 /// ```
-pub fn settled(message: &[u8]) -> Result<Vec<Option<u64>>, Refusal> {
+pub fn settled(message: &[u8]) -> Result<Vec<Option<u64>>, Fault> {
     let graph = check_graph(message)?;
     let nodes = graph.nodes as usize;
     let mut room = vec![0; 2 * nodes];
@@ -459,18 +529,26 @@ pub fn settled(message: &[u8]) -> Result<Vec<Option<u64>>, Refusal> {
 ///
 /// let formula = [0, 0, 0, 15, 1, 3, 1, 3, 7, 0, 0, 0, 0, 0, 0];
 /// let mut room = [0; 3];
-/// assert_eq!(otzarvim::text(&formula, 32, &mut room[..2]), Err(Refusal::Room));
+/// assert_eq!(otzarvim::text(&formula, 32, &mut room[..2]), Err(Refusal::Room.at(0)));
 /// assert_eq!(otzarvim::text(&formula, 32, &mut room), Ok("!p7"));
 /// ```
-pub fn text<'a>(message: &[u8], propositions: u32, room: &'a mut [u8]) -> Result<&'a str, Refusal> {
-    let mut length = 0;
+pub fn text<'a>(message: &[u8], propositions: u32, room: &'a mut [u8]) -> Result<&'a str, Fault> {
+    let (mut length, mut offset) = (0, 0);
     // SAFETY: as for solve.
     let number = unsafe {
-        foreign::otzarvim_formula_text(message.as_ptr(), message.len(), propositions, room.as_mut_ptr(), room.len(), &mut length)
+        foreign::otzarvim_formula_text(
+            message.as_ptr(),
+            message.len(),
+            propositions,
+            room.as_mut_ptr(),
+            room.len(),
+            &mut length,
+            &mut offset,
+        )
     };
     match number {
         0 => Ok(std::str::from_utf8(&room[..length]).expect("the library writes ASCII")),
-        number => Err(Refusal::of(number)),
+        number => Err(Fault::of(number, offset)),
     }
 }
 
@@ -486,7 +564,7 @@ pub fn text<'a>(message: &[u8], propositions: u32, room: &'a mut [u8]) -> Result
 /// ];
 /// assert_eq!(otzarvim::text_of(&formula, 2).as_deref(), Ok("E[p0 U<=2 p1]"));
 /// ```
-pub fn text_of(message: &[u8], propositions: u32) -> Result<String, Refusal> {
+pub fn text_of(message: &[u8], propositions: u32) -> Result<String, Fault> {
     text(message, propositions, &mut [0; MOST_TEXT]).map(str::to_owned)
 }
 
@@ -513,8 +591,8 @@ pub fn text_of(message: &[u8], propositions: u32) -> Result<String, Refusal> {
 ///     8, 0, 1, 0, 0, 0, 0, 2,
 /// ];
 /// let (mut bytes, mut values) = ([7; 106], [7; 16]);
-/// assert_eq!(otzarvim::verdict(&model, &formula, 2, 9, &mut bytes, &mut values), Err(Refusal::Name));
-/// assert_eq!(otzarvim::verdict(&model, &formula, 0, 9, &mut bytes[1..], &mut values), Err(Refusal::Room));
+/// assert_eq!(otzarvim::verdict(&model, &formula, 2, 9, &mut bytes, &mut values), Err(Refusal::Name.at(0)));
+/// assert_eq!(otzarvim::verdict(&model, &formula, 0, 9, &mut bytes[1..], &mut values), Err(Refusal::Room.at(0)));
 /// assert_eq!((bytes, values), ([7; 106], [7; 16]));
 ///
 /// let yes = Answer::Decided { verdict: Verdict::Yes, count: 4, length: 106 };
@@ -535,8 +613,8 @@ pub fn verdict(
     budget: u32,
     bytes: &mut [u8],
     values: &mut [u64],
-) -> Result<Answer, Refusal> {
-    let (mut verdict, mut count, mut length) = (0, 0, 0);
+) -> Result<Answer, Fault> {
+    let (mut verdict, mut count, mut length, mut offset) = (0, 0, 0, 0);
     // SAFETY: four slices, of which the two rooms are lent to this function alone, and numbers of its own. The function is proved to
     // read and write only these.
     let number = unsafe {
@@ -554,13 +632,14 @@ pub fn verdict(
             &mut verdict,
             &mut count,
             &mut length,
+            &mut offset,
         )
     };
     match (number, verdict) {
         (0, 1) => Ok(Answer::Decided { verdict: Verdict::Yes, count, length }),
         (0, 2) => Ok(Answer::Decided { verdict: Verdict::No, count, length }),
         (1, _) => Ok(Answer::Spent { count, length }),
-        (number, _) => Err(Refusal::of(number)),
+        (number, _) => Err(Fault::of(number, offset)),
     }
 }
 
@@ -572,15 +651,15 @@ pub fn verdict(
 /// let model = [0, 0, 0, 25, 1, 2, 0, 1, 0, 0, 0, 0, 1, 0, 0, 0, 0, 0, 0, 0, 0, 0, 5, 0, 0];
 /// let formula = [0, 0, 0, 23, 1, 3, 2, 0, 0, 0, 0, 0, 0, 0, 0, 6, 0, 0, 0, 0, 0, 0, 5]; // EX<=5 true
 /// let mut bytes = [7; 30];
-/// assert_eq!(otzarvim::graph(&model, &formula, &mut bytes[..27]), Err(Refusal::Room));
+/// assert_eq!(otzarvim::graph(&model, &formula, &mut bytes[..27]), Err(Refusal::Room.at(0)));
 /// assert_eq!(bytes, [7; 30]);
 ///
 /// let graph = otzarvim::graph(&model, &formula, &mut bytes).unwrap();
 /// assert_eq!(otzarvim::check_graph(graph), Ok(Graph { nodes: 2, hyperedges: 2, covers: 0 }));
 /// assert_eq!(graph.len(), 28);
 /// ```
-pub fn graph<'a>(model: &[u8], formula: &[u8], bytes: &'a mut [u8]) -> Result<&'a [u8], Refusal> {
-    let mut length = 0;
+pub fn graph<'a>(model: &[u8], formula: &[u8], bytes: &'a mut [u8]) -> Result<&'a [u8], Fault> {
+    let (mut length, mut offset) = (0, 0);
     // SAFETY: as for verdict.
     let number = unsafe {
         foreign::otzarvim_graph(
@@ -591,11 +670,12 @@ pub fn graph<'a>(model: &[u8], formula: &[u8], bytes: &'a mut [u8]) -> Result<&'
             bytes.as_mut_ptr(),
             bytes.len(),
             &mut length,
+            &mut offset,
         )
     };
     match number {
         0 => Ok(&bytes[..length]),
-        number => Err(Refusal::of(number)),
+        number => Err(Fault::of(number, offset)),
     }
 }
 
@@ -619,7 +699,7 @@ pub fn graph<'a>(model: &[u8], formula: &[u8], bytes: &'a mut [u8]) -> Result<&'
 ///
 /// let spent = Answers::Spent { count: 0, length: 18 };
 /// assert_eq!(otzarvim::settle(&model, &formula, 0, &mut bytes, &mut values), Ok(spent));
-/// assert_eq!(otzarvim::settle(&model, &[], 9, &mut bytes, &mut values), Err(otzarvim::Refusal::Length));
+/// assert_eq!(otzarvim::settle(&model, &[], 9, &mut bytes, &mut values), Err(otzarvim::Refusal::Length.at(0)));
 /// ```
 pub fn settle<'a>(
     model: &[u8],
@@ -627,8 +707,8 @@ pub fn settle<'a>(
     budget: u32,
     bytes: &mut [u8],
     values: &'a mut [u64],
-) -> Result<Answers<'a>, Refusal> {
-    let (mut count, mut length, mut states) = (0, 0, [0; 2]);
+) -> Result<Answers<'a>, Fault> {
+    let (mut count, mut length, mut states, mut offset) = (0, 0, [0; 2], 0);
     // SAFETY: as for verdict.
     let number = unsafe {
         foreign::otzarvim_settle(
@@ -644,6 +724,7 @@ pub fn settle<'a>(
             &mut count,
             &mut length,
             states.as_mut_ptr(),
+            &mut offset,
         )
     };
     match number {
@@ -652,7 +733,7 @@ pub fn settle<'a>(
             Ok(Answers::Settled { states: &values[first..first + many], count, length })
         }
         1 => Ok(Answers::Spent { count, length }),
-        number => Err(Refusal::of(number)),
+        number => Err(Fault::of(number, offset)),
     }
 }
 
@@ -664,10 +745,10 @@ pub fn settle<'a>(
 /// let model = [0, 0, 0, 25, 1, 2, 0, 1, 0, 0, 0, 0, 1, 0, 0, 0, 0, 0, 0, 0, 0, 0, 5, 0, 0];
 /// let formula = [0, 0, 0, 23, 1, 3, 2, 0, 0, 0, 0, 0, 0, 0, 0, 6, 0, 0, 0, 0, 0, 0, 4]; // EX<=4 true
 /// assert_eq!(otzarvim::satisfies(&model, &formula, 0), Ok(false));
-/// assert_eq!(otzarvim::satisfies(&model, &formula, 1), Err(Refusal::Name));
-/// assert_eq!(otzarvim::satisfies(&model[..24], &formula, 0), Err(Refusal::Length));
+/// assert_eq!(otzarvim::satisfies(&model, &formula, 1), Err(Refusal::Name.at(0)));
+/// assert_eq!(otzarvim::satisfies(&model[..24], &formula, 0), Err(Refusal::Length.at(0)));
 /// ```
-pub fn satisfies(model: &[u8], formula: &[u8], state: u32) -> Result<bool, Refusal> {
+pub fn satisfies(model: &[u8], formula: &[u8], state: u32) -> Result<bool, Fault> {
     let (mut bytes, mut values) = rooms();
     match verdict(model, formula, state, MOST_ROUNDS, &mut bytes, &mut values)? {
         Answer::Decided { verdict, .. } => Ok(verdict == Verdict::Yes),
@@ -688,7 +769,7 @@ pub fn satisfies(model: &[u8], formula: &[u8], state: u32) -> Result<bool, Refus
 /// let formula = [0, 0, 0, 23, 1, 3, 2, 0, 0, 0, 0, 0, 0, 0, 0, 6, 0, 0, 0, 0, 0, 0, 1]; // EX<=1 true
 /// assert_eq!(otzarvim::satisfying(&model, &formula), Ok(vec![true, false]));
 /// ```
-pub fn satisfying(model: &[u8], formula: &[u8]) -> Result<Vec<bool>, Refusal> {
+pub fn satisfying(model: &[u8], formula: &[u8]) -> Result<Vec<bool>, Fault> {
     let (mut bytes, mut values) = rooms();
     match settle(model, formula, MOST_ROUNDS, &mut bytes, &mut values)? {
         Answers::Settled { states, .. } => Ok(states.iter().map(|&number| number == 0).collect()),

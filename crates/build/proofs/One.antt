@@ -5,6 +5,7 @@ use denote.Ref.{now}
 use Rattle.build.proofs.build.Reads as build
 use Rattle.build.proofs.count_nodes.Reads as count-nodes
 use Rattle.build.proofs.Built.number.Reads as Built-number
+use Rattle.build.proofs.Built.offset.Reads as Built-offset
 use Rattle.build.proofs.Built.length.Reads as Built-length
 
 -- `build::build`: the answer and the room
@@ -21,6 +22,11 @@ one-count-nodes κs a r r′ s s′ p q = p ∙ sym q
 pub one-number : (κs : _) (a : _) (r r′ : _) (s s′ : _) → Built-number.Post κs a r s → Built-number.Post κs a r′ s′
     → r ≡ r′
 one-number κs a r r′ s s′ p q = p ∙ sym q
+
+-- `build::Built::offset`
+pub one-offset : (κs : _) (a : _) (r r′ : _) (s s′ : _) → Built-offset.Post κs a r s → Built-offset.Post κs a r′ s′
+    → r ≡ r′
+one-offset κs a r r′ s s′ p q = p ∙ sym q
 
 -- `build::Built::length`
 pub one-length : (κs : _) (a : _) (r r′ : _) (s s′ : _) → Built-length.Post κs a r s → Built-length.Post κs a r′ s′

@@ -12,6 +12,7 @@ use Rattle.lists.specs.Lists.{all}
 use Rattle.lists.specs.Making.{span, keep}
 use Rattle.lists.proofs.Kept.{keep-fail}
 use Rattle.lists.proofs.Tests.{by-test, and-left, and-right}
+use Rattle.refusal.specs.Number.{unplaced}
 use Rattle.refusal.specs.declared.Refusal.the-variants.{Size, Room}
 use Rattle.value.specs.declared.Bound.{Bound}
 use Rattle.wire.specs.Start.{startWidth}
@@ -188,11 +189,11 @@ module _ {M : Model} {rows : List Row} {n k u : ℕ} {z : size.Size} (c : Counte
 -- ---- the answers
 
 module _ (g : Graph) (b : List ℕ) (values : ℕ) where
-  pub size-refused : fits g ≡ false → (Built.Refused Size ≡ builtOf g b values) × (b ≡ builtRoom g b values)
+  pub size-refused : fits g ≡ false → (Built.Refused (unplaced Size) ≡ builtOf g b values) × (b ≡ builtRoom g b values)
   unfolding builtOf builtRoom
   size-refused e = (rw e, rw e)
 
-  pub room-refused : fits g ≡ true → roomy g b values ≡ false → (Built.Refused Room ≡ builtOf g b values) × (b ≡ builtRoom g b values)
+  pub room-refused : fits g ≡ true → roomy g b values ≡ false → (Built.Refused (unplaced Room) ≡ builtOf g b values) × (b ≡ builtRoom g b values)
   unfolding builtOf builtRoom
   room-refused e f = (rw (e, f), rw (e, f))
 

@@ -6,7 +6,7 @@ use mathlib.Core.Bool.{Bool, true, cond, _&&_}
 use lib.ListN.{length, drop}
 use lib.Dec.{leb}
 use Rattle.lists.specs.Lists.{all}
-use Rattle.refusal.specs.Number.{ok, numberOf}
+use Rattle.refusal.specs.Number.{ok, numberOf, nowhere, unplaced}
 use Rattle.refusal.specs.declared.Refusal.the-variants.{Size, Room}
 use Rattle.rules.specs.Graph.{Graph}
 use Rattle.graph.specs.WellFormed.{targetsOf}
@@ -17,7 +17,12 @@ use Rattle.build.specs.declared.Built.the-variants as Built
 -- the paper's number and the returned length of an answer: a refusal has length 0
 abbrev pub builtNumber : Built → ℕ
 builtNumber (Built.Graph n) = ok
-builtNumber (Built.Refused e) = numberOf e
+builtNumber (Built.Refused e) = numberOf (e .refusal)
+
+-- where the field starts that was found wrong
+abbrev pub builtOffset : Built → ℕ
+builtOffset (Built.Graph n) = nowhere
+builtOffset (Built.Refused e) = e .offset
 
 abbrev pub builtLength : Built → ℕ
 builtLength (Built.Graph n) = n
@@ -38,7 +43,7 @@ roomy g b values = leb (length (writeGraph g)) (length b) && leb (g .nodes + g .
 
 -- SIZE where it would pass a limit; then ROOM where a room is too small; else the graph's length
 unfoldable pub builtOf : Graph → List ℕ → ℕ → Built
-builtOf g b values = cond (fits g) (cond (roomy g b values) (Built.Graph (length (writeGraph g))) (Built.Refused Room)) (Built.Refused Size)
+builtOf g b values = cond (fits g) (cond (roomy g b values) (Built.Graph (length (writeGraph g))) (Built.Refused (unplaced Room))) (Built.Refused (unplaced Size))
 
 -- the graph stands at the front of its room, the rest untouched; a refusal leaves the room as it came
 unfoldable pub builtRoom : Graph → List ℕ → ℕ → List ℕ

@@ -9,13 +9,13 @@ ghost use Prim.Native.Nat.{_+_, _*_, _≤_};
 ghost use lib.ListN.{length};
 ghost use Rattle.reduction.specs.Built as built;
 ghost use Rattle.build.specs.Held.{heldModel, heldRows, HoldsModel, HoldsRows};
-ghost use Rattle.build.specs.Built.{builtNumber, builtLength, builtOf, builtRoom};
-use refusal::Refusal;
+ghost use Rattle.build.specs.Built.{builtNumber, builtOffset, builtLength, builtOf, builtRoom};
+use refusal::Fault;
 
 // The length of the graph, or why it was not built.
 pub enum Built {
     Graph(usize),
-    Refused(Refusal),
+    Refused(Fault),
 }
 
 impl Built {
@@ -26,6 +26,16 @@ impl Built {
         match self {
             Built::Graph(_) => 0,
             Built::Refused(e) => e.number(),
+        }
+    }
+
+    // Where the field starts that was found wrong, and 0 where none was.
+    pub fn offset(self) -> usize
+        ensures { λ r. ⌜ r ≡ builtOffset self ⌝ }
+    {
+        match self {
+            Built::Graph(_) => 0,
+            Built::Refused(e) => e.offset,
         }
     }
 
@@ -71,15 +81,15 @@ pub fn build(
     let size = sizing::total_size(m, n, p, t, &table, f, k);
     let nodes = n * (k + untils);
     if sizing::too_large(nodes, size) {
-        return Built::Refused(Refusal::Size);
+        return Built::Refused(refusal::SIZE);
     }
     let hypers = size.hypers as u32;
     let long = sizing::message_length(size, n * untils);
     if room.len() < long {
-        return Built::Refused(Refusal::Room);
+        return Built::Refused(refusal::ROOM);
     }
     if values < (nodes as usize) * 2 {
-        return Built::Refused(Refusal::Room);
+        return Built::Refused(refusal::ROOM);
     }
     message::write(m, n, p, t, &table, f, k, untils, hypers, long as u32, room);
     Built::Graph(long)

@@ -22,46 +22,74 @@ use verdict::Verdict;
 
 // Checks a graph message; gives its nodes, hyperedges and cover edges.
 #[no_mangle]
-pub extern "C" fn otzarvim_graph_check(message: &[u8], counts: &mut [u32; 3]) -> u8
+pub extern "C" fn otzarvim_graph_check(
+    message: &[u8],
+    counts: &mut [u32; 3],
+    offset: &mut usize,
+) -> u8
     ensures { λ r. ⌜ r ≡ g.checkedNumber (g.checked (readGraph (now (message .entry)))) ⌝ }
     ensures { λ _. ⌜ now (counts .exit) ≡ graphCounts (g.checked (readGraph (now (message .entry)))) (now (counts .entry)) ⌝ }
+    ensures { λ _. ⌜ now (offset .exit) ≡ g.checkedOffset (g.checked (readGraph (now (message .entry)))) ⌝ }
 {
     match graph::check(message) {
         graph::Checked::Graph(n, h, c, _) => {
             *counts = [n, h, c];
+            *offset = 0;
             0
         }
-        graph::Checked::Refused(e) => e.number(),
+        graph::Checked::Refused(e) => {
+            *offset = e.offset;
+            e.number()
+        }
     }
 }
 
 // Checks a model message; gives its states, propositions and transitions.
 #[no_mangle]
-pub extern "C" fn otzarvim_model_check(message: &[u8], counts: &mut [u32; 3]) -> u8
+pub extern "C" fn otzarvim_model_check(
+    message: &[u8],
+    counts: &mut [u32; 3],
+    offset: &mut usize,
+) -> u8
     ensures { λ r. ⌜ r ≡ m.checkedNumber (m.checked (readModel (now (message .entry)))) ⌝ }
     ensures { λ _. ⌜ now (counts .exit) ≡ modelCounts (m.checked (readModel (now (message .entry)))) (now (counts .entry)) ⌝ }
+    ensures { λ _. ⌜ now (offset .exit) ≡ m.checkedOffset (m.checked (readModel (now (message .entry)))) ⌝ }
 {
     match model::check(message) {
         model::Checked::Model(s, p, t) => {
             *counts = [s, p, t];
+            *offset = 0;
             0
         }
-        model::Checked::Refused(e) => e.number(),
+        model::Checked::Refused(e) => {
+            *offset = e.offset;
+            e.number()
+        }
     }
 }
 
 // Checks a formula message whose propositions are below p; gives its rows.
 #[no_mangle]
-pub extern "C" fn otzarvim_formula_check(message: &[u8], p: u32, rows: &mut u32) -> u8
+pub extern "C" fn otzarvim_formula_check(
+    message: &[u8],
+    p: u32,
+    rows: &mut u32,
+    offset: &mut usize,
+) -> u8
     ensures { λ r. ⌜ r ≡ f.checkedNumber (f.checked (readFormula p (now (message .entry)))) ⌝ }
     ensures { λ _. ⌜ now (rows .exit) ≡ formulaCount (f.checked (readFormula p (now (message .entry)))) (now (rows .entry)) ⌝ }
+    ensures { λ _. ⌜ now (offset .exit) ≡ f.checkedOffset (f.checked (readFormula p (now (message .entry)))) ⌝ }
 {
     match formula::check(message, p) {
         formula::Checked::Formula(count) => {
             *rows = count;
+            *offset = 0;
             0
         }
-        formula::Checked::Refused(e) => e.number(),
+        formula::Checked::Refused(e) => {
+            *offset = e.offset;
+            e.number()
+        }
     }
 }
 
@@ -72,15 +100,18 @@ pub extern "C" fn otzarvim_rounds_solve(
     budget: u32,
     room: &mut [u64],
     count: &mut u32,
+    offset: &mut usize,
 ) -> u8
     ensures { λ r. ⌜ r ≡ rounds.outcomeNumber (rounds.outcomeOf (rounds.readRounds (now (message .entry)) (now (room .entry))) budget) ⌝ }
     ensures { λ _. ⌜ now (room .exit) ≡ rounds.roundsRoom (rounds.readRounds (now (message .entry)) (now (room .entry))) budget (now (room .entry)) ⌝ }
     ensures { λ _. ⌜ now (count .exit) ≡ rounds.outcomeCount (rounds.outcomeOf (rounds.readRounds (now (message .entry)) (now (room .entry))) budget) ⌝ }
+    ensures { λ _. ⌜ now (offset .exit) ≡ rounds.outcomeOffset (rounds.outcomeOf (rounds.readRounds (now (message .entry)) (now (room .entry))) budget) ⌝ }
     ensures { λ _. ⌜ promise.Promise (now (message .entry)) budget (now (room .entry)) (now (room .exit))
         (rounds.outcomeOf (rounds.readRounds (now (message .entry)) (now (room .entry))) budget) ⌝ }
 {
     let outcome = rounds::solve(message, budget, room);
     *count = outcome.count();
+    *offset = outcome.offset();
     outcome.number()
 }
 
@@ -103,16 +134,19 @@ pub extern "C" fn otzarvim_search(
     words: &mut [u32],
     verdict: &mut u8,
     count: &mut u64,
+    offset: &mut usize,
 ) -> u8
     ensures { λ r. ⌜ r ≡ search.answerNumber (searched (now (message .entry)) root (now (words .entry))) ⌝ }
     ensures { λ _. ⌜ now (words .exit) ≡ search.wordsOf (search.readAsked (now (message .entry)) root (now (words .entry))) (now (words .entry)) ⌝ }
     ensures { λ _. ⌜ now (verdict .exit) ≡ foundNumber (search.answerVerdict (searched (now (message .entry)) root (now (words .entry)))) ⌝ }
     ensures { λ _. ⌜ now (count .exit) ≡ search.answerCount (searched (now (message .entry)) root (now (words .entry))) ⌝ }
+    ensures { λ _. ⌜ now (offset .exit) ≡ search.answerOffset (searched (now (message .entry)) root (now (words .entry))) ⌝ }
     ensures { λ _. ⌜ found.Promise (now (message .entry)) root (now (words .entry)) (now (words .exit)) (searched (now (message .entry)) root (now (words .entry))) ⌝ }
 {
     let answer = search::decide(message, root, words);
     *verdict = found_number(answer.verdict());
     *count = answer.count();
+    *offset = answer.offset();
     answer.number()
 }
 
@@ -123,13 +157,16 @@ pub extern "C" fn otzarvim_formula_text(
     p: u32,
     room: &mut [u8],
     length: &mut usize,
+    offset: &mut usize,
 ) -> u8
     ensures { λ r. ⌜ r ≡ text.writtenNumber (text.writtenOf (readFormula p (now (message .entry))) (now (room .entry))) ⌝ }
     ensures { λ _. ⌜ now (room .exit) ≡ text.textRoom (readFormula p (now (message .entry))) (now (room .entry)) ⌝ }
     ensures { λ _. ⌜ now (length .exit) ≡ text.writtenLength (text.writtenOf (readFormula p (now (message .entry))) (now (room .entry))) ⌝ }
+    ensures { λ _. ⌜ now (offset .exit) ≡ text.writtenOffset (text.writtenOf (readFormula p (now (message .entry))) (now (room .entry))) ⌝ }
 {
     let written = text::text(message, p, room);
     *length = written.length();
+    *offset = written.offset();
     written.number()
 }
 
@@ -156,6 +193,7 @@ pub extern "C" fn otzarvim_verdict(
     verdict: &mut u8,
     count: &mut u32,
     length: &mut usize,
+    offset: &mut usize,
 ) -> u8
     ensures { λ r. ⌜ r ≡ v.answerNumber (askedOne (now (model .entry)) (now (formula .entry)) state budget (now (bytes .entry)) (now (values .entry))) ⌝ }
     ensures { λ _. ⌜ now (bytes .exit) ≡ v.bytesOf (v.readAsked (now (model .entry)) (now (formula .entry)) state (now (bytes .entry)) (now (values .entry))) (now (bytes .entry)) ⌝ }
@@ -167,6 +205,8 @@ pub extern "C" fn otzarvim_verdict(
         (now (values .entry))) ⌝ }
     ensures { λ _. ⌜ now (length .exit) ≡ v.answerLength (askedOne (now (model .entry)) (now (formula .entry)) state budget (now (bytes .entry))
         (now (values .entry))) ⌝ }
+    ensures { λ _. ⌜ now (offset .exit) ≡ v.answerOffset (askedOne (now (model .entry)) (now (formula .entry)) state budget (now (bytes .entry))
+        (now (values .entry))) ⌝ }
     ensures { λ _. ⌜ Promise (now (model .entry)) (now (formula .entry)) state budget (now (bytes .entry)) (now (values .entry)) (now (bytes .exit))
         (now (values .exit)) (askedOne (now (model .entry)) (now (formula .entry)) state budget (now (bytes .entry)) (now (values .entry))) ⌝ }
 {
@@ -174,6 +214,7 @@ pub extern "C" fn otzarvim_verdict(
     *verdict = verdict_number(answer.verdict());
     *count = answer.count();
     *length = answer.length();
+    *offset = answer.offset();
     answer.number()
 }
 
@@ -184,15 +225,18 @@ pub extern "C" fn otzarvim_graph(
     formula: &[u8],
     bytes: &mut [u8],
     length: &mut usize,
+    offset: &mut usize,
 ) -> u8
     ensures { λ r. ⌜ r ≡ b.builtNumber (v.builtAlone (v.readBuilt (now (model .entry)) (now (formula .entry)) (now (bytes .entry)))) ⌝ }
     ensures { λ _. ⌜ now (bytes .exit) ≡ v.bytesOf (v.readBuilt (now (model .entry)) (now (formula .entry)) (now (bytes .entry))) (now (bytes .entry)) ⌝ }
     ensures { λ _. ⌜ now (length .exit) ≡ b.builtLength (v.builtAlone (v.readBuilt (now (model .entry)) (now (formula .entry)) (now (bytes .entry)))) ⌝ }
+    ensures { λ _. ⌜ now (offset .exit) ≡ b.builtOffset (v.builtAlone (v.readBuilt (now (model .entry)) (now (formula .entry)) (now (bytes .entry)))) ⌝ }
     ensures { λ _. ⌜ PromiseGraph (now (model .entry)) (now (formula .entry)) (now (bytes .entry)) (now (bytes .exit))
         (v.builtAlone (v.readBuilt (now (model .entry)) (now (formula .entry)) (now (bytes .entry)))) ⌝ }
 {
     let built = verdict::graph(model, formula, bytes);
     *length = built.length();
+    *offset = built.offset();
     built.number()
 }
 
@@ -207,6 +251,7 @@ pub extern "C" fn otzarvim_settle(
     count: &mut u32,
     length: &mut usize,
     states: &mut [u32; 2],
+    offset: &mut usize,
 ) -> u8
     ensures { λ r. ⌜ r ≡ v.allNumber (askedAll (now (model .entry)) (now (formula .entry)) budget (now (bytes .entry)) (now (values .entry))) ⌝ }
     ensures { λ _. ⌜ now (bytes .exit) ≡ v.bytesOf (v.readSettled (now (model .entry)) (now (formula .entry)) (now (bytes .entry)) (now (values .entry))) (now (bytes .entry)) ⌝ }
@@ -218,12 +263,15 @@ pub extern "C" fn otzarvim_settle(
         (now (values .entry))) ⌝ }
     ensures { λ _. ⌜ now (states .exit) ≡ statesLent (askedAll (now (model .entry)) (now (formula .entry)) budget (now (bytes .entry))
         (now (values .entry))) (now (states .entry)) ⌝ }
+    ensures { λ _. ⌜ now (offset .exit) ≡ v.allOffset (askedAll (now (model .entry)) (now (formula .entry)) budget (now (bytes .entry))
+        (now (values .entry))) ⌝ }
     ensures { λ _. ⌜ PromiseAll (now (model .entry)) (now (formula .entry)) budget (now (bytes .entry)) (now (values .entry)) (now (bytes .exit))
         (now (values .exit)) (askedAll (now (model .entry)) (now (formula .entry)) budget (now (bytes .entry)) (now (values .entry))) ⌝ }
 {
     let settled = verdict::settle(model, formula, budget, bytes, values);
     *count = settled.count();
     *length = settled.length();
+    *offset = settled.offset();
     let number = settled.number();
     match settled {
         AllStates::Settled(_, _, first, many) => {

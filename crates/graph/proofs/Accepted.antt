@@ -30,7 +30,7 @@ module _ (s : List ℕ) (n : ℕ) where
         ok = record { inside = omega (arith, value-inside 2 s (st .at + nodeAt) (g .node-there)); named = rw v (g .named) };
       }
 
-  hypers-read : (st : State) (h : Hyper) → readHyper s n st ≡ good h → Reads (hyperLayout s n) (hypers s n) st h
+  pub hypers-read : (st : State) (h : Hyper) → readHyper s n st ≡ good h → Reads (hyperLayout s n) (hypers s n) st h
   hypers-read st h e =
       let g = hyper-good s n st h e in
       let source : number 2 s (st .at) ≡ h .source = value-is 2 s _ (g .source-there) in

@@ -1,7 +1,7 @@
 -- The reading from the answer. Assumes nothing.
 use Prim.Native.Nat.{ℕ}
 use mathlib.Core.Path.{_≡_}
-use Rattle.refusal.specs.declared.Refusal.{Refusal}
+use Rattle.refusal.specs.declared.Fault.{Fault}
 use Rattle.wire.specs.Read.{Read, good, bad}
 use Rattle.rules.specs.Graph.{Graph}
 use Rattle.graph.specs.Message.{Counts}
@@ -17,12 +17,12 @@ counted-graph (good a) {n} {h} {c} e =
     λ i. good (record { n = pn i; h = ph i; c = pc i })
 counted-graph (bad a) e = cc
 
-pub counted-refused : (x : Read Counts) {f : Refusal} → counted x ≡ Checked.Refused f → x ≡ bad f
+pub counted-refused : (x : Read Counts) {f : Fault} → counted x ≡ Checked.Refused f → x ≡ bad f
 unfolding counted
 counted-refused (good a) e = cc
 counted-refused (bad a) e = cc
 
-pub checked-refused : (x : Read Graph) {f : Refusal} → checked x ≡ Checked.Refused f → x ≡ bad f
+pub checked-refused : (x : Read Graph) {f : Fault} → checked x ≡ Checked.Refused f → x ≡ bad f
 unfolding checked
 checked-refused (good g) e = cc
 checked-refused (bad a) e = cc

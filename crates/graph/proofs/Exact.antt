@@ -13,7 +13,7 @@ use Rattle.wire.specs.Read.{good, field}
 use Rattle.wire.specs.Reader.{past}
 use Rattle.wire.specs.Write.{writeAll, message}
 use Rattle.wire.proofs.Bytes.{length-bytes}
-use Rattle.wire.proofs.Reading.{good-same}
+use Rattle.wire.proofs.Reading.{good-same, good-below, good-source}
 use Rattle.wire.proofs.Stands.{Stands, stands-first, stands-second, stands-both, stands-inside, stands-last, value-stands, stands-field}
 use Rattle.wire.proofs.Counts.{good-count}
 use Rattle.wire.proofs.Exact.{good-bind, good-after, good-demand, length-writeAll, Exact, FitsAll, none, more, all-moves, all-reads, all-written, fits-map, fits-both, fits-each, each-fits, fits-rising, rising-fits, message-length, message-rest, start-reads, start-written}
@@ -82,7 +82,7 @@ module _ (s : List ℕ) (n : ℕ) (small : n ≤ 65536) where
         let weight-there : field 4 s (st .at) ≡ good (t .weight) = stands-field 4 (omega arith) (stands-first _ _ h) (f .weight-fits) in
         let node-there : field 2 s (st .at + nodeAt) ≡ good (t .node) =
         stands-field 2 (omega arith) (stands-second (bytes 4 (t .weight)) _ (simp length-bytes) h) (omega arith) in
-        good-bind _ weight-there (good-bind _ node-there (good-demand _ (lt-ltb _ _ (f .named)) refl));
+        good-bind _ weight-there (good-bind _ (good-below 2 s (st .at + nodeAt) n _ node-there (f .named)) refl);
     moves = λ st t. rw target-length;
   }
 
@@ -110,13 +110,12 @@ module _ (s : List ℕ) (n : ℕ) (small : n ≤ 65536) where
         let targets-stand : Stands s (st .at + hyperWidth) (writeAll writeTarget (h .targets)) =
         stands-second (bytes 2 (h .source) ++ bytes 2 count) _ (simp (length-append, length-bytes) (omega arith)) stands in
         let targets-there = all-written targets-exact (firstTarget st) (h .targets) targets-stand (each-fits (targets s n) _ _ (λ t m. f .1 .targets m)) in
-        good-bind _ source-there
+        good-demand _ (le-leb (st .at + hyperWidth) (length s) (omega arith))
+        (good-bind _ (good-source s (st .at) n (st .prev) (st .at) source-there (f .1 .named) (f .0 .0))
         (good-bind _ count-there
-        (good-demand _ (lt-ltb _ _ (f .1 .named))
-        (good-demand _ (le-leb _ _ (f .0 .0))
         (good-demand _ (le-leb _ _ (f .0 .1))
         (good-demand _ (le-leb (st .at + hyperWidth + count * targetWidth) (length s) (omega arith))
-        (good-bind _ targets-there refl))))));
+        (good-bind _ targets-there refl)))));
     moves = λ st h. rw hyper-length (omega arith);
   }
 
@@ -142,13 +141,12 @@ module _ (s : List ℕ) (n : ℕ) (small : n ≤ 65536) where
         stands-field 4 (omega arith) (stands-second (bytes 2 (c .source)) _ (simp length-bytes) front) (code-fits (c .bound) (f .1 .sayable)) in
         let target-there : field 2 s (st .at + coverTargetAt) ≡ good (c .target) =
         stands-field 2 (omega arith) (stands-second (bytes 2 (c .source) ++ bytes 4 (codeOf (c .bound))) _ (simp (length-append, length-bytes) (omega arith)) stands) (omega arith) in
-        good-bind _ source-there
+        let inside = rw cover-length at (stands-inside stands (rw cover-length (omega arith))) in
+        good-demand _ (le-leb (st .at + coverWidth) (length s) (omega arith))
+        (good-bind _ (good-source s (st .at) n (st .prev) (st .at) source-there (f .1 .named) (f .0))
         (good-bind _ bound-there
-        (good-bind _ target-there
-        (good-demand _ (lt-ltb _ _ (f .1 .named))
-        (good-demand _ (le-leb _ _ (f .0))
-        (good-demand _ (lt-ltb _ _ (f .1 .target-named))
-        (rw (bound-code (c .bound) (f .1 .sayable))))))));
+        (good-bind _ (good-below 2 s (st .at + coverTargetAt) n _ target-there (f .1 .target-named))
+        (rw (bound-code (c .bound) (f .1 .sayable))))));
     moves = λ st c. rw cover-length;
   }
 

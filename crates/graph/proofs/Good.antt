@@ -3,19 +3,18 @@ use Prim.Native.Nat.{ℕ, _+_, _*_, _<_, _≤_}
 use mathlib.Core.List.{List, [], _∷_}
 use mathlib.Core.Path.{_≡_, sym, ap, subst, _∙_}
 use lib.ListN.{length}
-use borrow.Author.Tests.{ltb-true, leb-true, eqb-true}
+use borrow.Author.Tests.{leb-true, eqb-true}
 use native.Mathlib.Nat.{add-zero, zero-add}
 use native.Mathlib.Omega.{arith}
-use Rattle.refusal.specs.declared.Refusal.the-variants.{Length}
-use Rattle.wire.specs.declared.Field.the-variants.{Number, Short}
+use Rattle.wire.specs.declared.Field.the-variants.{Number}
 use Rattle.wire.specs.Field.{fieldAt}
-use Rattle.wire.specs.Read.{good, bad}
+use Rattle.wire.specs.Read.{good}
 use Rattle.wire.specs.Reader.{readAll, past, one}
 use Rattle.wire.specs.Start.{readStart}
 use Rattle.wire.proofs.Counts.{CountAt, count-good}
 use Rattle.wire.proofs.Fields.{value-inside}
 use Rattle.wire.proofs.Exact.{all-there}
-use Rattle.wire.proofs.Reading.{reading, length-after, bind-good, and-good, demand-good, field-good, good-same}
+use Rattle.wire.proofs.Reading.{bind-good, and-good, demand-good, field-good, below-good, source-good, good-same}
 use Rattle.wire.proofs.Readers.{all-length}
 use Rattle.rules.specs.Graph.{Graph, Hyper, Cover, Target}
 use Rattle.wire.specs.declared.State.{State}
@@ -37,12 +36,12 @@ module _ (s : List ℕ) (n : ℕ) where
   target-good st t e =
       let w = bind-good _ _ e in
       let v = bind-good _ _ (w .rest) in
-      let d = demand-good _ _ _ (v .rest) in
-      let same : record { weight = w .value; node = v .value } ≡ t = good-same (d .1) in
+      let node = below-good 2 s (st .at + nodeAt) n _ (v .first) in
+      let same : record { weight = w .value; node = v .value } ≡ t = good-same (v .rest) in
       record {
         weight-there = field-good 4 s _ (w .first) ∙ ap (λ (u : Target). Number (u .weight)) same;
-        node-there = field-good 2 s _ (v .first) ∙ ap (λ (u : Target). Number (u .node)) same;
-        named = rw (← same) (ltb-true _ _ (d .0));
+        node-there = node .0 ∙ ap (λ (u : Target). Number (u .node)) same;
+        named = rw (← same) (node .1);
       }
 
   -- what a good hyperedge says of the bytes
@@ -58,20 +57,20 @@ module _ (s : List ℕ) (n : ℕ) where
   pub hyper-good : (st : State) (h : Hyper) → readHyper s n st ≡ good h → HyperAt st h
   unfolding readHyper readTargets
   hyper-good st h e =
-      let w = bind-good _ _ e in
+      let fit = demand-good _ _ _ e in
+      let w = bind-good _ _ (fit .1) in
+      let source = source-good s (st .at) n (st .prev) (st .at) (w .first) in
       let v = bind-good _ _ (w .rest) in
-      let named = demand-good _ _ _ (v .rest) in
-      let ordered = demand-good _ _ _ (named .1) in
-      let few = demand-good _ _ _ (ordered .1) in
+      let few = demand-good _ _ _ (v .rest) in
       let inside = demand-good _ _ _ (few .1) in
       let ts = bind-good _ _ (inside .1) in
       let same : record { source = w .value; targets = ts .value } ≡ h = good-same (ts .rest) in
       let count : length (h .targets) ≡ v .value = ap (λ (u : Hyper). length (u .targets)) (sym same) ∙ all-length (targets s n) _ _ _ (ts .first) in
       record {
-        source-there = field-good 2 s _ (w .first) ∙ ap (λ (u : Hyper). Number (u .source)) same;
+        source-there = source .0 ∙ ap (λ (u : Hyper). Number (u .source)) same;
         count-there = field-good 2 s _ (v .first) ∙ ap Number (sym count);
-        named = rw (← same) (ltb-true _ _ (named .0));
-        ordered = rw (← same) (leb-true _ _ (ordered .0));
+        named = rw (← same) (source .1 .0);
+        ordered = rw (← same) (source .1 .1);
         few = rw count (leb-true _ _ (few .0));
         inside = rw count (leb-true _ _ (inside .0));
         targets-there = ap (λ (k : ℕ). readAll (targets s n) k (firstTarget st)) count ∙ ts .first ∙ ap (λ (u : Hyper). good (u .targets)) same;
@@ -91,22 +90,22 @@ module _ (s : List ℕ) (n : ℕ) where
   pub cover-good : (st : State) (c : Cover) → readCover s n st ≡ good c → CoverAt st c
   unfolding readCover
   cover-good st c e =
-      let w = bind-good _ _ e in
+      let fit = demand-good _ _ _ e in
+      let w = bind-good _ _ (fit .1) in
+      let source = source-good s (st .at) n (st .prev) (st .at) (w .first) in
       let b = bind-good _ _ (w .rest) in
       let v = bind-good _ _ (b .rest) in
-      let named = demand-good _ _ _ (v .rest) in
-      let ordered = demand-good _ _ _ (named .1) in
-      let target-named = demand-good _ _ _ (ordered .1) in
-      let same : record { source = w .value; bound = boundOf (b .value); target = v .value } ≡ c = good-same (target-named .1) in
+      let target = below-good 2 s (st .at + coverTargetAt) n _ (v .first) in
+      let same : record { source = w .value; bound = boundOf (b .value); target = v .value } ≡ c = good-same (v .rest) in
       record {
-        source-there = field-good 2 s _ (w .first) ∙ ap (λ (u : Cover). Number (u .source)) same;
+        source-there = source .0 ∙ ap (λ (u : Cover). Number (u .source)) same;
         code = b .value;
         bound-there = field-good 4 s _ (b .first);
         bound-is = ap (λ (u : Cover). u .bound) (sym same);
-        target-there = field-good 2 s _ (v .first) ∙ ap (λ (u : Cover). Number (u .target)) same;
-        named = rw (← same) (ltb-true _ _ (named .0));
-        ordered = rw (← same) (leb-true _ _ (ordered .0));
-        target-named = rw (← same) (ltb-true _ _ (target-named .0));
+        target-there = target .0 ∙ ap (λ (u : Cover). Number (u .target)) same;
+        named = rw (← same) (source .1 .0);
+        ordered = rw (← same) (source .1 .1);
+        target-named = rw (← same) (target .1);
       }
 
   -- the state past a good target is 6 bytes on
@@ -125,15 +124,6 @@ module _ (s : List ℕ) (n : ℕ) where
       let r = bind-good _ _ e in
       let c = cover-good st (r .value) (r .first) in
       omega (arith, value-inside 2 s (st .at + coverTargetAt) (c .target-there), ap (λ (u : State). u .at) (good-same (r .rest)))
-
-  -- the last of a record's fixed fields tells whether they all fit
-  pub hyper-short : (st : State) → fieldAt 2 s (st .at + targetCountAt) ≡ Short → readHyper s n st ≡ bad Length
-  unfolding readHyper
-  hyper-short st h = length-after 2 s (st .at) _ (λ source. simp (reading, h))
-
-  pub cover-short : (st : State) → fieldAt 2 s (st .at + coverTargetAt) ≡ Short → readCover s n st ≡ bad Length
-  unfolding readCover
-  cover-short st h = length-after 2 s (st .at) _ (λ source. length-after 4 s (st .at + coverBoundAt) _ (λ bound. simp (reading, h)))
 
 -- the state past hyperedges has counted their targets
 seen-past : (s : List ℕ) (n : ℕ) (st : State) (hs : List Hyper) → past (hypers s n) st hs .seen ≡ st .seen + targetsOf hs

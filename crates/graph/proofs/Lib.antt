@@ -3,9 +3,11 @@
 --     Accepted   what an accepted message holds, by position
 --     Answered   the reading from an answer
 --     Exact      accepted messages are exactly the writings of well-formed graphs
+--     Located    where a fault lies: a field starts there, nothing before it is to blame, and it can be mended
 --     One        one answer of each public function
 pub mod Good
 pub mod Accepted
 pub mod Answered
 pub mod Exact
+pub mod Located
 pub mod One

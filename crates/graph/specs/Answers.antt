@@ -1,7 +1,7 @@
 -- What the checking functions answer, from what the reading gives.
 use Prim.Native.Nat.{ℕ}
 use lib.ListN.{length}
-use Rattle.refusal.specs.Number.{ok, numberOf}
+use Rattle.refusal.specs.Number.{ok, numberOf, nowhere}
 use Rattle.wire.specs.Read.{Read, good, bad}
 use Rattle.graph.specs.Stored.{StoredGraph}
 use Rattle.graph.specs.Message.{Counts}
@@ -22,4 +22,9 @@ checked (bad e) = Checked.Refused e
 -- the paper's number of an answer
 abbrev pub checkedNumber : Checked → ℕ
 checkedNumber (Checked.Graph n h c t) = ok
-checkedNumber (Checked.Refused e) = numberOf e
+checkedNumber (Checked.Refused e) = numberOf (e .refusal)
+
+-- where the field starts that was found wrong
+abbrev pub checkedOffset : Checked → ℕ
+checkedOffset (Checked.Graph n h c t) = nowhere
+checkedOffset (Checked.Refused e) = e .offset

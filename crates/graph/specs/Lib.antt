@@ -1,4 +1,4 @@
--- Definitions: what a graph message holds, the messages of graphs, which graphs are well-formed, and the answer of the check.
+-- Definitions: what a graph message holds, the messages of graphs, which graphs are well-formed, the answer of the check, and where a fault can lie.
 pub mod Stored
 pub mod Format
 pub mod Message
@@ -6,3 +6,4 @@ pub mod Write
 pub mod WellFormed
 pub mod Answers
 pub mod Layouts
+pub mod Located

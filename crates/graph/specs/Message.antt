@@ -1,11 +1,12 @@
--- The reading of a graph message s: its first fault in the paper's order, or the graph.
+-- The reading of a graph message s: its first fault in the paper's order, with the offset of the field at fault, or the graph.
 -- A state's `at` is a position in s, `prev` the source before, and `seen` the targets so far.
 use Prim.Native.Nat.{ℕ, _+_, _*_}
 use mathlib.Core.List.{List}
 use lib.ListN.{length}
-use lib.Dec.{leb, ltb, eqb}
-use Rattle.refusal.specs.declared.Refusal.the-variants.{Length, Limit, Order, Name}
-use Rattle.wire.specs.Read.{Read, good, _>>=_, _>>_, demand, field}
+use lib.Dec.{leb, eqb}
+use Rattle.refusal.specs.declared.Refusal.the-variants.{Length, Limit}
+use Rattle.refusal.specs.Number.{nowhere}
+use Rattle.wire.specs.Read.{Read, good, _>>=_, _>>_, demand, field, named, source}
 use Rattle.wire.specs.Reader.{Reader, readAll, past}
 use Rattle.wire.specs.Start.{readStart}
 use Rattle.wire.specs.Counts.{readCount}
@@ -29,8 +30,7 @@ module _ (s : List ℕ) (n : ℕ) where
   unfoldable pub readTarget : State → Read Target
   readTarget st = do
     weight ← field 4 s (st .at)
-    node ← field 2 s (st .at + nodeAt)
-    demand (ltb node n) Name
+    node ← named 2 s (st .at + nodeAt) n
     good (record { weight = weight; node = node })
 
   -- the targets of a hyperedge, one behind another
@@ -41,22 +41,21 @@ module _ (s : List ℕ) (n : ℕ) where
     next = λ st t. record { at = st .at + targetWidth; prev = st .prev; seen = st .seen };
   }
 
-  -- the targets of a hyperedge: the running total's limit, then their bytes fit, then each
+  -- the targets of a hyperedge: the running total's limit, at the target count, then their bytes fit, then each
   unfoldable pub readTargets : State → ℕ → ℕ → Read Hyper
   readTargets st source count = do
-    demand (leb (st .seen + count) mostTargets) Limit
-    demand (leb (st .at + hyperWidth + count * targetWidth) (length s)) Length
+    demand (leb (st .seen + count) mostTargets) Limit (st .at + targetCountAt)
+    demand (leb (st .at + hyperWidth + count * targetWidth) (length s)) Length nowhere
     ts ← readAll targets count (firstTarget st)
     good (record { source = source; targets = ts })
 
-  -- a hyperedge: source (2), target count (2), and its targets
+  -- a hyperedge: its fixed bytes fit; source (2), target count (2), and its targets
   unfoldable pub readHyper : State → Read Hyper
   readHyper st = do
-    source ← field 2 s (st .at)
+    demand (leb (st .at + hyperWidth) (length s)) Length nowhere
+    v ← source s (st .at) n (st .prev)
     count ← field 2 s (st .at + targetCountAt)
-    demand (ltb source n) Name
-    demand (leb (st .prev) source) Order
-    readTargets st source count
+    readTargets st v count
 
   -- the hyperedges; each moves on by its targets, which are added to the total
   abbrev pub hypers : Reader State Hyper
@@ -70,16 +69,14 @@ module _ (s : List ℕ) (n : ℕ) where
   abbrev pub afterTargets : State → ℕ → ℕ → Read State
   afterTargets st source count = readTargets st source count >>= λ h. good (hypers .next st h)
 
-  -- a cover edge: source (2), bound (4), target (2)
+  -- a cover edge: its bytes fit; source (2), bound (4), target (2)
   unfoldable pub readCover : State → Read Cover
   readCover st = do
-    source ← field 2 s (st .at)
+    demand (leb (st .at + coverWidth) (length s)) Length nowhere
+    v ← source s (st .at) n (st .prev)
     bound ← field 4 s (st .at + coverBoundAt)
-    target ← field 2 s (st .at + coverTargetAt)
-    demand (ltb source n) Name
-    demand (leb (st .prev) source) Order
-    demand (ltb target n) Name
-    good (record { source = source; bound = boundOf bound; target = target })
+    target ← named 2 s (st .at + coverTargetAt) n
+    good (record { source = v; bound = boundOf bound; target = target })
 
   -- the cover edges, one behind another
   abbrev pub covers : Reader State Cover
@@ -112,5 +109,5 @@ readGraph s = do
   let middle = past (hypers s (counts .n)) (start graphHeader) hs .at
   cs ← readAll (covers s (counts .n)) (counts .c) (start middle)
   let end = past (covers s (counts .n)) (start middle) cs .at
-  demand (eqb end (length s)) Length
+  demand (eqb end (length s)) Length nowhere
   good (record { nodes = counts .n; hypers = hs; covers = cs })

@@ -7,9 +7,9 @@ ghost use Rattle.wire.specs.Step.{step};
 ghost use Rattle.graph.specs.Message as m;
 ghost use Rattle.graph.specs.Answers as answers;
 ghost use Rattle.graph.specs.Format.{mostTargets, hyperWidth, targetWidth};
+use refusal::Fault;
 use refusal::Refusal;
 use wire::Count;
-use wire::Counted;
 use wire::Field;
 use wire::Head;
 use wire::Opened;
@@ -80,7 +80,7 @@ pub const COVER: usize = COVER_TARGET_AT + 2;
 // How many nodes, hyperedges, cover edges and targets of all hyperedges an accepted message has, or its first fault.
 pub enum Checked {
     Graph(u32, u32, u32, u32),
-    Refused(Refusal),
+    Refused(Fault),
 }
 
 impl Checked {
@@ -93,6 +93,16 @@ impl Checked {
             Checked::Refused(e) => e.number(),
         }
     }
+
+    // Where the field starts that was found wrong, and 0 where none was.
+    pub fn offset(self) -> usize
+        ensures { λ r. ⌜ r ≡ answers.checkedOffset self ⌝ }
+    {
+        match self {
+            Checked::Graph(_, _, _, _) => 0,
+            Checked::Refused(e) => e.offset,
+        }
+    }
 }
 
 // One target, whose bytes fit.
@@ -101,12 +111,16 @@ fn target(s: &[u8], n: u32, st: State) -> Step
     ensures { λ r. ⌜ r ≡ step (one (m.targets (now (s .entry)) n) st) ⌝ }
 {
     let at = st.at;
-    let node_at = at + NODE_AT;
-    let node = wire::number_at(s, node_at, Width::Two);
-    if n <= node {
-        return Step::Refused(Refusal::Name);
-    }
     let end = at + TARGET;
+    let node_at = at + NODE_AT;
+    let misnamed = Fault {
+        refusal: Refusal::Name,
+        offset: node_at,
+    };
+    let node = wire::read_below(&s[at..end], NODE_AT, Width::Two, n as u64, misnamed);
+    let Field::Number(_) = node else {
+        return Step::Refused(node.fault());
+    };
     Step::Next(State {
         at: end,
         prev: st.prev,
@@ -132,23 +146,24 @@ fn targets(s: &[u8], n: u32, k: u32, first: State) -> Step
     Step::Next(st)
 }
 
-// One hyperedge: where its count fits, so does its source, which stands before it.
+// One hyperedge: its fixed bytes fit, then its source and its count, then its targets.
 fn hyper(s: &[u8], n: u32, st: State) -> Step
     requires { ⌜ (st .at ≤ length (now s)) × (st .seen ≤ mostTargets) ⌝ }
     ensures { λ r. ⌜ r ≡ step (one (m.hypers (now (s .entry)) n) st) ⌝ }
 {
     let at = st.at;
-    let count_at = at + TARGET_COUNT_AT;
-    let Field::Number(count) = wire::read(s, count_at, Width::Two) else {
-        return Step::Refused(Refusal::Length);
+    let end = at + HYPER;
+    if s.len() < end {
+        return Step::Refused(wire::SHORT);
+    }
+    let from = wire::read_source(&s[at..end], 0, n, st.prev, at);
+    let Field::Number(source) = from else {
+        return Step::Refused(from.fault());
     };
-    let source = wire::number_at(s, at, Width::Two);
-    if n <= source {
-        return Step::Refused(Refusal::Name);
-    }
-    if source < st.prev {
-        return Step::Refused(Refusal::Order);
-    }
+    let told = wire::read(&s[at..end], TARGET_COUNT_AT, Width::Two);
+    let Field::Number(count) = told else {
+        return Step::Refused(told.fault());
+    };
     hyper_targets(s, n, st, source, count)
 }
 
@@ -158,13 +173,17 @@ fn hyper_targets(s: &[u8], n: u32, st: State, source: u32, count: u32) -> Step
     ensures { λ r. ⌜ r ≡ step (m.afterTargets (now (s .entry)) n st source count) ⌝ }
 {
     let seen = st.seen;
+    let count_at = st.at + TARGET_COUNT_AT;
     if MOST_TARGETS - seen < count {
-        return Step::Refused(Refusal::Limit);
+        return Step::Refused(Fault {
+            refusal: Refusal::Limit,
+            offset: count_at,
+        });
     }
     let first = st.at + HYPER;
     let end = first + (count as usize) * TARGET;
     if s.len() < end {
-        return Step::Refused(Refusal::Length);
+        return Step::Refused(wire::SHORT);
     }
     let read = targets(
         s,
@@ -205,28 +224,29 @@ fn hypers(s: &[u8], n: u32, k: u32, first: State) -> Step
     Step::Next(st)
 }
 
-// One cover edge: where its target fits, so do its source and its bound, which stand before it.
+// One cover edge: its bytes fit, then its source and its target.
 fn cover(s: &[u8], n: u32, st: State) -> Step
     requires { ⌜ st .at ≤ length (now s) ⌝ }
     ensures { λ r. ⌜ r ≡ step (one (m.covers (now (s .entry)) n) st) ⌝ }
 {
     let at = st.at;
-    let prev = st.prev;
-    let target_at = at + COVER_TARGET_AT;
-    let Field::Number(target) = wire::read(s, target_at, Width::Two) else {
-        return Step::Refused(Refusal::Length);
-    };
-    let source = wire::number_at(s, at, Width::Two);
-    if n <= source {
-        return Step::Refused(Refusal::Name);
-    }
-    if source < prev {
-        return Step::Refused(Refusal::Order);
-    }
-    if n <= target {
-        return Step::Refused(Refusal::Name);
-    }
     let end = at + COVER;
+    if s.len() < end {
+        return Step::Refused(wire::SHORT);
+    }
+    let from = wire::read_source(&s[at..end], 0, n, st.prev, at);
+    let Field::Number(source) = from else {
+        return Step::Refused(from.fault());
+    };
+    let target_at = at + COVER_TARGET_AT;
+    let misnamed = Fault {
+        refusal: Refusal::Name,
+        offset: target_at,
+    };
+    let target = wire::read_below(&s[at..end], COVER_TARGET_AT, Width::Two, n as u64, misnamed);
+    let Field::Number(_) = target else {
+        return Step::Refused(target.fault());
+    };
     Step::Next(State {
         at: end,
         prev: source,
@@ -259,17 +279,17 @@ fn header(s: &[u8]) -> Checked
     if let Opened::Refused(e) = wire::open(s, HEAD) {
         return Checked::Refused(e);
     }
-    let n = match wire::read_count(s, NODES) {
-        Counted::Count(n) => n,
-        Counted::Refused(e) => return Checked::Refused(e),
+    let nodes = wire::read_count(s, NODES);
+    let Field::Number(n) = nodes else {
+        return Checked::Refused(nodes.fault());
     };
-    let h = match wire::read_count(s, HYPERS) {
-        Counted::Count(h) => h,
-        Counted::Refused(e) => return Checked::Refused(e),
+    let hypers = wire::read_count(s, HYPERS);
+    let Field::Number(h) = hypers else {
+        return Checked::Refused(hypers.fault());
     };
-    let c = match wire::read_count(s, COVERS) {
-        Counted::Count(c) => c,
-        Counted::Refused(e) => return Checked::Refused(e),
+    let covers = wire::read_count(s, COVERS);
+    let Field::Number(c) = covers else {
+        return Checked::Refused(covers.fault());
     };
     Checked::Graph(n, h, c, 0)
 }
@@ -310,7 +330,7 @@ pub fn check(s: &[u8]) -> Checked
         Step::Refused(e) => return Checked::Refused(e),
     };
     if end != s.len() {
-        return Checked::Refused(Refusal::Length);
+        return Checked::Refused(wire::SHORT);
     }
     Checked::Graph(n, h, c, last.seen)
 }

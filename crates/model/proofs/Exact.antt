@@ -14,7 +14,7 @@ use Rattle.wire.specs.Read.{good, field}
 use Rattle.wire.specs.Start.{startWidth}
 use Rattle.wire.specs.Write.{writeAll, message}
 use Rattle.wire.proofs.Bytes.{length-bytes}
-use Rattle.wire.proofs.Reading.{good-same}
+use Rattle.wire.proofs.Reading.{good-same, good-below, good-source}
 use Rattle.wire.proofs.Stands.{Stands, stands-first, stands-second, stands-both, stands-last, value-stands, stands-field}
 use Rattle.wire.proofs.Counts.{good-count}
 use Rattle.wire.proofs.Exact.{good-bind, good-after, good-demand, length-writeAll, Exact, FitsAll, all-reads, all-written, fits-map, fits-both, fits-each, each-fits, fits-rising, rising-fits, message-length, message-rest, start-reads, start-written}
@@ -52,7 +52,7 @@ module _ (s : List ℕ) where
     written = λ st l h fits.
         let most = pow-le-pow-right {n = 2} (omega arith) {i = p} {j = 32} small in
         let label-there : field 4 s (st .at) ≡ good l = stands-field 4 (omega arith) h (omega arith) in
-        good-bind _ label-there (good-demand _ (lt-ltb _ _ fits) refl);
+        good-below 4 s (st .at) (2 ^ p) _ label-there fits;
     moves = λ st l. rw length-bytes;
   }
 
@@ -77,12 +77,8 @@ module _ (s : List ℕ) where
         stands-field 4 (omega arith) (stands-second (bytes 2 (t .from)) _ (simp length-bytes) front) (f .1 .weight-fits) in
         let to-there : field 2 s (st .at + toAt) ≡ good (t .to) =
         stands-field 2 (omega arith) (stands-second (bytes 2 (t .from) ++ bytes 4 (t .weight)) _ (simp (length-append, length-bytes) (omega arith)) stands) (omega arith) in
-        good-bind _ from-there
-        (good-bind _ weight-there
-        (good-bind _ to-there
-        (good-demand _ (lt-ltb _ _ (f .1 .from-named))
-        (good-demand _ (le-leb _ _ (f .0))
-        (good-demand _ (lt-ltb _ _ (f .1 .to-named)) refl)))));
+        good-bind _ (good-source s (st .at) n (st .prev) (st .at) from-there (f .1 .from-named) (f .0))
+        (good-bind _ weight-there (good-bind _ (good-below 2 s (st .at + toAt) n _ to-there (f .1 .to-named)) refl));
     moves = λ st t. rw transition-length;
   }
 

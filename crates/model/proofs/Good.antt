@@ -17,11 +17,11 @@ use Rattle.wire.specs.Start.{readStart}
 use Rattle.wire.proofs.Counts.{CountAt, count-good}
 use Rattle.wire.proofs.Fields.{value-inside}
 use Rattle.wire.proofs.Exact.{all-there}
-use Rattle.wire.proofs.Reading.{reading, bind-good, and-good, demand-good, field-good, good-same}
+use Rattle.wire.proofs.Reading.{reading, bind-good, and-good, demand-good, field-good, below-good, source-good, good-same}
 use Rattle.wire.proofs.Readers.{all-length}
 use Rattle.model.specs.Model.{Model, Transition}
 use Rattle.wire.specs.Step.{start}
-use Rattle.model.specs.Format.{modelHeader, modelHead, statesCount, propositionsCount, transitionsCount, weightAt, toAt, transitionWidth, labelAt, modelLength}
+use Rattle.model.specs.Format.{modelHeader, modelHead, statesCount, propositionsCount, transitionsCount, labelWidth, weightAt, toAt, transitionWidth, labelAt, modelLength}
 use Rattle.model.specs.Message.{readLabel, readTransition, readHeader, readModel, labels, transitions, Counts}
 
 module _ (s : List ℕ) where
@@ -33,13 +33,8 @@ module _ (s : List ℕ) where
   pub label-good : (p : ℕ) (st : State) (l : ℕ) → readLabel s p st ≡ good l → LabelAt p st l
   unfolding readLabel
   label-good p st l e =
-      let w = bind-good _ _ e in
-      let d = demand-good _ _ _ (w .rest) in
-      let same : w .value ≡ l = good-same (d .1) in
-      record {
-        label-there = field-good 4 s _ (w .first) ∙ ap Number same;
-        label-fits = rw (← same) (ltb-true _ _ (d .0));
-      }
+      let g = below-good 4 s (st .at) (2 ^ p) _ e in
+      record { label-there = g .0; label-fits = g .1 }
 
   -- what a good transition says of the bytes
   pub record TransitionAt (n : ℕ) (st : State) (t : Transition) : Type 0 where
@@ -54,34 +49,26 @@ module _ (s : List ℕ) where
   unfolding readTransition
   transition-good n st t e =
       let f = bind-good _ _ e in
+      let from = source-good s (st .at) n (st .prev) (st .at) (f .first) in
       let w = bind-good _ _ (f .rest) in
       let v = bind-good _ _ (w .rest) in
-      let from-named = demand-good _ _ _ (v .rest) in
-      let ordered = demand-good _ _ _ (from-named .1) in
-      let to-named = demand-good _ _ _ (ordered .1) in
-      let same : record { from = f .value; weight = w .value; to = v .value } ≡ t = good-same (to-named .1) in
+      let to = below-good 2 s (st .at + toAt) n _ (v .first) in
+      let same : record { from = f .value; weight = w .value; to = v .value } ≡ t = good-same (v .rest) in
       record {
-        from-there = field-good 2 s _ (f .first) ∙ ap (λ (u : Transition). Number (u .from)) same;
+        from-there = from .0 ∙ ap (λ (u : Transition). Number (u .from)) same;
         weight-there = field-good 4 s _ (w .first) ∙ ap (λ (u : Transition). Number (u .weight)) same;
-        to-there = field-good 2 s _ (v .first) ∙ ap (λ (u : Transition). Number (u .to)) same;
-        from-named = rw (← same) (ltb-true _ _ (from-named .0));
-        ordered = rw (← same) (leb-true _ _ (ordered .0));
-        to-named = rw (← same) (ltb-true _ _ (to-named .0));
+        to-there = to .0 ∙ ap (λ (u : Transition). Number (u .to)) same;
+        from-named = rw (← same) (from .1 .0);
+        ordered = rw (← same) (from .1 .1);
+        to-named = rw (← same) (to .1);
       }
 
-  -- the state past a good record lies inside the message
-  pub labels-stay : (p : ℕ) (st next : State) → one (labels s p) st ≡ good next → next .at ≤ length s
-  labels-stay p st next e =
-      let r = bind-good _ _ e in
-      let l = label-good p st (r .value) (r .first) in
-      omega (arith, value-inside 4 s (st .at) (l .label-there), ap (λ (u : State). u .at) (good-same (r .rest)))
+  -- the state past a good record is its width on
+  pub labels-move : (p : ℕ) (st next : State) → one (labels s p) st ≡ good next → next .at ≡ st .at + labelWidth
+  labels-move p st next e = ap (λ (u : State). u .at) (sym (good-same (bind-good _ _ e .rest)))
 
-  -- a transition moves the position past it, and leaves a state that exists
-  pub transitions-stay : (n : ℕ) (st next : State) → one (transitions s n) st ≡ good next → (st .at + transitionWidth ≡ next .at) × (next .at ≤ length s) × (next .prev < n)
-  transitions-stay n st next e =
-      let r = bind-good _ _ e in
-      let t = transition-good n st (r .value) (r .first) in
-      rw (← good-same (r .rest)) (refl, omega (arith, value-inside 2 s (st .at + toAt) (t .to-there)), t .from-named)
+  pub transitions-move : (n : ℕ) (st next : State) → one (transitions s n) st ≡ good next → next .at ≡ st .at + transitionWidth
+  transitions-move n st next e = ap (λ (u : State). u .at) (sym (good-same (bind-good _ _ e .rest)))
 
 -- what a good header says of the bytes
 pub record HeaderAt (s : List ℕ) (k : Counts) : Type 0 where

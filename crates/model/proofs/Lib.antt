@@ -3,9 +3,11 @@
 --     Answered   the reading from an answer
 --     Exact      accepted messages are exactly the writings of well-formed models
 --     Bits       a label has no bit at p or above exactly when it is below 2 ^ p
+--     Located    where a fault lies: a field starts there, nothing before it is to blame, and it can be mended
 --     One        one answer of each public function
 pub mod Good
 pub mod Answered
 pub mod Exact
 pub mod Bits
+pub mod Located
 pub mod One

@@ -1,11 +1,12 @@
--- The reading of a model message s: its first fault in the paper's order, or the model.
+-- The reading of a model message s: its first fault in the paper's order, with the offset of the field at fault, or the model.
 -- A state's `at` is a position in s, and `prev` the `from` before.
 use Prim.Native.Nat.{ℕ, _+_, _*_, _^_}
 use mathlib.Core.List.{List}
 use lib.ListN.{length}
-use lib.Dec.{leb, ltb, eqb}
-use Rattle.refusal.specs.declared.Refusal.the-variants.{Length, Order, Name, Form}
-use Rattle.wire.specs.Read.{Read, good, _>>=_, _>>_, demand, field}
+use lib.Dec.{eqb}
+use Rattle.refusal.specs.declared.Refusal.the-variants.{Length, Form}
+use Rattle.refusal.specs.Number.{nowhere}
+use Rattle.wire.specs.Read.{Read, good, _>>=_, _>>_, demand, field, below, named, source}
 use Rattle.wire.specs.Reader.{Reader, readAll}
 use Rattle.wire.specs.Start.{readStart}
 use Rattle.wire.specs.Counts.{readCount}
@@ -17,10 +18,7 @@ use Rattle.model.specs.Format.{modelHeader, modelHead, statesCount, prop
 module _ (s : List ℕ) where
   -- a label (4): a bit at p or above is FORM
   unfoldable pub readLabel : ℕ → State → Read ℕ
-  readLabel p st = do
-    label ← field 4 s (st .at)
-    demand (ltb label (2 ^ p)) Form
-    good label
+  readLabel p st = below 4 s (st .at) (2 ^ p) (record { refusal = Form; offset = st .at })
 
   -- the labels, one behind another
   abbrev pub labels : ℕ → Reader State ℕ
@@ -33,12 +31,9 @@ module _ (s : List ℕ) where
   -- a transition of a model with n states: from (2), weight (4), to (2)
   unfoldable pub readTransition : ℕ → State → Read Transition
   readTransition n st = do
-    from ← field 2 s (st .at)
+    from ← source s (st .at) n (st .prev)
     weight ← field 4 s (st .at + weightAt)
-    to ← field 2 s (st .at + toAt)
-    demand (ltb from n) Name
-    demand (leb (st .prev) from) Order
-    demand (ltb to n) Name
+    to ← named 2 s (st .at + toAt) n
     good (record { from = from; weight = weight; to = to })
 
   -- the transitions, one behind another
@@ -62,7 +57,7 @@ readHeader s = do
   n ← readCount s statesCount
   p ← readCount s propositionsCount
   t ← readCount s transitionsCount
-  demand (eqb (length s) (modelLength n t)) Length
+  demand (eqb (length s) (modelLength n t)) Length nowhere
   good (record { states = n; propositions = p; transitions = t })
 
 -- a whole message: the header, the labels, the transitions

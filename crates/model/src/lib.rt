@@ -2,16 +2,14 @@
 ghost use mathlib.Core.Path.{_≡_};
 ghost use Prim.Native.Nat.{ℕ, _+_, _*_, _≤_, _<_, _^_};
 ghost use lib.ListN.{length};
-ghost use Rattle.wire.specs.declared.Field.the-variants.{Number};
-ghost use Rattle.wire.specs.Field.{fieldAt};
 ghost use Rattle.wire.specs.Reader.{one, run};
 ghost use Rattle.wire.specs.Step.{step};
 ghost use Rattle.model.specs.Message as m;
 ghost use Rattle.model.specs.Answers as answers;
-ghost use Rattle.model.specs.Format.{toAt, transitionWidth};
+ghost use Rattle.model.specs.Format.{labelWidth, transitionWidth};
+use refusal::Fault;
 use refusal::Refusal;
 use wire::Count;
-use wire::Counted;
 use wire::Field;
 use wire::Head;
 use wire::Opened;
@@ -64,7 +62,7 @@ pub const TRANSITION: usize = TO_AT + 2;
 // How many states, propositions and transitions an accepted message has, or its first fault.
 pub enum Checked {
     Model(u32, u32, u32),
-    Refused(Refusal),
+    Refused(Fault),
 }
 
 impl Checked {
@@ -75,6 +73,16 @@ impl Checked {
         match self {
             Checked::Model(_, _, _) => 0,
             Checked::Refused(e) => e.number(),
+        }
+    }
+
+    // Where the field starts that was found wrong, and 0 where none was.
+    pub fn offset(self) -> usize
+        ensures { λ r. ⌜ r ≡ answers.checkedOffset self ⌝ }
+    {
+        match self {
+            Checked::Model(_, _, _) => 0,
+            Checked::Refused(e) => e.offset,
         }
     }
 }
@@ -93,19 +101,21 @@ fn label_limit(p: u32) -> u64
     limit
 }
 
-// One label, below the limit.
+// One label, whose bytes fit, below the limit.
 fn label(s: &[u8], p: u32, limit: u64, st: State) -> Step
-    requires { ⌜ (st .at ≤ length (now s)) × (limit ≡ 2 ^ p) ⌝ }
+    requires { ⌜ (st .at + labelWidth ≤ length (now s)) × (limit ≡ 2 ^ p) ⌝ }
     ensures { λ r. ⌜ r ≡ step (one (m.labels (now (s .entry)) p) st) ⌝ }
 {
     let at = st.at;
-    let Field::Number(label) = wire::read(s, at, Width::Four) else {
-        return Step::Refused(Refusal::Length);
-    };
-    if limit <= label as u64 {
-        return Step::Refused(Refusal::Form);
-    }
     let end = at + LABEL;
+    let unknown = Fault {
+        refusal: Refusal::Form,
+        offset: at,
+    };
+    let label = wire::read_below(&s[at..end], 0, Width::Four, limit, unknown);
+    let Field::Number(_) = label else {
+        return Step::Refused(label.fault());
+    };
     Step::Next(State {
         at: end,
         prev: st.prev,
@@ -113,9 +123,9 @@ fn label(s: &[u8], p: u32, limit: u64, st: State) -> Step
     })
 }
 
-// k labels.
+// k labels, whose bytes fit.
 fn labels(s: &[u8], p: u32, k: u32, first: State) -> Step
-    requires { ⌜ (first .at ≤ length (now s)) × (p ≤ 32) ⌝ }
+    requires { ⌜ (first .at + k * labelWidth ≤ length (now s)) × (p ≤ 32) ⌝ }
     ensures { λ r. ⌜ r ≡ step (run (m.labels (now (s .entry)) p) k first) ⌝ }
 {
     let limit = label_limit(p);
@@ -132,35 +142,26 @@ fn labels(s: &[u8], p: u32, k: u32, first: State) -> Step
     Step::Next(st)
 }
 
-// One transition of a model with n states, whose last field is there, and so are those before it. Most leave the state that the one
-// before them leaves, which exists.
-fn transition(s: &[u8], n: u32, to: u32, st: State) -> Step
-    requires { ⌜ fieldAt 2 (now s) (st .at + toAt) ≡ Number to ⌝ }
-    requires { ⌜ st .prev < n ⌝ }
+// One transition of a model with n states, whose bytes fit.
+fn transition(s: &[u8], n: u32, st: State) -> Step
+    requires { ⌜ st .at + transitionWidth ≤ length (now s) ⌝ }
     ensures { λ r. ⌜ r ≡ step (one (m.transitions (now (s .entry)) n) st) ⌝ }
 {
     let at = st.at;
-    let from = wire::number_at(s, at, Width::Two);
     let end = at + TRANSITION;
-    if from == st.prev {
-        if n <= to {
-            return Step::Refused(Refusal::Name);
-        }
-        return Step::Next(State {
-            at: end,
-            prev: from,
-            seen: st.seen,
-        });
-    }
-    if n <= from {
-        return Step::Refused(Refusal::Name);
-    }
-    if from < st.prev {
-        return Step::Refused(Refusal::Order);
-    }
-    if n <= to {
-        return Step::Refused(Refusal::Name);
-    }
+    let source = wire::read_source(&s[at..end], 0, n, st.prev, at);
+    let Field::Number(from) = source else {
+        return Step::Refused(source.fault());
+    };
+    let to_at = at + TO_AT;
+    let misnamed = Fault {
+        refusal: Refusal::Name,
+        offset: to_at,
+    };
+    let to = wire::read_below(&s[at..end], TO_AT, Width::Two, n as u64, misnamed);
+    let Field::Number(_) = to else {
+        return Step::Refused(to.fault());
+    };
     Step::Next(State {
         at: end,
         prev: from,
@@ -168,23 +169,22 @@ fn transition(s: &[u8], n: u32, to: u32, st: State) -> Step
     })
 }
 
-// The k transitions up to the end of the message: where no last field fits, none is left.
-fn transitions(s: &[u8], n: u32, start: State) -> Step
-    requires { ⌜ (start .at ≤ length (now s)) × (start .prev < n) ⌝ }
-    ensures { λ r. ⌜ ((k : ℕ) → start .at + k * transitionWidth ≡ length (now (s .entry)) → r ≡ step (run (m.transitions (now (s .entry)) n) k start)) ⌝ }
+// k transitions, whose bytes fit.
+fn transitions(s: &[u8], n: u32, k: u32, first: State) -> Step
+    requires { ⌜ first .at + k * transitionWidth ≤ length (now s) ⌝ }
+    ensures { λ r. ⌜ r ≡ step (run (m.transitions (now (s .entry)) n) k first) ⌝ }
 {
-    let mut st = start;
-    loop {
-        let to_at = st.at + TO_AT;
-        let Field::Number(to) = wire::read(s, to_at, Width::Two) else {
-            return Step::Next(st);
-        };
-        let read = transition(s, n, to, st);
+    let mut st = first;
+    let mut i = k;
+    while 0 < i {
+        let read = transition(s, n, st);
         let Step::Next(next) = read else {
             return read;
         };
         st = next;
+        i -= 1;
     }
+    Step::Next(st)
 }
 
 // The header, and that the message is as long as its counts say.
@@ -194,21 +194,21 @@ fn header(s: &[u8]) -> Checked
     if let Opened::Refused(e) = wire::open(s, HEAD) {
         return Checked::Refused(e);
     }
-    let n = match wire::read_count(s, STATES) {
-        Counted::Count(n) => n,
-        Counted::Refused(e) => return Checked::Refused(e),
+    let states = wire::read_count(s, STATES);
+    let Field::Number(n) = states else {
+        return Checked::Refused(states.fault());
     };
-    let p = match wire::read_count(s, PROPOSITIONS) {
-        Counted::Count(p) => p,
-        Counted::Refused(e) => return Checked::Refused(e),
+    let propositions = wire::read_count(s, PROPOSITIONS);
+    let Field::Number(p) = propositions else {
+        return Checked::Refused(propositions.fault());
     };
-    let t = match wire::read_count(s, TRANSITIONS) {
-        Counted::Count(t) => t,
-        Counted::Refused(e) => return Checked::Refused(e),
+    let transitions = wire::read_count(s, TRANSITIONS);
+    let Field::Number(t) = transitions else {
+        return Checked::Refused(transitions.fault());
     };
     let end = HEADER + (n as usize) * LABEL + (t as usize) * TRANSITION;
     if s.len() != end {
-        return Checked::Refused(Refusal::Length);
+        return Checked::Refused(wire::SHORT);
     }
     Checked::Model(n, p, t)
 }
@@ -218,7 +218,7 @@ pub fn check(s: &[u8]) -> Checked
     ensures { λ r. ⌜ r ≡ answers.checked (m.readModel (now (s .entry))) ⌝ }
 {
     let head = header(s);
-    let Checked::Model(n, p, _) = head else {
+    let Checked::Model(n, p, t) = head else {
         return head;
     };
     if let Step::Refused(e) = labels(
@@ -237,6 +237,7 @@ pub fn check(s: &[u8]) -> Checked
     if let Step::Refused(e) = transitions(
         s,
         n,
+        t,
         State {
             at: middle,
             prev: 0,

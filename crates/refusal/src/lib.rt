@@ -15,6 +15,33 @@ pub enum Refusal {
     Profile,
 }
 
+// A refusal, and where in the message at fault the field starts that was found wrong: its offset, and 0 where no field is at fault.
+pub struct Fault {
+    pub refusal: Refusal,
+    pub offset: usize,
+}
+
+// Faults that no field of a message has.
+pub const NAME: Fault = Fault {
+    refusal: Refusal::Name,
+    offset: 0,
+};
+
+pub const SIZE: Fault = Fault {
+    refusal: Refusal::Size,
+    offset: 0,
+};
+
+pub const ROOM: Fault = Fault {
+    refusal: Refusal::Room,
+    offset: 0,
+};
+
+pub const PROFILE: Fault = Fault {
+    refusal: Refusal::Profile,
+    offset: 0,
+};
+
 impl Refusal {
     // The number that the paper gives the refusal.
     pub fn number(self) -> u8
@@ -31,5 +58,15 @@ impl Refusal {
             Refusal::Form => 10,
             Refusal::Profile => 11,
         }
+    }
+}
+
+impl Fault {
+    // The number that the paper gives its refusal.
+    pub fn number(self) -> u8
+        ensures { λ r. ⌜ r ≡ numberOf (self .refusal) ⌝ }
+    {
+        let refusal = self.refusal;
+        refusal.number()
     }
 }

@@ -8,8 +8,8 @@ use lib.Dec.{leb, eqb}
 use lib.ListN.{length, getD}
 use borrow.Author.Tests.{le-leb}
 use Rattle.lists.specs.Making.{span}
-use Rattle.refusal.specs.declared.Refusal.{Refusal}
-use Rattle.refusal.specs.Number.{overBudget, numberOf}
+use Rattle.refusal.specs.declared.Fault.{Fault}
+use Rattle.refusal.specs.Number.{overBudget, numberOf, nowhere}
 use Rattle.value.specs.Value.{atMost}
 use Rattle.wire.specs.Bytes.{Bytes, number}
 use Rattle.wire.specs.Read.{Read, good, bad, _>>=_}
@@ -68,7 +68,7 @@ module _ (m f : List ℕ) (b v : List ℕ) {budget : ℕ} (n-rounds : budget ≡
       go (good q) e = ap (λ (k : ℕ). valuesOf (good q) k v) (budget-is e)
       go (bad r) e = refl
 
-  pub output-refused : {e : Refusal} → AllStates.Refused e ≡ allOf (readSettled m f b v) budget → outputOf (readSettled m f b v) ≡ refusedLine (numberOf e)
+  pub output-refused : {e : Fault} → AllStates.Refused e ≡ allOf (readSettled m f b v) budget → outputOf (readSettled m f b v) ≡ refusedLine (numberOf (e .refusal)) (e .offset)
   unfolding allOf outputWithin
   output-refused {e} h = go (readSettled m f b v) h
     where
@@ -78,24 +78,24 @@ module _ (m f : List ℕ) (b v : List ℕ) {budget : ℕ} (n-rounds : budget ≡
       tested q true h = let z : _≡_ {A = ℕ} 0 1 = cc in omega arith
       tested q false h = let z : _≡_ {A = ℕ} 0 1 = cc in omega arith
 
-      go : (x : Read Question) → AllStates.Refused e ≡ allOf x budget → outputOf x ≡ refusedLine (numberOf e)
+      go : (x : Read Question) → AllStates.Refused e ≡ allOf x budget → outputOf x ≡ refusedLine (numberOf (e .refusal)) (e .offset)
       go (good q) h = absurd (tested q (leb (count (graphFor q)) budget) h)
       go (bad r) h = let same : e ≡ r = cc in rw same
 
-  pub output-spent : {k n : ℕ} → AllStates.Spent k n ≡ allOf (readSettled m f b v) budget → outputOf (readSettled m f b v) ≡ refusedLine overBudget
+  pub output-spent : {k n : ℕ} → AllStates.Spent k n ≡ allOf (readSettled m f b v) budget → outputOf (readSettled m f b v) ≡ refusedLine overBudget nowhere
   unfolding allOf outputWithin
   output-spent {k} {n} h = go (readSettled m f b v) refl h
     where
       tested : (q : Question) (t : Bool) → AllStates.Spent k n
           ≡ cond t (AllStates.Settled (count (graphFor q)) (length (writeGraph (graphFor q))) (rootNode q 0) (q .model .states))
           (AllStates.Spent budget (length (writeGraph (graphFor q))))
-          → cond t (settledLines q (count (graphFor q))) (refusedLine overBudget) ≡ refusedLine overBudget
+          → cond t (settledLines q (count (graphFor q))) (refusedLine overBudget nowhere) ≡ refusedLine overBudget nowhere
       tested q true h = let z : _≡_ {A = ℕ} 0 1 = cc in absurd (omega arith)
       tested q false h = refl
 
-      go : (x : Read Question) → readSettled m f b v ≡ x → AllStates.Spent k n ≡ allOf x budget → outputOf x ≡ refusedLine overBudget
+      go : (x : Read Question) → readSettled m f b v ≡ x → AllStates.Spent k n ≡ allOf x budget → outputOf x ≡ refusedLine overBudget nowhere
       go (good q) e h =
-          subst (λ (k : ℕ). cond (leb (count (graphFor q)) k) (settledLines q (count (graphFor q))) (refusedLine overBudget) ≡ refusedLine overBudget)
+          subst (λ (k : ℕ). cond (leb (count (graphFor q)) k) (settledLines q (count (graphFor q))) (refusedLine overBudget nowhere) ≡ refusedLine overBudget nowhere)
           (budget-is e) (tested q (leb (count (graphFor q)) budget) h)
       go (bad r) e h = let z : _≡_ {A = ℕ} 0 1 = cc in absurd (omega arith)
 

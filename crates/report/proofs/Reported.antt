@@ -7,7 +7,7 @@ use lib.ListN.{length, take, drop, length-drop}
 use lib.Seq.{length-take-le, take-all}
 use borrow.Author.Tests.{leb-true, le-leb, lt-leb}
 use Rattle.io.specs.Counts.{Counts}
-use Rattle.refusal.specs.declared.Refusal.{Refusal}
+use Rattle.refusal.specs.declared.Fault.{Fault}
 use Rattle.refusal.specs.Number.{numberOf}
 use Rattle.wire.specs.Laid.{laid, Laid}
 use Rattle.wire.specs.Read.{Read, good, bad}
@@ -28,7 +28,7 @@ unfolding cutOf
 cut-at (good i) {k} h = let same : k ≡ i = cc in rw same
 cut-at (bad e) h = let z : _≡_ {A = ℕ} 0 1 = cc in absurd (omega arith)
 
-cut-refused : (x : Read ℕ) {e : Refusal} → Cut.Refused e ≡ cutOf x → x ≡ bad e
+cut-refused : (x : Read ℕ) {e : Fault} → Cut.Refused e ≡ cutOf x → x ≡ bad e
 unfolding cutOf
 cut-refused (good i) h = let z : _≡_ {A = ℕ} 0 1 = cc in absurd (omega arith)
 cut-refused (bad r) {e} h = let same : e ≡ r = cc in rw same
@@ -50,7 +50,7 @@ module _ (s : List ℕ) where
         let rest : take (length s - k) (drop k s) ≡ drop k s = take-all (length s - k) (drop k s) (simp length-drop (omega arith)) in
         rw (cut-at (readCut s) h, rest) (good-then _ _)
 
-    pub end-refused : {e : Refusal} → Cut.Refused e ≡ cutOf (readCut s) → readInput s b v ≡ bad e
+    pub end-refused : {e : Fault} → Cut.Refused e ≡ cutOf (readCut s) → readInput s b v ≡ bad e
     unfolding readInput
     end-refused h = rw (cut-refused (readCut s) h) (bad-then _ _)
 
@@ -83,6 +83,6 @@ module _ (x : Read Question) (b v o : List ℕ) where
   as-reported y is h l p q = reported h (rw is l) (rw is p) (rw is q)
 
   -- and that of a refused input
-  pub refusal-reported : {e : Refusal} {r : ℕ} {o′ : List ℕ} → x ≡ bad e → 8192 ≤ length o → Laid o 0 (refusedLine (numberOf e)) o′ r → Reported x b v o r o′ b v
+  pub refusal-reported : {e : Fault} {r : ℕ} {o′ : List ℕ} → x ≡ bad e → 8192 ≤ length o → Laid o 0 (refusedLine (numberOf (e .refusal)) (e .offset)) o′ r → Reported x b v o r o′ b v
   unfolding outputWithin bytesOf leftOf
   refusal-reported is h l = reported h (rw is l) (rw is) (rw is)

@@ -5,7 +5,7 @@ use mathlib.Core.Bool.{cond}
 use lib.ListN.{length, take, drop, replicate}
 use lib.Dec.{leb}
 use Rattle.lists.specs.Making.{span}
-use Rattle.refusal.specs.Number.{overBudget, numberOf}
+use Rattle.refusal.specs.Number.{overBudget, numberOf, nowhere}
 use Rattle.refusal.specs.declared.Refusal.the-variants.{Length}
 use Rattle.value.specs.Value.{atMost}
 use Rattle.wire.specs.Read.{Read, good, bad, _>>=_, _>>_, demand, field}
@@ -20,9 +20,9 @@ use Rattle.report.specs.Lines.{line, refusedLine, roundsLine, stateLine}
 -- at most 8,192 bytes; the model ends where its length field says; if that can't be done, or the input is longer, LENGTH
 unfoldable pub readCut : (input : List ℕ) → Read ℕ
 readCut input = do
-  demand (leb (length input) 8192) Length
+  demand (leb (length input) 8192) Length nowhere
   total ← field 4 input 0
-  demand (leb total (length input)) Length
+  demand (leb total (length input)) Length nowhere
   good total
 
 -- a model followed by a formula, and what settling them asks for before BUDGET
@@ -42,8 +42,8 @@ settledLines question m =
 -- any refusal writes only its line; BUDGET exactly when the count is greater than the budget
 unfoldable pub outputWithin : (budget : Question → ℕ) → Read Question → List ℕ
 outputWithin budget (good question) =
-    cond (leb (count (ruledFor question)) (budget question)) (settledLines question (count (ruledFor question))) (refusedLine overBudget)
-outputWithin budget (bad e) = refusedLine (numberOf e)
+    cond (leb (count (ruledFor question)) (budget question)) (settledLines question (count (ruledFor question))) (refusedLine overBudget nowhere)
+outputWithin budget (bad e) = refusedLine (numberOf (e .refusal)) (e .offset)
 
 abbrev pub outputOf : Read Question → List ℕ
 outputOf x = outputWithin budgetOf x

@@ -7,11 +7,11 @@ ghost use Rattle.text.specs.Text.{decimal};
 ghost use Rattle.io.specs.Counts.{Counts};
 ghost use Rattle.wire.specs.Laid.{Laid};
 ghost use Rattle.verdict.specs.Answer.{readSettled, bytesOf};
-ghost use Rattle.report.specs.Lines.{line, refusedLine, roundsLine, stateLine};
+ghost use Rattle.report.specs.Lines.{line, place, refusedLine, roundsLine, stateLine};
 ghost use Rattle.report.specs.Pieces.{cutOf, statesLines, textIn, endedLines};
 ghost use Rattle.formula.specs.Message.{readFormula};
 ghost use Rattle.report.specs.Output.{readCut, readInput, outputOf, leftOf, reportLength, reportOut, reportBytes, reportValues, zeroBytes, zeroValues};
-use refusal::Refusal;
+use refusal::Fault;
 use verdict::AllStates;
 use wire::Field;
 use wire::Width;
@@ -19,7 +19,7 @@ use wire::Width;
 // Where the model ends, or why there is none.
 pub enum Cut {
     At(usize),
-    Refused(Refusal),
+    Refused(Fault),
 }
 
 // A line of a word and a number.
@@ -31,12 +31,26 @@ fn put_line(out: &mut [u8], at: usize, word: &[u8], n: u32) -> usize
     text::put_word(out, end, b"\n")
 }
 
-// A refusal's line.
-fn put_refused(out: &mut [u8], number: u8) -> usize
-    requires { ⌜ length (refusedLine number) ≤ length (now out) ⌝ }
-    ensures { λ r. ⌜ Laid (now (out .entry)) 0 (refusedLine number) (now (out .exit)) r ⌝ }
+// Where the field at fault starts, if one is at fault.
+fn put_place(out: &mut [u8], at: usize, offset: usize) -> usize
+    requires { ⌜ at + length (place offset) ≤ length (now out) ⌝ }
+    ensures { λ r. ⌜ Laid (now (out .entry)) at (place offset) (now (out .exit)) r ⌝ }
 {
-    put_line(out, 0, b"refused ", number as u32)
+    if offset == 0 {
+        return at;
+    }
+    let digits = text::put_word(out, at, b" at ");
+    text::put_long(out, digits, offset as u64)
+}
+
+// A refusal's line.
+fn put_refused(out: &mut [u8], number: u8, offset: usize) -> usize
+    requires { ⌜ length (refusedLine number offset) ≤ length (now out) ⌝ }
+    ensures { λ r. ⌜ Laid (now (out .entry)) 0 (refusedLine number offset) (now (out .exit)) r ⌝ }
+{
+    let end = text::put_number(out, 0, b"refused ", number as u32);
+    let last = put_place(out, end, offset);
+    text::put_word(out, last, b"\n")
 }
 
 // The line of the count of rounds.
@@ -81,13 +95,14 @@ fn model_end(input: &[u8]) -> Cut
     ensures { λ r. ⌜ r ≡ cutOf (readCut (now (input .entry))) ⌝ }
 {
     if 8192 < input.len() {
-        return Cut::Refused(Refusal::Length);
+        return Cut::Refused(wire::SHORT);
     }
-    let Field::Number(total) = wire::read(input, 0, Width::Four) else {
-        return Cut::Refused(Refusal::Length);
+    let told = wire::read(input, 0, Width::Four);
+    let Field::Number(total) = told else {
+        return Cut::Refused(told.fault());
     };
     if input.len() < total as usize {
-        return Cut::Refused(Refusal::Length);
+        return Cut::Refused(wire::SHORT);
     }
     Cut::At(total as usize)
 }
@@ -133,8 +148,8 @@ fn answer(m: &[u8], f: &[u8], bytes: &mut [u8], values: &mut [u64], out: &mut [u
             let p = wire::number_at(m, model::PROPOSITIONS_AT, Width::One);
             put_settled(f, p, count, values, first, n, out)
         }
-        AllStates::Spent(_, _) => put_refused(out, 1),
-        AllStates::Refused(e) => put_refused(out, e.number()),
+        AllStates::Spent(_, _) => put_refused(out, 1, 0),
+        AllStates::Refused(e) => put_refused(out, e.number(), e.offset),
     }
 }
 
@@ -150,7 +165,7 @@ pub fn report(input: &[u8], bytes: &mut [u8], values: &mut [u64], out: &mut [u8]
         return 0;
     }
     match model_end(input) {
-        Cut::Refused(e) => put_refused(out, e.number()),
+        Cut::Refused(e) => put_refused(out, e.number(), e.offset),
         Cut::At(k) => answer(&input[..k], &input[k..], bytes, values, out),
     }
 }

@@ -5,10 +5,11 @@ use mathlib.Core.Path.{_≡_, refl, sym, ap, subst, _∙_}
 use lib.ListN.{length}
 use native.Mathlib.Omega.{arith}
 use borrow.Author.Tests.{lt-leb, le-leb}
-use Rattle.refusal.specs.declared.Refusal.{Refusal}
+use Rattle.refusal.specs.Number.{unplaced}
+use Rattle.refusal.specs.declared.Fault.{Fault}
 use Rattle.refusal.specs.declared.Refusal.the-variants.{Room}
 use Rattle.wire.specs.Bytes.{Bytes, number}
-use Rattle.wire.specs.Read.{Read, good, bad}
+use Rattle.wire.specs.Read.{Read, good, bad, demand}
 use Rattle.wire.proofs.Fields.{value-inside, value-is}
 use Rattle.wire.proofs.Reading.{bad-then, reading}
 use Rattle.wire.proofs.Exact.{good-bind, good-demand}
@@ -112,18 +113,18 @@ module _ (s : List ℕ) (budget : ℕ) (b₀ : List ℕ) (bytes : Bytes s) where
   shown b r p q = (p, (q, rw (p, q) (kept s budget b₀ bytes)))
 
   -- a fault of the graph or of the room
-  stopped : {e : Refusal} → readRounds s b₀ ≡ bad e → Shown s budget b₀ b₀ (Refused e)
+  stopped : {e : Fault} → readRounds s b₀ ≡ bad e → Shown s budget b₀ b₀ (Refused e)
   unfolding outcomeOf roundsRoom
   stopped h = shown b₀ _ (rw h) (rw h)
 
   -- a refused message
-  pub shown-refused : {e : Refusal} → checked (readGraph s) ≡ Checked.Refused e → Shown s budget b₀ b₀ (Refused e)
+  pub shown-refused : {e : Fault} → checked (readGraph s) ≡ Checked.Refused e → Shown s budget b₀ b₀ (Refused e)
   unfolding readRounds
   shown-refused h = stopped (rw (checked-refused (readGraph s) h) (bad-then _ _))
 
   module _ {n h c : ℕ} (begun : Begin s n h c) where
     -- too little room
-    pub shown-room : length b₀ < n + n → Shown s budget b₀ b₀ (Refused Room)
+    pub shown-room : length b₀ < n + n → Shown s budget b₀ b₀ (Refused (unplaced Room))
     unfolding readRounds decoded
     shown-room l = stopped (rw (begun .reads) (simp reading (rw (lt-leb (n + n) (length b₀) l) (simp reading))))
 

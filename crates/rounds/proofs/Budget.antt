@@ -29,4 +29,4 @@ rounds-budget s budget room = (λ e. read (readRounds s room) refl e, λ (g, is,
     read : (x : Read StoredGraph) → readRounds s room ≡ x → outcomeNumber (outcomeOf x budget) ≡ overBudget
         → (g : StoredGraph) × (readRounds s room ≡ good g) × (budget < count g)
     read (good g) is e = (g, is, on g _ refl e)
-    read (bad f) is e = absurd (omega (arith, number-above f))
+    read (bad f) is e = absurd (omega (arith, number-above (f .refusal)))

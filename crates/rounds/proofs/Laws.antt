@@ -9,7 +9,7 @@ use lib.Dec.{leb}
 use borrow.Author.Tests.{leb-true, leb-false, le-leb, lt-leb}
 use native.Mathlib.Omega.{arith}
 use Rattle.lists.proofs.Tests.{by}
-use Rattle.refusal.specs.declared.Refusal.{Refusal}
+use Rattle.refusal.specs.declared.Fault.{Fault}
 use Rattle.wire.specs.Read.{Read, good, bad}
 use Rattle.wire.proofs.Reading.{good-same}
 use Rattle.rules.specs.Graph.{Graph}
@@ -50,7 +50,7 @@ pub settled-on : (x : Read StoredGraph) (budget : ℕ) (b : List ℕ) (m : ℕ) 
 unfolding outcomeOf roundsRoom ended
 settled-on (bad e) budget b m h = absurd (apart h)
   where
-    apart : {e : Refusal} {m : ℕ} → Refused e ≡ Settled m → ⊥
+    apart : {e : Fault} {m : ℕ} → Refused e ≡ Settled m → ⊥
     apart z = let one : _≡_ {A = ℕ} 0 1 = cc in omega arith
 settled-on (good g) budget b m h = go (leb (count g) budget) refl h
   where

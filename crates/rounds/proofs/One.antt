@@ -5,6 +5,7 @@ use denote.Ref.{now}
 use Rattle.rounds.proofs.solve.Reads as solve
 use Rattle.rounds.proofs.run.Reads as run
 use Rattle.rounds.proofs.Outcome.number.Reads as Outcome-number
+use Rattle.rounds.proofs.Outcome.offset.Reads as Outcome-offset
 use Rattle.rounds.proofs.Outcome.count.Reads as Outcome-count
 
 -- `rounds::solve`: the answer and the room
@@ -21,6 +22,11 @@ one-run κs a r r′ s s′ p q = let same : r ≡ r′ = p .0 ∙ sym (q .0) in
 pub one-number : (κs : _) (a : _) (r r′ : _) (s s′ : _) → Outcome-number.Post κs a r s → Outcome-number.Post κs a r′ s′
     → r ≡ r′
 one-number κs a r r′ s s′ p q = p ∙ sym q
+
+-- `rounds::Outcome::offset`
+pub one-offset : (κs : _) (a : _) (r r′ : _) (s s′ : _) → Outcome-offset.Post κs a r s → Outcome-offset.Post κs a r′ s′
+    → r ≡ r′
+one-offset κs a r r′ s s′ p q = p ∙ sym q
 
 -- `rounds::Outcome::count`
 pub one-count : (κs : _) (a : _) (r r′ : _) (s s′ : _) → Outcome-count.Post κs a r s → Outcome-count.Post κs a r′ s′

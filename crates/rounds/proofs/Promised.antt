@@ -13,7 +13,7 @@ use Rattle.value.specs.Value.{Value, finite, _≼_}
 use Rattle.value.specs.Stored.{stored}
 use Rattle.value.proofs.Values.{≼-fin}
 use Rattle.value.proofs.Stored.{meaning-stored}
-use Rattle.refusal.specs.declared.Refusal.{Refusal}
+use Rattle.refusal.specs.declared.Fault.{Fault}
 use Rattle.refusal.proofs.Numbers.{number-above}
 use Rattle.wire.specs.Bytes.{Bytes}
 use Rattle.wire.specs.Read.{Read, good, bad}
@@ -142,9 +142,9 @@ rounds-read s b g e =
 -- the outcome and the room of the definitions keep the promise
 module _ (s : List ℕ) (budget : ℕ) (b₀ : List ℕ) where
   -- a refusal's number is above BUDGET's
-  pub kept-refused : (e : Refusal) → Promise s budget b₀ b₀ (Refused e)
+  pub kept-refused : (e : Fault) → Promise s budget b₀ b₀ (Refused e)
   kept-refused e =
-      let above = number-above e in
+      let above = number-above (e .refusal) in
       record { settled = λ z. absurd (omega arith); spent = λ z. absurd (omega arith); refused = λ l. (refl, refl) }
 
   kept-ended : (g : Graph) → s ≡ writeGraph g → WellFormed g → Promise s budget b₀ (filled g (min (count g) budget) b₀) (ended g budget)

@@ -4,7 +4,7 @@ use mathlib.Core.List.{List, [], _∷_, _++_}
 use mathlib.Core.Bool.{cond}
 use lib.ListN.{length, drop, getD}
 use lib.Dec.{leb}
-use Rattle.refusal.specs.Number.{ok, overBudget, numberOf}
+use Rattle.refusal.specs.Number.{ok, overBudget, numberOf, nowhere}
 use Rattle.refusal.specs.declared.Refusal.the-variants.{Room}
 use Rattle.value.specs.Stored.{stored, meaning}
 use Rattle.wire.specs.Read.{Read, good, bad, _>>=_, _>>_, demand}
@@ -20,7 +20,13 @@ use Rattle.rounds.specs.declared.Outcome.the-variants.{Settled, Spent, R
 abbrev pub outcomeNumber : Outcome → ℕ
 outcomeNumber (Settled m) = ok
 outcomeNumber (Spent m) = overBudget
-outcomeNumber (Refused e) = numberOf e
+outcomeNumber (Refused e) = numberOf (e .refusal)
+
+-- where the field starts that was found wrong
+abbrev pub outcomeOffset : Outcome → ℕ
+outcomeOffset (Settled m) = nowhere
+outcomeOffset (Spent m) = nowhere
+outcomeOffset (Refused e) = e .offset
 
 -- the reported count: any refusal but BUDGET has count 0
 abbrev pub outcomeCount : Outcome → ℕ
@@ -46,7 +52,7 @@ filled g m room =
 unfoldable pub readRounds : (message room : List ℕ) → Read StoredGraph
 readRounds message room = do
   g ← readGraph message
-  demand (leb (ruled g .nodes + ruled g .nodes) (length room)) Room
+  demand (leb (ruled g .nodes + ruled g .nodes) (length room)) Room nowhere
   good g
 
 -- and only then BUDGET: exactly when the count is greater than the budget

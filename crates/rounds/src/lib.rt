@@ -15,10 +15,10 @@ ghost use Rattle.rounds.specs.Room.{held, Sides, half, hyperIn, Done, Cl
 ghost use Rattle.rounds.specs.Index.{slotOf, unnoted, partOf, Noted, NotedCovers, Raised, noMarks, moreMarks, Published};
 ghost use Rattle.rounds.specs.Ready.{Climbs, Ready};
 ghost use Rattle.rounds.specs.Turns.{AtRound};
-ghost use Rattle.rounds.specs.Outcome.{outcomeNumber, outcomeCount, ended, filled, readRounds, outcomeOf, roundsRoom};
+ghost use Rattle.rounds.specs.Outcome.{outcomeNumber, outcomeOffset, outcomeCount, ended, filled, readRounds, outcomeOf, roundsRoom};
 ghost use Rattle.rounds.specs.Promise.{Promise};
 use graph::Checked;
-use refusal::Refusal;
+use refusal::Fault;
 use value::Bound;
 use value::Value;
 use wire::Width;
@@ -27,7 +27,7 @@ use wire::Width;
 pub enum Outcome {
     Settled(u32),
     Spent(u32),
-    Refused(Refusal),
+    Refused(Fault),
 }
 
 impl Outcome {
@@ -39,6 +39,17 @@ impl Outcome {
             Outcome::Settled(_) => 0,
             Outcome::Spent(_) => 1,
             Outcome::Refused(e) => e.number(),
+        }
+    }
+
+    // Where the field starts that was found wrong, and 0 where none was.
+    pub fn offset(self) -> usize
+        ensures { λ r. ⌜ r ≡ outcomeOffset self ⌝ }
+    {
+        match self {
+            Outcome::Settled(_) => 0,
+            Outcome::Spent(_) => 0,
+            Outcome::Refused(e) => e.offset,
         }
     }
 
@@ -741,7 +752,7 @@ pub fn solve(message: &[u8], budget: u32, room: &mut [u64]) -> Outcome
         Checked::Graph(nodes, h, c, _) => {
             let n = nodes as usize;
             if room.len() < n + n {
-                return Outcome::Refused(Refusal::Room);
+                return Outcome::Refused(refusal::ROOM);
             }
             run(message, n, h, c, budget, room)
         }

@@ -17,6 +17,16 @@ fn is_message(size: u32, s: &[u8]) -> bool {
     size <= 65536 && size as usize == s.len()
 }
 
+// The line of an answer begins with the letter, the number and the offset.
+fn checked_line(letter: u8, number: u8, offset: usize) -> Line
+    ensures { λ r. ⌜ Sound r ⌝ }
+{
+    Line::new()
+        .byte(letter)
+        .number(number as u64)
+        .number(offset as u64)
+}
+
 // `G`: a graph.
 pub fn graph(body: &[u8]) -> Line
     ensures { λ r. ⌜ Sound r ⌝ }
@@ -28,8 +38,8 @@ pub fn graph(body: &[u8]) -> Line
     if !is_message(wire::number_at(body, 0, Width::Four), message) {
         return Line::new();
     }
-    let number = graph::check(message).number();
-    Line::new().byte(b'G').number(number as u64)
+    let checked = graph::check(message);
+    checked_line(b'G', checked.number(), checked.offset())
 }
 
 // `M`: a model.
@@ -43,8 +53,8 @@ pub fn model(body: &[u8]) -> Line
     if !is_message(wire::number_at(body, 0, Width::Four), message) {
         return Line::new();
     }
-    let number = model::check(message).number();
-    Line::new().byte(b'M').number(number as u64)
+    let checked = model::check(message);
+    checked_line(b'M', checked.number(), checked.offset())
 }
 
 // `F`: how many propositions there are; a formula.
@@ -59,8 +69,8 @@ pub fn formula(body: &[u8]) -> Line
     if !is_message(wire::number_at(body, 4, Width::Four), message) {
         return Line::new();
     }
-    let number = formula::check(message, p).number();
-    Line::new().byte(b'F').number(number as u64)
+    let checked = formula::check(message, p);
+    checked_line(b'F', checked.number(), checked.offset())
 }
 
 // `T`: how many propositions there are, a room in bytes; a formula.
@@ -92,13 +102,11 @@ fn text_in(message: &[u8], p: u32, room: &mut [u8]) -> Line
     text_line(written, sums::of_bytes(room))
 }
 
-// The number, the length and the room's sum.
+// The number and offset, the length and the room's sum.
 fn text_line(written: Written, room: u32) -> Line
     ensures { λ r. ⌜ Sound r ⌝ }
 {
-    Line::new()
-        .byte(b'T')
-        .number(written.number() as u64)
+    checked_line(b'T', written.number(), written.offset())
         .number(written.length() as u64)
         .sum(room)
 }
@@ -132,13 +140,11 @@ fn rounds_in(message: &[u8], budget: u32, room: &mut [u64]) -> Line
     rounds_line(outcome, sums::of_values(room))
 }
 
-// The number, the count and the room's sum.
+// The number and offset, the count and the room's sum.
 fn rounds_line(outcome: Outcome, room: u32) -> Line
     ensures { λ r. ⌜ Sound r ⌝ }
 {
-    Line::new()
-        .byte(b'R')
-        .number(outcome.number() as u64)
+    checked_line(b'R', outcome.number(), outcome.offset())
         .number(outcome.count() as u64)
         .sum(room)
 }
@@ -217,11 +223,11 @@ fn verdict_word(line: Line, verdict: Verdict) -> Line
     }
 }
 
-// The number, the verdict, the count, the length and both rooms' sums.
+// The number and offset, the verdict, the count, the length and both rooms' sums.
 fn verdict_line(answer: Answer, bytes: u32, values: u32) -> Line
     ensures { λ r. ⌜ Sound r ⌝ }
 {
-    let line = Line::new().byte(b'V').number(answer.number() as u64);
+    let line = checked_line(b'V', answer.number(), answer.offset());
     verdict_word(line, answer.verdict())
         .number(answer.count() as u64)
         .number(answer.length() as u64)
@@ -270,11 +276,11 @@ fn search_word(line: Line, verdict: search::Verdict) -> Line
     }
 }
 
-// The number, the verdict, how many edges were taken off the stacks, and the room's sum.
+// The number and offset, the verdict, how many edges were taken off the stacks, and the room's sum.
 fn search_line(found: search::Answer, room: u32) -> Line
     ensures { λ r. ⌜ Sound r ⌝ }
 {
-    let line = Line::new().byte(b'S').number(found.number() as u64);
+    let line = checked_line(b'S', found.number(), found.offset());
     search_word(line, found.verdict())
         .number(found.count())
         .sum(room)

@@ -5,7 +5,8 @@ use mathlib.Core.List.{List}
 use mathlib.Core.Path.{_≡_, refl, sym, ap, _∙_}
 use lib.ListN.{length}
 use borrow.Author.Tests.{le-ltb}
-use Rattle.refusal.specs.declared.Refusal.{Refusal}
+use Rattle.refusal.specs.Number.{unplaced}
+use Rattle.refusal.specs.declared.Fault.{Fault}
 use Rattle.refusal.specs.declared.Refusal.the-variants.{Name}
 use Rattle.wire.specs.Bytes.{Bytes}
 use Rattle.wire.specs.Read.{bad}
@@ -29,7 +30,7 @@ use Rattle.verdict.proofs.Promised.{asked-is, kept-all, kept-one}
 
 module _ (m f : List ℕ) where
   -- the model or the formula is refused
-  pub nodes-refused : {e : Refusal} → readQuestion m f ≡ bad e → 0 ≡ nodesOf (readQuestion m f)
+  pub nodes-refused : {e : Fault} → readQuestion m f ≡ bad e → 0 ≡ nodesOf (readQuestion m f)
   unfolding nodesOf
   nodes-refused h = rw h refl
 
@@ -51,7 +52,7 @@ module _ (m f : List ℕ) (mb : Bytes m) (fb : Bytes f) (budget : ℕ) (b v : Li
   shown-all r b′ v′ p q s = (p, (q, (s, rw (p, q, s) (kept-all m f mb fb budget b v))))
 
   -- the model or the formula is refused
-  pub all-refused : {e : Refusal} → readQuestion m f ≡ bad e → ShownAll m f budget b v (AllStates.Refused e) b v
+  pub all-refused : {e : Fault} → readQuestion m f ≡ bad e → ShownAll m f budget b v (AllStates.Refused e) b v
   unfolding allOf bytesOf valuesOf readSettled
   all-refused {e} h = let is : readSettled m f b v ≡ bad e = rw h (bad-then _ _) in shown-all _ _ _ (rw is) (rw is) (rw is)
 
@@ -75,18 +76,18 @@ module _ (m f : List ℕ) (mb : Bytes m) (fb : Bytes f) (state budget : ℕ) (b 
       r ≡ answerOf x state budget → b′ ≡ bytesOf x b → v′ ≡ valuesOf x budget v → Shown m f state budget b v r b′ v′
   shown r b′ v′ p q s = (p, (q, (s, rw (p, q, s) (kept-one m f mb fb budget b v state))))
 
-  stopped : {e : Refusal} → readAsked m f state b v ≡ bad e → Shown m f state budget b v (Answer.Refused e) b v
+  stopped : {e : Fault} → readAsked m f state b v ≡ bad e → Shown m f state budget b v (Answer.Refused e) b v
   unfolding answerOf bytesOf valuesOf
   stopped h = shown _ _ _ (rw h) (rw h) (rw h)
 
   -- the model or the formula is refused
-  pub one-refused : {e : Refusal} → readQuestion m f ≡ bad e → Shown m f state budget b v (Answer.Refused e) b v
+  pub one-refused : {e : Fault} → readQuestion m f ≡ bad e → Shown m f state budget b v (Answer.Refused e) b v
   unfolding readAsked
   one-refused h = stopped (rw h (simp reading))
 
   -- both are accepted: there is no such state, or there is
   module _ {n p t k : ℕ} (held : Held m f n p t k) where
-    pub one-unnamed : n ≤ state → Shown m f state budget b v (Answer.Refused Name) b v
+    pub one-unnamed : n ≤ state → Shown m f state budget b v (Answer.Refused (unplaced Name)) b v
     unfolding readAsked heldModel
     one-unnamed h = stopped (rw (held .reads) (simp reading (rw (le-ltb state n h) (simp reading))))
 

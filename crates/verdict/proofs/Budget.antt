@@ -38,7 +38,7 @@ settle-budget m f budget b v = (λ e. read (readSettled m f b v) e, λ (q, is, l
 
     read : (x : Read Question) → allNumber (allOf x budget) ≡ overBudget → Exceeds x budget
     read (good q) e = (q, refl, tested q _ refl e)
-    read (bad r) e = absurd (omega (arith, number-above r))
+    read (bad r) e = absurd (omega (arith, number-above (r .refusal)))
 
 -- and one
 pub answer-budget : (m f : List ℕ) (state budget : ℕ) (b v : List ℕ) → let x = readAsked m f state b v in
@@ -54,4 +54,4 @@ answer-budget m f state budget b v = (λ e. read (readAsked m f state b v) e, λ
 
     read : (x : Read Question) → answerNumber (answerOf x state budget) ≡ overBudget → Exceeds x budget
     read (good q) e = (q, refl, tested q _ refl e)
-    read (bad r) e = absurd (omega (arith, number-above r))
+    read (bad r) e = absurd (omega (arith, number-above (r .refusal)))

@@ -9,11 +9,12 @@ use lib.Dec.{leb}
 use borrow.Author.Tests.{le-leb}
 use native.Mathlib.Omega.{arith}
 use Rattle.lists.proofs.Tests.{by-test}
-use Rattle.refusal.specs.declared.Refusal.{Refusal}
+use Rattle.refusal.specs.Number.{nowhere, unplaced}
+use Rattle.refusal.specs.declared.Fault.{Fault}
 use Rattle.refusal.specs.declared.Refusal.the-variants.{Room, Size}
 use Rattle.refusal.proofs.Numbers.{number-above}
 use Rattle.wire.specs.Bytes.{Bytes}
-use Rattle.wire.specs.Read.{Read, good, bad, _>>=_, _>>_, demand}
+use Rattle.wire.specs.Read.{Read, good, bad, _>>=_, _>>_, unless, demand}
 use Rattle.wire.proofs.Reading.{good-then, bad-then}
 use Rattle.rules.specs.Graph.{Graph}
 use Rattle.graph.specs.Write.{writeGraph}
@@ -34,8 +35,8 @@ unfolding roomy
 enough-values g b e = rw (le-leb (g .nodes + g .nodes) 8192 (omega (arith, fits-each g e .nodes-fit))) (and-true _)
 
 -- a refusal's number is not OK's
-refused : (m f b : List ℕ) (e : Refusal) → PromiseGraph m f b b (Built.Refused e)
-refused m f b e = let above = number-above e in record { builds = λ z. absurd (omega arith); refuses = λ z. (refl, refl) }
+refused : (m f b : List ℕ) (e : Fault) → PromiseGraph m f b b (Built.Refused e)
+refused m f b e = let above = number-above (e .refusal) in record { builds = λ z. absurd (omega arith); refuses = λ z. (refl, refl) }
 
 module _ (q : Question) (b : List ℕ) where
   abbrev g : Graph
@@ -45,26 +46,26 @@ module _ (q : Question) (b : List ℕ) where
   w = writeGraph g
 
   built-is : (builtOf g b 8192 ≡ builtAlone (sized q b)) × (builtRoom g b 8192 ≡ bytesOf (sized q b) b)
-  unfolding builtOf builtRoom builtAlone bytesOf sized _>>_ demand
+  unfolding builtOf builtRoom builtAlone bytesOf sized _>>_ unless
   built-is = by-test (fits g) (λ e. rw (e, enough-values g b e) (fitting (leb (length w) (length b)))) (λ e. rw e (refl, refl))
     where
-      fitting : (u : Bool) → (cond u (Built.Graph (length w)) (Built.Refused Room) ≡ builtAlone (demand u Room >> good q))
-          × (cond u (w ++ drop (length w) b) b ≡ bytesOf (demand u Room >> good q) b)
+      fitting : (u : Bool) → (cond u (Built.Graph (length w)) (Built.Refused (unplaced Room)) ≡ builtAlone (demand u Room nowhere >> good q))
+          × (cond u (w ++ drop (length w) b) b ≡ bytesOf (demand u Room nowhere >> good q) b)
       fitting true = (refl, refl)
       fitting false = (refl, refl)
 
   -- what is promised of it
   kept-sized : (m f : List ℕ) → Asks m f q → PromiseGraph m f b (bytesOf (sized q b) b) (builtAlone (sized q b))
-  unfolding builtAlone bytesOf sized _>>_ demand
+  unfolding builtAlone bytesOf sized _>>_ unless
   kept-sized m f asked = go (fits g) (leb (length w) (length b)) refl
     where
-      go : (t u : Bool) → fits g ≡ t → let x = demand t Size >> (demand u Room >> good q) in PromiseGraph m f b (bytesOf x b) (builtAlone x)
+      go : (t u : Bool) → fits g ≡ t → let x = demand t Size nowhere >> (demand u Room nowhere >> good q) in PromiseGraph m f b (bytesOf x b) (builtAlone x)
       go true true e = record {
         builds = λ z. record { question = q; asked = asked; graph = stands q (asked .model-fits) (asked .formula-fits) e b refl refl };
         refuses = λ z. absurd (omega arith);
       }
-      go true false e = refused m f b Room
-      go false u e = refused m f b Size
+      go true false e = refused m f b (unplaced Room)
+      go false u e = refused m f b (unplaced Size)
 
 -- whatever is read
 module _ (m f : List ℕ) (mb : Bytes m) (fb : Bytes f) (b : List ℕ) where
@@ -84,7 +85,7 @@ module _ (m f : List ℕ) (mb : Bytes m) (fb : Bytes f) (b : List ℕ) where
   shown r b′ p s = (p, (s, rw (p, s) kept-graph))
 
   -- the model or the formula is refused
-  pub graph-refused : {e : Refusal} → readQuestion m f ≡ bad e → ShownGraph (Built.Refused e) b
+  pub graph-refused : {e : Fault} → readQuestion m f ≡ bad e → ShownGraph (Built.Refused e) b
   unfolding builtAlone bytesOf readBuilt
   graph-refused {e} h = let is : readBuilt m f b ≡ bad e = rw h (bad-then _ _) in shown _ _ (rw is) (rw is)
 

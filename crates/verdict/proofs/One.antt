@@ -7,10 +7,12 @@ use Rattle.verdict.proofs.settle.Reads as settle
 use Rattle.verdict.proofs.graph.Reads as graph
 use Rattle.verdict.proofs.nodes.Reads as nodes
 use Rattle.verdict.proofs.Answer.number.Reads as Answer-number
+use Rattle.verdict.proofs.Answer.offset.Reads as Answer-offset
 use Rattle.verdict.proofs.Answer.verdict.Reads as Answer-verdict
 use Rattle.verdict.proofs.Answer.count.Reads as Answer-count
 use Rattle.verdict.proofs.Answer.length.Reads as Answer-length
 use Rattle.verdict.proofs.AllStates.number.Reads as AllStates-number
+use Rattle.verdict.proofs.AllStates.offset.Reads as AllStates-offset
 use Rattle.verdict.proofs.AllStates.count.Reads as AllStates-count
 use Rattle.verdict.proofs.AllStates.length.Reads as AllStates-length
 
@@ -39,6 +41,11 @@ pub one-answer-number : (κs : _) (a : _) (r r′ : _) (s s′ : _) → Answer-n
     → r ≡ r′
 one-answer-number κs a r r′ s s′ p q = p ∙ sym q
 
+-- `verdict::Answer::offset`
+pub one-answer-offset : (κs : _) (a : _) (r r′ : _) (s s′ : _) → Answer-offset.Post κs a r s → Answer-offset.Post κs a r′ s′
+    → r ≡ r′
+one-answer-offset κs a r r′ s s′ p q = p ∙ sym q
+
 -- `verdict::Answer::verdict`
 pub one-answer-verdict : (κs : _) (a : _) (r r′ : _) (s s′ : _) → Answer-verdict.Post κs a r s → Answer-verdict.Post κs a r′ s′
     → r ≡ r′
@@ -58,6 +65,11 @@ one-answer-length κs a r r′ s s′ p q = p ∙ sym q
 pub one-all-number : (κs : _) (a : _) (r r′ : _) (s s′ : _) → AllStates-number.Post κs a r s → AllStates-number.Post κs a r′ s′
     → r ≡ r′
 one-all-number κs a r r′ s s′ p q = p ∙ sym q
+
+-- `verdict::AllStates::offset`
+pub one-all-offset : (κs : _) (a : _) (r r′ : _) (s s′ : _) → AllStates-offset.Post κs a r s → AllStates-offset.Post κs a r′ s′
+    → r ≡ r′
+one-all-offset κs a r r′ s s′ p q = p ∙ sym q
 
 -- `verdict::AllStates::count`
 pub one-all-count : (κs : _) (a : _) (r r′ : _) (s s′ : _) → AllStates-count.Post κs a r s → AllStates-count.Post κs a r′ s′

@@ -6,7 +6,8 @@ use lib.ListN.{length}
 use borrow.Author.Tests.{lt-ltb, le-ltb}
 use native.Mathlib.Decide.{decLt}
 use native.Mathlib.Omega.{arith}
-use Rattle.refusal.specs.declared.Refusal.{Refusal}
+use Rattle.refusal.specs.Number.{unplaced}
+use Rattle.refusal.specs.declared.Fault.{Fault}
 use Rattle.refusal.specs.declared.Refusal.the-variants.{Name}
 use Rattle.refusal.proofs.Numbers.{number-above}
 use Rattle.wire.specs.Bytes.{Bytes}
@@ -40,18 +41,18 @@ asks m f q mb fb e =
     record { model-written = model .0; model-fits = model .1; formula-written = rows .0; formula-fits = rows .1 }
 
 -- a refusal's number is above BUDGET's
-module _ (m f : List ℕ) (budget : ℕ) (b v : List ℕ) (e : Refusal) (b′ v′ : List ℕ) (same : (b′ ≡ b) × (v′ ≡ v)) where
+module _ (m f : List ℕ) (budget : ℕ) (b v : List ℕ) (e : Fault) (b′ v′ : List ℕ) (same : (b′ ≡ b) × (v′ ≡ v)) where
   abbrev stays : Refuses b v b′ v′ 0 0
   stays = record { no-count = refl; no-length = refl; bytes-stay = same .0; values-stay = same .1 }
 
   refused-all : PromiseAll m f budget b v b′ v′ (AllStates.Refused e)
   refused-all =
-      let above = number-above e in
+      let above = number-above (e .refusal) in
       record { decides = λ z. absurd (omega arith); spends = λ z. absurd (omega arith); refuses = λ z. stays }
 
   refused-one : (state : ℕ) → Promise m f state budget b v b′ v′ (Answer.Refused e)
   refused-one state =
-      let above = number-above e in
+      let above = number-above (e .refusal) in
       record { decides = λ z. absurd (omega arith); spends = λ z. absurd (omega arith); refuses = λ z. (refl, stays) }
 
 -- a question that stands
@@ -169,13 +170,13 @@ module _ (m f : List ℕ) (mb : Bytes m) (fb : Bytes f) (budget : ℕ) (b v : Li
   unfolding bytesOf valuesOf answerOf readAsked
   kept-one state = go (readQuestion m f) refl
     where
-      refused : (r : Refusal) → readAsked m f state b v ≡ bad r → let x = readAsked m f state b v in
+      refused : (r : Fault) → readAsked m f state b v ≡ bad r → let x = readAsked m f state b v in
           Promise m f state budget b v (bytesOf x b) (valuesOf x budget v) (answerOf x state budget)
       refused r h = rw h (refused-one m f budget b v r b v (refl, refl) state)
 
       go : (x : Read Question) → readQuestion m f ≡ x → let y = readAsked m f state b v in Promise m f state budget b v (bytesOf y b) (valuesOf y budget v) (answerOf y state budget)
       go (good q) e = elim (decLt state (q .model .states)) [
         | yes l ↦ rw (asked-is m f b v q state e l, answer-decided q b v state budget) (kept-state m f budget b v q (asks m f q mb fb e) state l)
-        | no l ↦ refused Name (rw e (simp reading (rw (le-ltb state (q .model .states) (omega arith)) (simp reading))))
+        | no l ↦ refused (unplaced Name) (rw e (simp reading (rw (le-ltb state (q .model .states) (omega arith)) (simp reading))))
       ]
       go (bad r) e = refused r (rw e (simp reading))

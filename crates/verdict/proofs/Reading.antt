@@ -4,7 +4,7 @@ use mathlib.Core.List.{List}
 use mathlib.Core.Path.{_≡_, refl, ap, _∙_}
 use native.Mathlib.Omega.{arith}
 use lib.ListN.{length}
-use Rattle.refusal.specs.declared.Refusal.{Refusal}
+use Rattle.refusal.specs.declared.Fault.{Fault}
 use Rattle.wire.specs.Bytes.{Bytes}
 use Rattle.wire.specs.Read.{Read, good, bad}
 use Rattle.wire.proofs.Reading.{good-then, bad-then, bind-good, good-same}
@@ -43,13 +43,13 @@ model-read m {n} {p} {t} bytes e = go (readModel m) refl e
         rw (states, propositions, transitions) at base
 
 -- a refused model
-pub asked-refused : (m f : List ℕ) {e : Refusal} → model.checked (readModel m) ≡ Model.Refused e → readQuestion m f ≡ bad e
+pub asked-refused : (m f : List ℕ) {e : Fault} → model.checked (readModel m) ≡ Model.Refused e → readQuestion m f ≡ bad e
 unfolding readQuestion
 asked-refused m f h = rw (answered.checked-refused (readModel m) h) (bad-then _ _)
 
 -- a model, and the answer on the formula
 module _ (m f : List ℕ) {n p t : ℕ} (read : ModelRead m n p t) where
-  pub rows-refused : {e : Refusal} → formula.checked (readFormula p f) ≡ Formula.Refused e → readQuestion m f ≡ bad e
+  pub rows-refused : {e : Fault} → formula.checked (readFormula p f) ≡ Formula.Refused e → readQuestion m f ≡ bad e
   unfolding readQuestion heldModel
   rows-refused h = rw (read .reads, good-then, checked-refused (readFormula p f) h) (bad-then _ _)
 

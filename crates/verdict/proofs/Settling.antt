@@ -9,9 +9,10 @@ use lib.Dec.{leb}
 use borrow.Author.Tests.{leb-true}
 use native.Mathlib.Omega.{arith}
 use Rattle.lists.proofs.Tests.{and-left, and-right}
-use Rattle.refusal.specs.declared.Refusal.{Refusal}
+use Rattle.refusal.specs.Number.{nowhere, unplaced}
+use Rattle.refusal.specs.declared.Fault.{Fault}
 use Rattle.refusal.specs.declared.Refusal.the-variants.{Room, Size}
-use Rattle.wire.specs.Read.{good, bad, _>>_, demand}
+use Rattle.wire.specs.Read.{good, bad, _>>_, unless, demand}
 use Rattle.wire.proofs.Exact.{good-after, good-demand}
 use Rattle.rules.specs.Graph.{Graph}
 use Rattle.rules.specs.Count.{count}
@@ -42,7 +43,7 @@ unfolding builtOf
 was-built g b n {long} e = go (fits g) (roomy g b n) refl refl e
   where
     go : (t u : Bool) → fits g ≡ t → roomy g b n ≡ u
-        → cond t (cond u (Built.Graph (length (writeGraph g))) (Built.Refused Room)) (Built.Refused Size) ≡ Built.Graph long → WasBuilt g b n long
+        → cond t (cond u (Built.Graph (length (writeGraph g))) (Built.Refused (unplaced Room))) (Built.Refused (unplaced Size)) ≡ Built.Graph long → WasBuilt g b n long
     go true true p q z = record { fitting = p; room = q; long-is = cc }
     go true false p q z = let w : _≡_ {A = ℕ} 0 1 = cc in absurd (omega arith)
     go false u p q z = let w : _≡_ {A = ℕ} 0 1 = cc in absurd (omega arith)
@@ -78,23 +79,23 @@ module _ (q : Question) (budget : ℕ) (b v : List ℕ) where
   shows-as e s = (e ∙ s .0, s .1)
 
   -- the builder refuses what the reading does
-  not-roomed : {e : Refusal} → builtOf (graphFor q) b (length v) ≡ Built.Refused e → (roomed q b v ≡ bad e) × (builtRoom (graphFor q) b (length v) ≡ b)
-  unfolding builtOf builtRoom roomy roomed sized _>>_ demand
+  not-roomed : {e : Fault} → builtOf (graphFor q) b (length v) ≡ Built.Refused e → (roomed q b v ≡ bad e) × (builtRoom (graphFor q) b (length v) ≡ b)
+  unfolding builtOf builtRoom roomy roomed sized _>>_ unless
   not-roomed {e} h =
       go (fits (graphFor q)) (leb (length w) (length b)) (leb (graphFor q .nodes + graphFor q .nodes) (length v)) h
     where
       w : List ℕ
       w = writeGraph (graphFor q)
 
-      go : (t u r : Bool) → cond t (cond (u && r) (Built.Graph (length w)) (Built.Refused Room)) (Built.Refused Size) ≡ Built.Refused e
-          → (demand t Size >> (demand u Room >> good q) >> (demand r Room >> good q) ≡ bad e) × (cond t (cond (u && r) (w ++ drop (length w) b) b) b ≡ b)
+      go : (t u r : Bool) → cond t (cond (u && r) (Built.Graph (length w)) (Built.Refused (unplaced Room))) (Built.Refused (unplaced Size)) ≡ Built.Refused e
+          → (demand t Size nowhere >> (demand u Room nowhere >> good q) >> (demand r Room nowhere >> good q) ≡ bad e) × (cond t (cond (u && r) (w ++ drop (length w) b) b) b ≡ b)
       go true true true z = let k : _≡_ {A = ℕ} 0 1 = cc in absurd (omega arith)
-      go true true false z = let k : e ≡ Room = cc in (ap bad (sym k), refl)
-      go true false r z = let k : e ≡ Room = cc in (ap bad (sym k), refl)
-      go false u r z = let k : e ≡ Size = cc in (ap bad (sym k), refl)
+      go true true false z = let k : e ≡ unplaced Room = cc in (ap bad (sym k), refl)
+      go true false r z = let k : e ≡ unplaced Room = cc in (ap bad (sym k), refl)
+      go false u r z = let k : e ≡ unplaced Size = cc in (ap bad (sym k), refl)
 
   -- the graph was refused
-  pub shows-refused : {e : Refusal} {b′ : List ℕ} → builtOf (graphFor q) b (length v) ≡ Built.Refused e → b′ ≡ builtRoom (graphFor q) b (length v)
+  pub shows-refused : {e : Fault} {b′ : List ℕ} → builtOf (graphFor q) b (length v) ≡ Built.Refused e → b′ ≡ builtRoom (graphFor q) b (length v)
       → Shows (AllStates.Refused e) b′ v
   unfolding allOf bytesOf valuesOf
   shows-refused h r = let (is, stays) = not-roomed h in rw is (refl, (r ∙ stays, refl))

@@ -4,7 +4,7 @@ use mathlib.Core.List.{List, _++_}
 use mathlib.Core.Bool.{Bool, true, false, cond}
 use lib.ListN.{length, drop}
 use lib.Dec.{leb, ltb}
-use Rattle.refusal.specs.Number.{ok, overBudget, numberOf}
+use Rattle.refusal.specs.Number.{ok, overBudget, numberOf, nowhere}
 use Rattle.refusal.specs.declared.Refusal.the-variants.{Name, Room, Size}
 use Rattle.value.specs.Value.{atMost}
 use Rattle.wire.specs.Read.{Read, good, bad, _>>=_, _>>_, demand}
@@ -27,7 +27,13 @@ use Rattle.verdict.specs.Question.{Question, readQuestion, graphFor, rul
 abbrev pub answerNumber : Answer → ℕ
 answerNumber (Answer.Decided v m n) = ok
 answerNumber (Answer.Spent m n) = overBudget
-answerNumber (Answer.Refused e) = numberOf e
+answerNumber (Answer.Refused e) = numberOf (e .refusal)
+
+-- where the field starts that was found wrong
+abbrev pub answerOffset : Answer → ℕ
+answerOffset (Answer.Decided v m n) = nowhere
+answerOffset (Answer.Spent m n) = nowhere
+answerOffset (Answer.Refused e) = e .offset
 
 abbrev pub answerVerdict : Answer → Verdict
 answerVerdict (Answer.Decided v m n) = v
@@ -48,7 +54,13 @@ answerLength (Answer.Refused e) = 0
 abbrev pub allNumber : AllStates → ℕ
 allNumber (AllStates.Settled m n first states) = ok
 allNumber (AllStates.Spent m n) = overBudget
-allNumber (AllStates.Refused e) = numberOf e
+allNumber (AllStates.Refused e) = numberOf (e .refusal)
+
+-- where the field starts that was found wrong
+abbrev pub allOffset : AllStates → ℕ
+allOffset (AllStates.Settled m n first states) = nowhere
+allOffset (AllStates.Spent m n) = nowhere
+allOffset (AllStates.Refused e) = e .offset
 
 abbrev pub allCount : AllStates → ℕ
 allCount (AllStates.Settled m n first states) = m
@@ -63,15 +75,15 @@ allLength (AllStates.Refused e) = 0
 -- a question that is read: SIZE where its graph would pass a limit, then graph room
 unfoldable pub sized : Question → (bytes : List ℕ) → Read Question
 sized question bytes = do
-  demand (fits (graphFor question)) Size
-  demand (leb (length (writeGraph (graphFor question))) (length bytes)) Room
+  demand (fits (graphFor question)) Size nowhere
+  demand (leb (length (writeGraph (graphFor question))) (length bytes)) Room nowhere
   good question
 
 -- then value room, for two rounds
 unfoldable pub roomed : Question → (bytes values : List ℕ) → Read Question
 roomed question bytes values = do
   sized question bytes
-  demand (leb (ruledFor question .nodes + ruledFor question .nodes) (length values)) Room
+  demand (leb (ruledFor question .nodes + ruledFor question .nodes) (length values)) Room nowhere
   good question
 
 -- what a call asks for before BUDGET: for the graph alone, for all states, and for one state, which must exist
@@ -84,7 +96,7 @@ readSettled model formula bytes values = readQuestion model formula >>= λ quest
 unfoldable pub readAsked : (model formula : List ℕ) (state : ℕ) (bytes values : List ℕ) → Read Question
 readAsked model formula state bytes values = do
   question ← readQuestion model formula
-  demand (ltb state (question .model .states)) Name
+  demand (ltb state (question .model .states)) Name nowhere
   roomed question bytes values
 
 -- the verdict is yes when the root row's node of the state has value 0

@@ -1,12 +1,12 @@
 // The whole question: a model, a formula, a state and a budget; yes, no, or a refusal.
 ghost use mathlib.Core.Path.{_≡_};
 ghost use Rattle.build.specs.Held.{HoldsModel, HoldsRows};
-ghost use Rattle.verdict.specs.Answer.{answerNumber, answerVerdict, answerCount, answerLength, allNumber, allCount, allLength, roomed, readBuilt, readSettled, readAsked, answerOf, allOf, builtAlone, bytesOf, valuesOf};
+ghost use Rattle.verdict.specs.Answer.{answerNumber, answerOffset, answerVerdict, answerCount, answerLength, allNumber, allOffset, allCount, allLength, roomed, readBuilt, readSettled, readAsked, answerOf, allOf, builtAlone, bytesOf, valuesOf};
 ghost use Rattle.verdict.specs.Asking.{Asking, heldQuestion};
 ghost use Rattle.verdict.specs.Question.{readQuestion, nodesOf};
 ghost use Rattle.verdict.specs.Promise.{Promise, PromiseAll, PromiseGraph};
 use build::Built;
-use refusal::Refusal;
+use refusal::Fault;
 use rounds::Outcome;
 use wire::Width;
 
@@ -21,7 +21,7 @@ pub enum Verdict {
 pub enum Answer {
     Decided(Verdict, u32, usize),
     Spent(u32, usize),
-    Refused(Refusal),
+    Refused(Fault),
 }
 
 // All states at once: settled, with the count of rounds, the length of the graph, the node of state 0, and how many states;
@@ -29,13 +29,13 @@ pub enum Answer {
 pub enum AllStates {
     Settled(u32, usize, u32, u32),
     Spent(u32, usize),
-    Refused(Refusal),
+    Refused(Fault),
 }
 
 // The counts of an accepted model and formula, or the first fault.
 pub enum Asked {
     Question(u32, u32, u32, u32),
-    Refused(Refusal),
+    Refused(Fault),
 }
 
 impl AllStates {
@@ -47,6 +47,17 @@ impl AllStates {
             AllStates::Settled(_, _, _, _) => 0,
             AllStates::Spent(_, _) => 1,
             AllStates::Refused(e) => e.number(),
+        }
+    }
+
+    // Where the field starts that was found wrong, and 0 where none was.
+    pub fn offset(self) -> usize
+        ensures { λ r. ⌜ r ≡ allOffset self ⌝ }
+    {
+        match self {
+            AllStates::Settled(_, _, _, _) => 0,
+            AllStates::Spent(_, _) => 0,
+            AllStates::Refused(e) => e.offset,
         }
     }
 
@@ -82,6 +93,17 @@ impl Answer {
             Answer::Decided(_, _, _) => 0,
             Answer::Spent(_, _) => 1,
             Answer::Refused(e) => e.number(),
+        }
+    }
+
+    // Where the field starts that was found wrong, and 0 where none was.
+    pub fn offset(self) -> usize
+        ensures { λ r. ⌜ r ≡ answerOffset self ⌝ }
+    {
+        match self {
+            Answer::Decided(_, _, _) => 0,
+            Answer::Spent(_, _) => 0,
+            Answer::Refused(e) => e.offset,
         }
     }
 
@@ -223,7 +245,7 @@ pub fn decide(
         Asked::Refused(e) => Answer::Refused(e),
         Asked::Question(n, p, t, k) => {
             if n <= state {
-                return Answer::Refused(Refusal::Name);
+                return Answer::Refused(refusal::NAME);
             }
             match settle_question(m, n, p, t, f, k, budget, bytes, values) {
                 AllStates::Settled(count, long, first, _) => {

@@ -1,27 +1,15 @@
--- Counts in a header: the reading from the answer, what a good one says of the bytes, and that a count in its limits is read. Assumes nothing.
+-- Counts in a header: what a good one says of the bytes, and that a count in its limits is read. Assumes nothing.
 use Prim.Native.Nat.{ℕ, _≤_}
 use mathlib.Core.List.{List}
 use mathlib.Core.Path.{_≡_, refl, ap, _∙_}
 use borrow.Author.Tests.{leb-true, le-leb}
-use Rattle.refusal.specs.declared.Refusal.{Refusal}
-use Rattle.wire.specs.Counts.{readCount, countedOf}
+use Rattle.wire.specs.Counts.{readCount}
 use Rattle.wire.specs.Field.{widthOf, fieldAt}
-use Rattle.wire.specs.Read.{Read, good, bad, field}
+use Rattle.wire.specs.Read.{good, field}
 use Rattle.wire.specs.declared.Count.{Count}
-use Rattle.wire.specs.declared.Counted.the-variants as Counted
 use Rattle.wire.specs.declared.Field.the-variants.{Number}
 use Rattle.wire.proofs.Reading.{bind-good, demand-good, field-good, good-same}
 use Rattle.wire.proofs.Exact.{good-bind, good-demand}
-
-pub counted-good : (x : Read ℕ) {n : ℕ} → countedOf x ≡ Counted.Count n → x ≡ good n
-unfolding countedOf
-counted-good (good m) e = cc
-counted-good (bad f) e = cc
-
-pub counted-refused : (x : Read ℕ) {f : Refusal} → countedOf x ≡ Counted.Refused f → x ≡ bad f
-unfolding countedOf
-counted-refused (good m) e = cc
-counted-refused (bad g) e = cc
 
 -- what a good count says
 pub record CountAt (s : List ℕ) (count : Count) (n : ℕ) : Type 0 where

@@ -9,15 +9,15 @@ use lib.ListN.{length, drop, length-append, length-drop}
 use borrow.Author.Tests.{leb-true, eqb-true, le-leb, eq-eqb}
 use Rattle.lists.specs.Lists.{_∈_}
 use Rattle.lists.specs.Order.{RisingFrom}
-use Rattle.refusal.specs.declared.Refusal.{Refusal}
+use Rattle.refusal.specs.declared.Fault.{Fault}
 use Rattle.wire.specs.Bytes.{bytes, Bytes}
-use Rattle.wire.specs.Read.{Read, good, _>>=_, _>>_, demand, field}
+use Rattle.wire.specs.Read.{Read, good, _>>=_, _>>_, unless, field}
 use Rattle.wire.specs.Reader.{Reader, readAll, past}
-use Rattle.wire.specs.Start.{readStart, versionAt, kindAt, startWidth}
+use Rattle.wire.specs.Start.{readStart, only, versionAt, kindAt, startWidth}
 use Rattle.wire.specs.declared.Head.{Head}
 use Rattle.wire.specs.Write.{writeAll, writeStart, message}
 use Rattle.wire.proofs.Bytes.{length-bytes}
-use Rattle.wire.proofs.Reading.{bind-good, demand-good, good-same, good-then, good-and, met, never}
+use Rattle.wire.proofs.Reading.{bind-good, demand-good, good-same, good-then, good-and, met}
 use Rattle.wire.proofs.Readers.{all-length}
 use Rattle.wire.proofs.Stands.{Stands, stands-none, stands-first, stands-second, stands-both, stands-inside, stands-self, stands-parts, field-stands, stands-field}
 
@@ -29,7 +29,7 @@ good-bind f {a} p q = rw (p, good-then a f, q)
 pub good-after : {A B : Type 0} {x : Read A} {a : A} {r : Read B} {b : B} → x ≡ good a → r ≡ good b → x >> r ≡ good b
 good-after p q = rw (p, good-and, q)
 
-pub good-demand : {B : Type 0} {t : Bool} (e : Refusal) {r : Read B} {b : B} → t ≡ true → r ≡ good b → demand t e >> r ≡ good b
+pub good-demand : {B : Type 0} {t : Bool} (e : Fault) {r : Read B} {b : B} → t ≡ true → r ≡ good b → unless t e >> r ≡ good b
 good-demand e p q = good-after (rw p (met e)) q
 
 -- ---- records one after another
@@ -118,10 +118,17 @@ module _ {S A : Type 0} (R : Reader S A) where
 
 -- ---- the start that all messages share
 
-demand-met : (t : Bool) (e : Refusal) → demand t e ≡ good tt → t ≡ true
-unfolding demand
-demand-met true e h = refl
-demand-met false e h = absurd (never h)
+-- a byte that may be one number only is that number, and one that is is read
+only-good : (s : List ℕ) (at allowed : ℕ) {n : ℕ} → only s at allowed ≡ good n → (field 1 s at ≡ good n) × (n ≡ allowed)
+unfolding only
+only-good s at allowed e =
+    let v = bind-good _ _ e in
+    let is = demand-good _ _ _ (v .rest) in
+    (rw (← good-same (is .1)) (v .first), rw (← good-same (is .1)) (eqb-true _ _ (is .0)))
+
+good-only : (s : List ℕ) (at : ℕ) {n : ℕ} → field 1 s at ≡ good n → only s at n ≡ good n
+unfolding only
+good-only s at {n} e = good-bind _ e (good-demand _ (eq-eqb n n refl) refl)
 
 pub message-length : (head : Head) (rest : List ℕ) → length (message head rest) ≡ startWidth + length rest
 unfolding message
@@ -153,11 +160,12 @@ start-reads {s} head b e =
     let total = bind-good _ _ (long .1) in
     let is-total = demand-good _ _ _ (total .rest) in
     let version = bind-good _ _ (is-total .1) in
-    let is-version = demand-good _ _ _ (version .rest) in
-    let kind = bind-good _ _ (is-version .1) in
+    let is-version = only-good s versionAt v (version .first) in
+    let kind = bind-good _ _ (version .rest) in
+    let is-kind = only-good s kindAt k (kind .first) in
     let total-there = rw (eqb-true (total .value) (length s) (is-total .0)) at (field-stands 4 b (total .first)) in
-    let version-there = rw (eqb-true (version .value) v (is-version .0)) at (field-stands 1 b (version .first)) in
-    let kind-there = rw (eqb-true (kind .value) k (demand-met _ _ (kind .rest))) at (field-stands 1 b (kind .first)) in
+    let version-there = rw (is-version .1) at (field-stands 1 b (is-version .0)) in
+    let kind-there = rw (is-kind .1) at (field-stands 1 b (is-kind .0)) in
     let stands : Stands s 0 (writeStart head (length s)) =
     stands-both (simp (length-append, length-bytes)) (stands-both (simp length-bytes) (total-there .0) (version-there .0)) (kind-there .0) in
     let inside : startWidth ≤ length s = rw start-length at (stands-inside stands (rw start-length (omega arith))) in
@@ -188,6 +196,4 @@ start-written rest head v-byte k-byte header-fits length-fits =
     good-demand _ (le-leb (head .length) (length s) (omega arith))
     (good-bind _ total-there
     (good-demand _ (eq-eqb _ _ (sym long))
-    (good-bind _ version-there
-    (good-demand _ (eq-eqb v v refl)
-    (good-bind _ kind-there (rw (eq-eqb k k refl) (met _)))))))
+    (good-bind _ (good-only s versionAt version-there) (good-bind _ (good-only s kindAt kind-there) refl))))

@@ -26,6 +26,12 @@ module _ {A : Type 0} (L : Layout A) where
   unfolding end
   end-none k at h = ap (λ (j : ℕ). end L j at) h
 
+  -- one record more
+  pub end-last : (k at : ℕ) → end L (suc k) at ≡ L .next (end L k at)
+  unfolding end
+  end-last zero at = refl
+  end-last (suc k) at = end-last k (L .next at)
+
   pub sound-more : {k at : ℕ} → 0 < k → Sound L k at → L .Ok at × Sound L (k - 1) (L .next at)
   sound-more h none = absurd (not-suc-le-zero h)
   sound-more h (more ok s) = (ok, simp sub-one s)

@@ -14,6 +14,8 @@
 --     Written    records that are written one behind the other
 --     Laid       bytes laid into a room one after another are laid in at once; what a loop has still to lay in
 --     Spans      a loop over numbers that lays in the bytes of each
+--     Judged     a field as it is read and judged: what it depends on, its faults, and a number that it takes
+--     Onward     readings go onward: a fault lies at a field, nothing before it is to blame, and it can be mended
 --     One        one answer of each public function
 pub mod Bytes
 pub mod Fields
@@ -30,4 +32,6 @@ pub mod Counts
 pub mod Written
 pub mod Laid
 pub mod Spans
+pub mod Judged
+pub mod Onward
 pub mod One

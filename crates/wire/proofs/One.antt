@@ -3,7 +3,10 @@
 use mathlib.Core.Path.{_≡_, sym, _∙_}
 use denote.Ref.{now}
 use Rattle.wire.proofs.Width.bytes.Reads as Width-bytes
+use Rattle.wire.proofs.Field.fault.Reads as Field-fault
 use Rattle.wire.proofs.read.Reads as read
+use Rattle.wire.proofs.read_below.Reads as read-below
+use Rattle.wire.proofs.read_source.Reads as read-source
 use Rattle.wire.proofs.number_at.Reads as number-at
 use Rattle.wire.proofs.store.Reads as store
 use Rattle.wire.proofs.open.Reads as opening
@@ -14,6 +17,18 @@ use Rattle.wire.proofs.store_long.Reads as store-long
 -- `wire::Width::bytes`
 pub one-bytes : (κs : _) (a : _) (r r′ : _) (s s′ : _) → Width-bytes.Post κs a r s → Width-bytes.Post κs a r′ s′ → r ≡ r′
 one-bytes κs a r r′ s s′ p q = p ∙ sym q
+
+-- `wire::Field::fault`
+pub one-fault : (κs : _) (a : _) (r r′ : _) (s s′ : _) → Field-fault.Post κs a r s → Field-fault.Post κs a r′ s′ → r ≡ r′
+one-fault κs a r r′ s s′ p q = p ∙ sym q
+
+-- `wire::read_below`
+pub one-read-below : (κs : _) (a : _) (r r′ : _) (s s′ : _) → read-below.Post κs a r s → read-below.Post κs a r′ s′ → r ≡ r′
+one-read-below κs a r r′ s s′ p q = p ∙ sym q
+
+-- `wire::read_source`
+pub one-read-source : (κs : _) (a : _) (r r′ : _) (s s′ : _) → read-source.Post κs a r s → read-source.Post κs a r′ s′ → r ≡ r′
+one-read-source κs a r r′ s s′ p q = p ∙ sym q
 
 -- `wire::read`
 pub one-read : (κs : _) (a : _) (r r′ : _) (s s′ : _) → read.Post κs a r s → read.Post κs a r′ s′ → r ≡ r′

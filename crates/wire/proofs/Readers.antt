@@ -1,11 +1,12 @@
 -- The turns of a loop over records, and what a good reading of them says. Assumes nothing.
-use Prim.Native.Nat.{ℕ, zero, suc, _-_, _<_}
-use mathlib.Core.List.{List, _∷_}
+use Prim.Native.Nat.{ℕ, zero, suc, _+_, _*_, _-_, _<_}
+use mathlib.Core.List.{List, [], _∷_}
 use mathlib.Core.Path.{_≡_, refl, sym, ap, subst, _∙_}
 use native.Mathlib.Nat.{not-suc-le-zero}
 use native.Mathlib.Numerals.{sub-one}
+use native.Mathlib.Omega.{arith}
 use lib.ListN.{length}
-use Rattle.refusal.specs.declared.Refusal.{Refusal}
+use Rattle.refusal.specs.declared.Fault.{Fault}
 use Rattle.wire.specs.Read.{Read, good, bad, _>>=_}
 use Rattle.wire.specs.Reader.{Reader, readAll, past, one, run}
 use Rattle.wire.proofs.Reading.{bind-good, good-same, never}
@@ -53,7 +54,7 @@ module _ {S A : Type 0} (R : Reader S A) where
       let xs = bind-good _ _ e in
       record { got = xs .value; there = xs .first; ends = good-same (xs .rest) }
 
-  pub run-bad : (k : ℕ) (st : S) (f : Refusal) → run R k st ≡ bad f → readAll R k st ≡ bad f
+  pub run-bad : (k : ℕ) (st : S) (f : Fault) → run R k st ≡ bad f → readAll R k st ≡ bad f
   unfolding run _>>=_
   run-bad k st f e = go (readAll R k st) e
     where
@@ -67,3 +68,16 @@ module _ {S A : Type 0} (R : Reader S A) where
   run-keeps P each (suc k) st end p e =
       let r = bind-good _ _ (sym (run-suc k st) ∙ e) in
       run-keeps P each k (r .value) end (each st (r .value) (r .first)) (r .rest)
+
+-- where records end doesn't depend on how they are read
+pub past-same : {S A : Type 0} (R R′ : Reader S A) → R .next ≡ R′ .next → (st : S) (xs : List A) → past R st xs ≡ past R′ st xs
+unfolding past
+past-same R R′ is st [] = refl
+past-same R R′ is st (a ∷ xs) = past-same R R′ is (R .next st a) xs ∙ ap (λ (f : _ → _ → _). past R′ (f st a) xs) is
+
+-- records of one width
+pub past-wide : {S A : Type 0} (R : Reader S A) (w : ℕ) → ((st : S) (a : A) → R .position (R .next st a) ≡ R .position st + w)
+    → (st : S) (xs : List A) → R .position (past R st xs) ≡ R .position st + length xs * w
+unfolding past
+past-wide R w wide st [] = omega arith
+past-wide R w wide st (a ∷ xs) = omega (arith, past-wide R w wide (R .next st a) xs, wide st a)

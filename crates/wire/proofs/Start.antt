@@ -1,6 +1,6 @@
 -- The reading of a message's start, from the answer. Assumes nothing.
 use mathlib.Core.Path.{_≡_, refl}
-use Rattle.refusal.specs.declared.Refusal.{Refusal}
+use Rattle.refusal.specs.declared.Fault.{Fault}
 use Rattle.wire.specs.Read.{Read, good, bad}
 use Rattle.wire.specs.Start.{openedOf}
 use Rattle.wire.specs.declared.Opened.the-variants.{Open, Refused}
@@ -10,7 +10,7 @@ unfolding openedOf
 opened-good (good a) e = refl
 opened-good (bad f) e = cc
 
-pub opened-refused : (x : Read Unit) {f : Refusal} → openedOf x ≡ Refused f → x ≡ bad f
+pub opened-refused : (x : Read Unit) {f : Fault} → openedOf x ≡ Refused f → x ≡ bad f
 unfolding openedOf
 opened-refused (good a) e = cc
 opened-refused (bad g) e = cc

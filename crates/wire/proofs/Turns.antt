@@ -2,7 +2,7 @@
 use Prim.Native.Nat.{ℕ, _-_, _<_}
 use mathlib.Core.Path.{_≡_, sym, ap, _∙_}
 use native.Mathlib.Omega.{arith}
-use Rattle.refusal.specs.declared.Refusal.{Refusal}
+use Rattle.refusal.specs.declared.Fault.{Fault}
 use Rattle.wire.specs.Read.{Read, good, bad}
 use Rattle.wire.specs.Reader.{Reader, one, run}
 use Rattle.wire.specs.Step.{step}
@@ -18,13 +18,13 @@ unfolding step
 step-next (good a) e = cc
 step-next (bad a) e = cc
 
-pub step-refused : (x : Read State) {f : Refusal} → step x ≡ Refused f → x ≡ bad f
+pub step-refused : (x : Read State) {f : Fault} → step x ≡ Refused f → x ≡ bad f
 unfolding step
 step-refused (good a) e = cc
 step-refused (bad a) e = cc
 
 -- no answer is both
-pub not-next : {A : Type 0} {f : Refusal} {st : State} → Refused f ≡ Next st → A
+pub not-next : {A : Type 0} {f : Fault} {st : State} → Refused f ≡ Next st → A
 not-next e = let z : _≡_ {A = ℕ} 0 1 = cc in absurd (omega arith)
 
 -- a loop over records, whose answer is w: where its next record is good, where it is not, and at its end
@@ -34,7 +34,7 @@ module _ (A : Type 0) (R : Reader State A) (i : ℕ) (st : State) {w : Step} (wh
       let read : one R st ≡ good next = step-next (one R st) (sym e ∙ is) in
       ap step (sym (rw (run-more R i st h, read, good-then))) ∙ whole
 
-  pub turn-refused : {r : Step} {f : Refusal} → 0 < i → r ≡ step (one R st) → r ≡ Refused f → r ≡ w
+  pub turn-refused : {r : Step} {f : Fault} → 0 < i → r ≡ step (one R st) → r ≡ Refused f → r ≡ w
   unfolding step
   turn-refused {r} {f} h e is =
       let read : one R st ≡ bad f = step-refused (one R st) (sym e ∙ is) in

@@ -4,11 +4,14 @@ use mathlib.Core.List.{List}
 use mathlib.Core.Bool.{cond}
 use lib.ListN.{length}
 use lib.Dec.{leb}
+use Rattle.refusal.specs.declared.Fault.{Fault}
+use Rattle.refusal.specs.declared.Refusal.the-variants.{Length}
+use Rattle.refusal.specs.Number.{unplaced}
 use Rattle.wire.specs.Bytes.{number}
 use Rattle.wire.specs.declared.Width.{Width}
 use Rattle.wire.specs.declared.Width.the-variants.{One, Two, Four}
 use Rattle.wire.specs.declared.Field.{Field}
-use Rattle.wire.specs.declared.Field.the-variants.{Number, Short}
+use Rattle.wire.specs.declared.Field.the-variants.{Number, Refused}
 
 -- how many bytes a width is
 abbrev pub widthOf : Width → ℕ
@@ -20,6 +23,10 @@ widthOf Four = 4
 abbrev pub longWidth : ℕ
 longWidth = 8
 
--- the number that the k bytes at the position make, or Short where they run past the end
+-- too few bytes are LENGTH, and no field's fault
+abbrev pub short : Fault
+short = unplaced Length
+
+-- the number that the k bytes at the position make, or LENGTH where they run past the end
 unfoldable pub fieldAt : ℕ → List ℕ → ℕ → Field
-fieldAt k s at = cond (leb (at + k) (length s)) (Number (number k s at)) Short
+fieldAt k s at = cond (leb (at + k) (length s)) (Number (number k s at)) (Refused short)

@@ -4,6 +4,7 @@ use mathlib.Core.List.{List}
 use lib.ListN.{length}
 use lib.Dec.{leb, eqb}
 use Rattle.refusal.specs.declared.Refusal.the-variants.{Length, Version}
+use Rattle.refusal.specs.Number.{nowhere}
 use Rattle.wire.specs.Read.{Read, good, bad, _>>=_, _>>_, demand, field}
 use Rattle.wire.specs.declared.Head.{Head}
 use Rattle.wire.specs.declared.Opened.{Opened}
@@ -19,16 +20,22 @@ kindAt = versionAt + 1
 abbrev pub startWidth : ℕ
 startWidth = kindAt + 1
 
+-- a byte that may be this number only, else VERSION
+unfoldable pub only : List ℕ → (at allowed : ℕ) → Read ℕ
+only s at allowed = do
+  n ← field 1 s at
+  demand (eqb n allowed) Version at
+  good n
+
 -- in this order: the bytes of the header, the length field, the version, the kind
 unfoldable pub readStart : List ℕ → Head → Read Unit
 readStart s head = do
-  demand (leb (head .length) (length s)) Length
+  demand (leb (head .length) (length s)) Length nowhere
   total ← field 4 s 0
-  demand (eqb total (length s)) Length
-  v ← field 1 s versionAt
-  demand (eqb v (head .version)) Version
-  k ← field 1 s kindAt
-  demand (eqb k (head .kind)) Version
+  demand (eqb total (length s)) Length nowhere
+  v ← only s versionAt (head .version)
+  k ← only s kindAt (head .kind)
+  good tt
 
 -- what the function that reads the start answers
 unfoldable pub openedOf : Read Unit → Opened

@@ -4,8 +4,10 @@ ghost use Prim.Native.Nat.{_+_, _≤_};
 ghost use lib.ListN.{length};
 ghost use Rattle.wire.specs.Bytes.{number, put};
 ghost use Rattle.wire.specs.Field.{widthOf, longWidth, fieldAt};
-ghost use Rattle.wire.specs.Start.{readStart, openedOf};
-ghost use Rattle.wire.specs.Counts.{readCount, countedOf};
+ghost use Rattle.wire.specs.Start.{readStart, openedOf, only};
+ghost use Rattle.wire.specs.Read.{found, faultOf, below, sourceFrom};
+ghost use Rattle.wire.specs.Counts.{readCount};
+use refusal::Fault;
 use refusal::Refusal;
 
 // How many bytes a field has.
@@ -31,22 +33,34 @@ impl Width {
 // How many bytes a number of 64 bits has.
 pub const LONG: usize = 8;
 
-// What reading a field finds: its number, or too few bytes.
+// What reading a field finds: its number, or its fault.
 pub enum Field {
     Number(u32),
-    Short,
+    Refused(Fault),
+}
+
+// Too few bytes are LENGTH, and no field's fault.
+pub const SHORT: Fault = Fault {
+    refusal: Refusal::Length,
+    offset: 0,
+};
+
+impl Field {
+    // The fault of a field that was refused. A number has none: it is taken out before this is asked.
+    pub fn fault(self) -> Fault
+        ensures { λ r. ⌜ r ≡ faultOf self ⌝ }
+    {
+        match self {
+            Field::Number(_) => SHORT,
+            Field::Refused(e) => e,
+        }
+    }
 }
 
 // The start of a message is as it should be, or its first fault.
 pub enum Opened {
     Open,
-    Refused(Refusal),
-}
-
-// A count as it should be, or its fault.
-pub enum Counted {
-    Count(u32),
-    Refused(Refusal),
+    Refused(Fault),
 }
 
 // The header of a kind of message: how long it is, its version and its kind.
@@ -81,7 +95,7 @@ pub struct State {
 // The state past what was read, or the first fault.
 pub enum Step {
     Next(State),
-    Refused(Refusal),
+    Refused(Fault),
 }
 
 // The number of a field that is known to fit.
@@ -119,11 +133,11 @@ pub fn read(s: &[u8], at: usize, width: Width) -> Field
 {
     let k = width.bytes();
     if s.len() < k {
-        return Field::Short;
+        return Field::Refused(SHORT);
     }
     let last = s.len() - k;
     if last < at {
-        return Field::Short;
+        return Field::Refused(SHORT);
     }
     Field::Number(number_at(s, at, width))
 }
@@ -156,53 +170,107 @@ pub fn store_long(b: &mut [u8], at: usize, v: u64)
     }
 }
 
+// A field whose number must be below a limit, or this is its fault.
+pub fn read_below(s: &[u8], at: usize, width: Width, limit: u64, fault: Fault) -> Field
+    ensures { λ r. ⌜ r ≡ found (below (widthOf width) (now (s .entry)) at limit fault) ⌝ }
+{
+    let field = read(s, at, width);
+    let Field::Number(n) = field else {
+        return field;
+    };
+    if limit <= n as u64 {
+        return Field::Refused(fault);
+    }
+    field
+}
+
+// A source, one of n nodes or states and not below the one before it, that stands here in its message.
+pub fn read_source(s: &[u8], at: usize, n: u32, prev: u32, offset: usize) -> Field
+    ensures { λ r. ⌜ r ≡ found (sourceFrom (now (s .entry)) at n prev offset) ⌝ }
+{
+    let name = Fault {
+        refusal: Refusal::Name,
+        offset,
+    };
+    let field = read_below(s, at, Width::Two, n as u64, name);
+    let Field::Number(source) = field else {
+        return field;
+    };
+    if source < prev {
+        return Field::Refused(Fault {
+            refusal: Refusal::Order,
+            offset,
+        });
+    }
+    field
+}
+
 // The start of a message: enough bytes for its header, its length field, version and kind.
 pub fn open(s: &[u8], head: Head) -> Opened
     ensures { λ r. ⌜ r ≡ openedOf (readStart (now (s .entry)) head) ⌝ }
 {
     let length = head.length;
     if s.len() < length {
-        return Opened::Refused(Refusal::Length);
+        return Opened::Refused(SHORT);
     }
-    let Field::Number(total) = read(s, 0, Width::Four) else {
-        return Opened::Refused(Refusal::Length);
+    let long = read(s, 0, Width::Four);
+    let Field::Number(total) = long else {
+        return Opened::Refused(long.fault());
     };
     if total as usize != s.len() {
-        return Opened::Refused(Refusal::Length);
+        return Opened::Refused(SHORT);
     }
-    let Field::Number(v) = read(s, VERSION_AT, Width::One) else {
-        return Opened::Refused(Refusal::Length);
-    };
     let version = head.version;
-    if v != version {
-        return Opened::Refused(Refusal::Version);
-    }
-    let Field::Number(k) = read(s, KIND_AT, Width::One) else {
-        return Opened::Refused(Refusal::Length);
-    };
     let kind = head.kind;
-    if k != kind {
-        return Opened::Refused(Refusal::Version);
-    }
+    let first = read_only(s, VERSION_AT, version);
+    let Field::Number(_) = first else {
+        return Opened::Refused(first.fault());
+    };
+    let second = read_only(s, KIND_AT, kind);
+    let Field::Number(_) = second else {
+        return Opened::Refused(second.fault());
+    };
     Opened::Open
 }
 
+// A byte that may be this number only: the version or the kind of a message.
+fn read_only(s: &[u8], at: usize, allowed: u32) -> Field
+    ensures { λ r. ⌜ r ≡ found (only (now (s .entry)) at allowed) ⌝ }
+{
+    let field = read(s, at, Width::One);
+    let Field::Number(n) = field else {
+        return field;
+    };
+    if n != allowed {
+        return Field::Refused(Fault {
+            refusal: Refusal::Version,
+            offset: at,
+        });
+    }
+    field
+}
+
 // A count of a header, in what is allowed.
-pub fn read_count(s: &[u8], count: Count) -> Counted
-    ensures { λ r. ⌜ r ≡ countedOf (readCount (now (s .entry)) count) ⌝ }
+pub fn read_count(s: &[u8], count: Count) -> Field
+    ensures { λ r. ⌜ r ≡ found (readCount (now (s .entry)) count) ⌝ }
 {
     let at = count.at;
     let width = count.width;
-    let Field::Number(n) = read(s, at, width) else {
-        return Counted::Refused(Refusal::Length);
+    let field = read(s, at, width);
+    let Field::Number(n) = field else {
+        return field;
+    };
+    let limit = Fault {
+        refusal: Refusal::Limit,
+        offset: at,
     };
     let least = count.least;
     if n < least {
-        return Counted::Refused(Refusal::Limit);
+        return Field::Refused(limit);
     }
     let most = count.most;
     if most < n {
-        return Counted::Refused(Refusal::Limit);
+        return Field::Refused(limit);
     }
-    Counted::Count(n)
+    field
 }

@@ -35,6 +35,11 @@ pub fn graph(random: &mut Random, most: usize) -> Graph {
     let nodes = random.between(1, most);
     let hyperedges = random.below(2 * nodes + 3);
     let covers = random.below(nodes + 2);
+    graph_of(random, nodes, hyperedges, covers)
+}
+
+/// A graph of exactly so many nodes, hyperedges and cover edges.
+pub fn graph_of(random: &mut Random, nodes: usize, hyperedges: usize, covers: usize) -> Graph {
     let mut graph = Graph {
         nodes,
         hyperedges: (0..hyperedges).map(|_| hyperedge(random, nodes)).collect(),

@@ -3,7 +3,7 @@
 
 use super::formulas::{self, nested, tower};
 use super::verdicts::{self, loops, passing, with_unary};
-use super::{generate, models, wild_inputs};
+use super::{generate, models, offsets, wild_inputs};
 use crate::build;
 use crate::bytes::{Formula, Model, Row, Runs};
 use crate::known::{self, model};
@@ -457,6 +457,7 @@ fn named_leaves(rows: &Formula) -> Formula {
 
 /// The model and the formula of each systematic verdict.
 fn of_verdicts() -> Vec<Vec<u8>> {
-    let calls = verdicts::calls();
-    calls.iter().map(|call| call.messages.concat()).collect()
+    let calls = [verdicts::calls(), offsets::calls()].concat();
+    let verdicts = calls.iter().filter(|call| call.letter == b'V');
+    verdicts.map(|call| call.messages.concat()).collect()
 }

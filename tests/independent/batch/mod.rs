@@ -7,6 +7,7 @@ pub mod generate;
 mod graphs;
 pub mod inputs;
 mod models;
+mod offsets;
 pub mod searches;
 mod sweep;
 mod verdicts;
@@ -25,6 +26,7 @@ pub fn systematic() -> Vec<Call> {
         formulas::calls(),
         verdicts::calls(),
         searches::calls(),
+        offsets::calls(),
     ];
     let mut calls: Vec<Call> = parts.into_iter().flatten().collect();
     let mut seen = BTreeSet::new();

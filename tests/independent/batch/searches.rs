@@ -59,7 +59,7 @@ pub fn needed(message: &[u8]) -> usize {
 }
 
 /// A search of any message, with exact room where it is a graph.
-fn search_of(root: u32, message: &[u8]) -> Call {
+pub fn search_of(root: u32, message: &[u8]) -> Call {
     Call::search(root, needed(message), message)
 }
 

@@ -4,6 +4,7 @@
 use super::damage::{self, MENDS};
 use crate::message::{set, Field, Message};
 use crate::refusal::Fault;
+use std::collections::BTreeSet;
 
 /// How the changed messages are judged: the fault that is found first, or none.
 pub type Judged<'a> = &'a dyn Fn(&[u8]) -> Option<Fault>;
@@ -56,10 +57,9 @@ pub fn fields(message: &Message, judged: Judged) -> Vec<Vec<u8>> {
 fn faults(message: &Message, judged: Judged) -> Vec<(Field, u32)> {
     let mut found = vec![];
     for field in &message.fields {
-        let mut rules = vec![];
+        let mut rules = BTreeSet::new();
         for (number, fault) in borders(message, *field, judged) {
-            if fault.is_some() && !rules.contains(&fault) {
-                rules.push(fault);
+            if fault.is_some_and(|fault| rules.insert(fault.rule())) {
                 found.push((*field, number));
             }
         }
@@ -129,14 +129,8 @@ pub fn records(message: &Message) -> Vec<Vec<u8>> {
 
 /// For each rule that one of these messages breaks, the first that breaks it.
 pub fn one_for_each_rule(messages: &[Vec<u8>], judged: Judged) -> Vec<Vec<u8>> {
-    let mut rules = vec![];
-    let mut found = vec![];
-    for message in messages {
-        let fault = judged(message);
-        if fault.is_some() && !rules.contains(&fault) {
-            rules.push(fault);
-            found.push(message.clone());
-        }
-    }
+    let mut rules = BTreeSet::new();
+    let mut found = messages.to_vec();
+    found.retain(|message| judged(message).is_some_and(|fault| rules.insert(fault.rule())));
     found
 }

@@ -52,7 +52,7 @@ pub fn needs(model: &[u8], formula: &[u8]) -> Option<Needs> {
 }
 
 /// A verdict on any two messages: with exact rooms where they can be had, and an ample budget.
-fn asked(model: &[u8], formula: &[u8], state: u32) -> Call {
+pub fn asked(model: &[u8], formula: &[u8], state: u32) -> Call {
     let (length, values) =
         needs(model, formula).map_or((70, 9), |needs| (needs.length, needs.values));
     let question = Question {

@@ -1,7 +1,7 @@
 -- `export::otzarvim_search` meets its contract: each part of the answer, and the words.
 use mathlib.Core.Path.{ap, subst, _∙_}
 use borrow.Author.Needs.{needs}
-use Rattle.search.specs.Answer.{answerNumber, answerVerdict, answerCount}
+use Rattle.search.specs.Answer.{answerNumber, answerOffset, answerVerdict, answerCount}
 use Rattle.search.specs.Promise.{Promise}
 use Rattle.export.specs.Results.{foundNumber}
 use Rattle.export.proofs.otzarvim_search.Statement.{statement}
@@ -19,6 +19,9 @@ found-number-requires c κs = search needs
 count-requires : tie.Need-count-requires
 count-requires c κs = search needs
 
+offset-requires : tie.Need-offset-requires
+offset-requires c κs = search needs
+
 number-requires : tie.Need-number-requires
 number-requires c κs = search needs
 
@@ -27,7 +30,7 @@ same-length c = search needs
 
 returns : tie.Need-returns
 returns c =
-    let count = c .before in
+    let count = c .before .before in
     let number = count .before in
     let verdict = number .before in
     let answer = verdict .before .before .before .decide .ensures in (
@@ -36,11 +39,11 @@ returns c =
         answer .1 .0,
         (
           number .found-number .ensures ∙ ap foundNumber (verdict .verdict .ensures ∙ ap answerVerdict (answer .0)),
-          (count .count .ensures ∙ ap answerCount (answer .0), subst (Promise _ _ _ _) (answer .0) (answer .1 .1)),
+          (count .count .ensures ∙ ap answerCount (answer .0), (c .before .offset .ensures ∙ ap answerOffset (answer .0), subst (Promise _ _ _ _) (answer .0) (answer .1 .1))),
         ),
       ),
     )
 
 pub otzarvim-search-spec : {M : Type 1} → statement M
 otzarvim-search-spec =
-    tie.close (tie.spec decide-requires verdict-requires found-number-requires count-requires number-requires same-length returns)
+    tie.close (tie.spec decide-requires verdict-requires found-number-requires count-requires offset-requires number-requires same-length returns)

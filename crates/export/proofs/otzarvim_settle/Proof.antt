@@ -3,7 +3,7 @@ use mathlib.Core.Path.{_≡_, sym, ap, subst, _∙_}
 use denote.Ref.{now}
 use borrow.Author.Needs.{needs}
 use Rattle.lists.proofs.Tests.{by}
-use Rattle.verdict.specs.Answer.{allNumber, allCount, allLength}
+use Rattle.verdict.specs.Answer.{allNumber, allOffset, allCount, allLength}
 use Rattle.verdict.specs.Promise.{PromiseAll}
 use Rattle.verdict.specs.declared.AllStates.{AllStates}
 use Rattle.export.specs.Results.{askedAll, statesLent}
@@ -11,7 +11,7 @@ use Rattle.export.proofs.otzarvim_settle.Statement.{statement}
 use Rattle.export.proofs.otzarvim_settle.Tie as tie
 
 abbrev call : tie.After-number → tie.After-settle
-call n = n .before .before .before .before .before .before .before
+call n = n .before .before .before .before .before .before .before .before
 
 abbrev start : tie.After-number → tie.Start
 start n = call n .before .before .before .before .before .before .before
@@ -26,11 +26,14 @@ is n = call n .settle .ensures .0
 number-is : (n : tie.After-number) → n .number .result ≡ allNumber (answer n)
 number-is n = n .number .ensures ∙ ap allNumber (is n)
 
-count-is : (n : tie.After-number) → n .before .before .count .result ≡ allCount (answer n)
-count-is n = n .before .before .count .ensures ∙ ap allCount (is n)
+count-is : (n : tie.After-number) → n .before .before .before .count .result ≡ allCount (answer n)
+count-is n = n .before .before .before .count .ensures ∙ ap allCount (is n)
 
-length-is : (n : tie.After-number) → n .before .length .result ≡ allLength (answer n)
-length-is n = n .before .length .ensures ∙ ap allLength (is n)
+length-is : (n : tie.After-number) → n .before .before .length .result ≡ allLength (answer n)
+length-is n = n .before .before .length .ensures ∙ ap allLength (is n)
+
+offset-is : (n : tie.After-number) → n .before .offset .result ≡ allOffset (answer n)
+offset-is n = n .before .offset .ensures ∙ ap allOffset (is n)
 
 -- what an answer says of the lent states
 states-are : (n : tie.After-number) {x : AllStates} → call n .settle .result ≡ x
@@ -45,6 +48,9 @@ count-requires c κs = search needs
 
 length-requires : tie.Need-length-requires
 length-requires c κs = search needs
+
+offset-requires : tie.Need-offset-requires
+offset-requires c κs = search needs
 
 number-requires : tie.Need-number-requires
 number-requires c κs = search needs
@@ -69,7 +75,7 @@ returns c =
     let done = c .before .before in
     let n = done .before .before in
     let rooms = call n .settle .ensures .1 in
-    (number-is n, (rooms .0, (rooms .1 .0, (count-is n, (length-is n, (states-are n (done .settled .given .1), subst (PromiseAll _ _ _ _ _ _ _) (is n) (rooms .1 .1)))))))
+    (number-is n, (rooms .0, (rooms .1 .0, (count-is n, (length-is n, (states-are n (done .settled .given .1), (offset-is n, subst (PromiseAll _ _ _ _ _ _ _) (is n) (rooms .1 .1))))))))
 
 same-length-3 : tie.Need-same-length-3
 same-length-3 c = search needs
@@ -81,7 +87,7 @@ returns-2 : tie.Need-returns-2
 returns-2 c =
     let n = c .before .before in
     let rooms = call n .settle .ensures .1 in
-    (number-is n, (rooms .0, (rooms .1 .0, (count-is n, (length-is n, (states-are n (c .enum-told .given .1), subst (PromiseAll _ _ _ _ _ _ _) (is n) (rooms .1 .1)))))))
+    (number-is n, (rooms .0, (rooms .1 .0, (count-is n, (length-is n, (states-are n (c .enum-told .given .1), (offset-is n, subst (PromiseAll _ _ _ _ _ _ _) (is n) (rooms .1 .1))))))))
 
 same-length-5 : tie.Need-same-length-5
 same-length-5 c = search needs
@@ -93,7 +99,7 @@ returns-3 : tie.Need-returns-3
 returns-3 c =
     let n = c .before .before in
     let rooms = call n .settle .ensures .1 in
-    (number-is n, (rooms .0, (rooms .1 .0, (count-is n, (length-is n, (states-are n (c .enum-told2 .given .1), subst (PromiseAll _ _ _ _ _ _ _) (is n) (rooms .1 .1)))))))
+    (number-is n, (rooms .0, (rooms .1 .0, (count-is n, (length-is n, (states-are n (c .enum-told2 .given .1), (offset-is n, subst (PromiseAll _ _ _ _ _ _ _) (is n) (rooms .1 .1))))))))
 
 pub otzarvim-settle-spec : {M : Type 1} → statement M
 otzarvim-settle-spec =
@@ -102,6 +108,7 @@ otzarvim-settle-spec =
     settle-requires
     count-requires
     length-requires
+    offset-requires
     number-requires
     enum-known-settled
     enum-told

@@ -1,7 +1,7 @@
 -- `export::otzarvim_verdict` meets its contract: each part of the answer, and both rooms.
 use mathlib.Core.Path.{ap, subst, _∙_}
 use borrow.Author.Needs.{needs}
-use Rattle.verdict.specs.Answer.{answerNumber, answerVerdict, answerCount, answerLength}
+use Rattle.verdict.specs.Answer.{answerNumber, answerOffset, answerVerdict, answerCount, answerLength}
 use Rattle.verdict.specs.Promise.{Promise}
 use Rattle.export.specs.Results.{verdictNumber}
 use Rattle.export.proofs.otzarvim_verdict.Statement.{statement}
@@ -26,6 +26,9 @@ count-requires c κs = search needs
 length-requires : tie.Need-length-requires
 length-requires c κs = search needs
 
+offset-requires : tie.Need-offset-requires
+offset-requires c κs = search needs
+
 number-requires : tie.Need-number-requires
 number-requires c κs = search needs
 
@@ -37,7 +40,7 @@ same-length-2 c = search needs
 
 returns : tie.Need-returns
 returns c =
-    let length = c .before in
+    let length = c .before .before in
     let count = length .before in
     let number = count .before in
     let verdict = number .before in
@@ -51,7 +54,10 @@ returns c =
             number .verdict-number .ensures ∙ ap verdictNumber (verdict .verdict .ensures ∙ ap answerVerdict (answer .0)),
             (
               count .count .ensures ∙ ap answerCount (answer .0),
-              (length .length .ensures ∙ ap answerLength (answer .0), subst (Promise _ _ _ _ _ _ _ _) (answer .0) (answer .1 .1 .1)),
+              (
+                length .length .ensures ∙ ap answerLength (answer .0),
+                (c .before .offset .ensures ∙ ap answerOffset (answer .0), subst (Promise _ _ _ _ _ _ _ _) (answer .0) (answer .1 .1 .1)),
+              ),
             ),
           ),
         ),
@@ -67,6 +73,7 @@ otzarvim-verdict-spec =
     verdict-number-requires
     count-requires
     length-requires
+    offset-requires
     number-requires
     same-length
     same-length-2

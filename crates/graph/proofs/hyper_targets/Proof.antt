@@ -17,15 +17,18 @@ use Rattle.graph.proofs.hyper_targets.Statement.{statement}
 use Rattle.graph.proofs.hyper_targets.Tie as tie
 
 -- the running total is within its limit
-few : (c : tie.Else1) → let a = c .before .before .args in leb (a .st .seen + a .count) mostTargets ≡ true
-few c = let a = c .before .before .args in le-leb (a .st .seen + a .count) mostTargets (omega arith)
+few : (c : tie.Else1) → let a = c .before .before .before .args in leb (a .st .seen + a .count) mostTargets ≡ true
+few c = let a = c .before .before .before .args in le-leb (a .st .seen + a .count) mostTargets (omega arith)
+
+add-count-at : tie.Need-add-count-at
+add-count-at c = search needs
 
 sub-if1 : tie.Need-sub-if1
 sub-if1 c = search needs
 
 returns : tie.Need-returns
 unfolding readTargets step
-returns c = let a = c .before .before .args in simp (reading, lt-leb (a .st .seen + a .count) mostTargets (omega arith))
+returns c = let a = c .before .before .before .args in simp (reading, lt-leb (a .st .seen + a .count) mostTargets (omega arith))
 
 add-first : tie.Need-add-first
 add-first c = search needs
@@ -70,6 +73,7 @@ pub hyper-targets-spec : {M : Type 1} → statement M
 hyper-targets-spec =
     tie.close
     (tie.spec
+    add-count-at
     sub-if1
     returns
     add-first

@@ -31,9 +31,7 @@ labels-next c = step-next _ (by (c .before .before .labels .ensures) (c .enum-to
 
 transitions-next : (c : tie.After-enum-told3) → let l = c .before .before .before in let k = l .before .before .before .before .head .given .0 in
     run (m.transitions (now (l .before .before .before .before .before .before .before .before .args .s)) (k .0)) (k .1 .1 .0) (start (labelAt (k .0))) ≡ good (c .enum-told3 .given .0 .0)
-transitions-next c =
-    let h = c .before .before .before .before .before .before in
-    step-next _ (by (c .before .before .transitions .ensures _ (sym (header-good _ _ (head-good h) .long))) (c .enum-told3 .given .1))
+transitions-next c = step-next _ (by (c .before .before .transitions .ensures) (c .enum-told3 .given .1))
 
 header-requires : tie.Need-header-requires
 header-requires c κs = search needs
@@ -75,7 +73,7 @@ add-middle : tie.Need-add-middle
 add-middle c = search needs
 
 transitions-requires : tie.Need-transitions-requires
-transitions-requires c κs = let h = header-good _ _ (head-good (c .before .before .before)) in (omega (arith, h .long), omega (arith, h .states-counted .no-less))
+transitions-requires c κs = let h = header-good _ _ (head-good (c .before .before .before)) in omega (arith, h .long)
 
 enum-known-e-2 : tie.Need-enum-known-e-2
 enum-known-e-2 c = search needs
@@ -86,7 +84,7 @@ returns-3 c =
     let r = c .before .before .before in
     let h = head-good (r .before .before .before .before) in
     let ls = run-good _ _ _ _ (labels-next (r .before)) in
-    let refused = by (r .transitions .ensures _ (sym (header-good _ _ h .long))) (c .before .e2 .given .1) in
+    let refused = by (r .transitions .ensures) (c .before .e2 .given .1) in
     simp (reading, h, ls .there, run-bad _ _ _ _ (step-refused _ refused))
 
 enum-told-3 : tie.Need-enum-told-3

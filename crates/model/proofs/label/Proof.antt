@@ -1,69 +1,77 @@
--- `model::label` meets its contract: each `return` is the reading under the tests that led there.
-use Prim.Native.Nat.{_^_}
-use mathlib.Core.Path.{_≡_}
+-- `model::label` meets its contract: the label is read from its part as from the message.
+use Prim.Native.Nat.{ℕ, _+_}
+use mathlib.Core.Path.{_≡_, ap, ap₂, _∙_}
 use denote.Ref.{now}
 use borrow.Author.Needs.{needs}
-use borrow.Author.Tests.{lt-ltb, le-ltb}
+use native.Mathlib.Nat.{add-zero}
 use native.Mathlib.Omega.{arith}
 use Rattle.lists.proofs.Tests.{by}
-use Rattle.wire.specs.declared.Field.the-variants.{Number}
-use Rattle.wire.specs.Field.{fieldAt}
+use Rattle.refusal.specs.declared.Refusal.the-variants.{Form}
+use Rattle.wire.specs.Read.{found, below}
 use Rattle.wire.specs.Step.{step}
-use Rattle.wire.proofs.Reading.{reading}
+use Rattle.wire.proofs.Reading.{reading, found-good, handed, cut-below}
+use Rattle.model.specs.Format.{labelWidth}
 use Rattle.model.specs.Message.{readLabel}
 use Rattle.model.proofs.label.Statement.{statement}
 use Rattle.model.proofs.label.Tie as tie
 
--- the places that the facts below look back to
-abbrev start : tie.After-known-told → tie.Start
-start c = c .before .before .before .before .before
+-- the place that the fact below looks back to
+abbrev start : tie.After-read-below → tie.Start
+start c = c .before .before .before
 
--- the field is there
-label-there : (c : tie.After-known-told) → let a = start c .args in fieldAt 4 (now (a .s)) (a .st .at) ≡ Number (c .before .label .given .0 .0)
-label-there c = by (c .before .before .before .read .ensures) (c .before .label .given .1)
-
-read-requires : tie.Need-read-requires
-read-requires c κs = search needs
-
-enum-known-label : tie.Need-enum-known-label
-enum-known-label c = search needs
-
-enum-told : tie.Need-enum-told
-enum-told c = search needs
-
-returns : tie.Need-returns
-unfolding readLabel step
-returns c = simp (reading, by (c .before .before .read .ensures) (c .enum-told .given .1))
-
-cast-if1 : tie.Need-cast-if1
-cast-if1 c = search needs
-
-returns-2 : tie.Need-returns-2
-unfolding readLabel step
-returns-2 c =
-    let l = c .before in
-    let p = start l .args .p in
-    simp (reading, label-there l, le-ltb (l .before .label .given .0 .0) (2 ^ p) (omega arith))
+label-read : (c : tie.After-read-below) → let a = start c .args in c .read-below .result ≡ found (readLabel (now (a .s)) (a .p) (a .st))
+unfolding readLabel
+label-read c =
+    let a = start c .args in
+    let at = a .st .at in
+    c .read-below .ensures ∙ ap found (cut-below (now (a .s)) at (at + labelWidth) (omega arith) 4 0 (a .limit) _ (omega arith))
+    ∙ ap₂ (λ (x y : ℕ). found (below 4 (now (a .s)) x y (record { refusal = Form; offset = at }))) (add-zero at) (start c .pre .1)
 
 add-end : tie.Need-add-end
 add-end c = search needs
 
-returns-3 : tie.Need-returns-3
-unfolding readLabel step
-returns-3 c =
-    let l = c .before in
-    let p = start l .args .p in
-    simp (reading, label-there l, lt-ltb (l .before .label .given .0 .0) (2 ^ p) (omega arith))
+sub-read-below : tie.Need-sub-read-below
+sub-read-below c = search needs
+
+part-read-below-start : tie.Need-part-read-below-start
+part-read-below-start c = search needs
+
+part-read-below-end : tie.Need-part-read-below-end
+part-read-below-end c = search needs
+
+read-below-requires : tie.Need-read-below-requires
+read-below-requires c κs = search needs
+
+enum-told : tie.Need-enum-told
+enum-told c = search needs
+
+enum-told-2 : tie.Need-enum-told-2
+enum-told-2 c = search needs
+
+fault-requires : tie.Need-fault-requires
+fault-requires c κs = search needs
+
+returns : tie.Need-returns
+unfolding step
+returns c =
+    let r = c .before .before .before in
+    simp (c .fault .ensures, reading, handed _ (label-read r) (c .before .enum-told2 .given .1))
+
+returns-2 : tie.Need-returns-2
+unfolding step
+returns-2 c = simp (reading, found-good _ (by (label-read (c .before .before)) (c .enum-told .given .1)))
 
 pub label-spec : {M : Type 1} → statement M
 label-spec =
     tie.close
     (tie.spec
-    read-requires
-    enum-known-label
-    enum-told
-    returns
-    cast-if1
-    returns-2
     add-end
-    returns-3)
+    sub-read-below
+    part-read-below-start
+    part-read-below-end
+    read-below-requires
+    enum-told
+    enum-told-2
+    fault-requires
+    returns
+    returns-2)

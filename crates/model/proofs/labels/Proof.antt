@@ -1,20 +1,21 @@
--- `model::labels` meets its contract: the run of the i labels that are left is the whole run.
-use Prim.Native.Nat.{_≤_}
+-- `model::labels` meets its contract: the i labels that are left fit, and their run is the whole run.
+use Prim.Native.Nat.{_+_, _*_, _≤_}
 use mathlib.Core.Path.{_≡_, refl}
 use lib.ListN.{length}
 use borrow.Author.Needs.{needs}
 use native.Mathlib.Omega.{arith}
 use Rattle.lists.proofs.Tests.{by}
 use Rattle.wire.specs.Reader.{run}
+use Rattle.model.specs.Format.{labelWidth}
 use Rattle.model.specs.Message as m
 use Rattle.wire.specs.Step.{step}
 use Rattle.wire.proofs.Turns.{step-next, turn-next, turn-refused, turn-none}
-use Rattle.model.proofs.Good.{labels-stay}
+use Rattle.model.proofs.Good.{labels-move}
 use Rattle.model.proofs.labels.Statement.{statement}
 use Rattle.model.proofs.labels.Tie as tie
 
 abbrev Inv-loop : tie.InvT-loop
-Inv-loop s p k limit st₀ i₀ st i = (st .at ≤ length s) × (step (run (m.labels s p) i st) ≡ step (run (m.labels s p) k st₀))
+Inv-loop s p k limit st₀ i₀ st i = (st .at + i * labelWidth ≤ length s) × (step (run (m.labels s p) i st) ≡ step (run (m.labels s p) k st₀))
 
 abbrev μ-loop : tie.MeasureT-loop
 μ-loop s p k limit st₀ i₀ st i = i
@@ -47,7 +48,7 @@ loop-again : tie.Need-loop-again Inv-loop μ-loop
 loop-again c =
     let t = c .before .before .before in
     let is = c .before .read .given .1 in (
-      labels-stay _ _ _ _ (step-next _ (by (t .label .ensures) is)),
+      omega (arith, labels-move _ _ _ _ (step-next _ (by (t .label .ensures) is))),
       turn-next _ _ _ _ (t .before .before .loop .inv .1) (omega arith) (t .label .ensures) is,
     )
 

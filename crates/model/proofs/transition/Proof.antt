@@ -1,99 +1,132 @@
 -- `model::transition` meets its contract: each `return` is the reading under the tests that led there.
-use Prim.Native.Nat.{_+_, _≤_}
-use mathlib.Core.Bool.{true}
-use mathlib.Core.Path.{_≡_, sym, ap, _∙_}
+use Prim.Native.Nat.{_+_}
+use mathlib.Core.Path.{_≡_, ap, _∙_}
 use denote.Ref.{now}
-use lib.ListN.{length}
-use lib.Dec.{ltb, leb}
-use borrow.Author.Tests.{lt-ltb, le-ltb, lt-leb, le-leb}
 use borrow.Author.Needs.{needs}
 use native.Mathlib.Omega.{arith}
-use Rattle.wire.specs.declared.Field.the-variants.{Number}
+use Rattle.lists.proofs.Tests.{by}
 use Rattle.wire.specs.Bytes.{number}
+use Rattle.wire.specs.declared.Field.the-variants.{Number}
 use Rattle.wire.specs.Field.{fieldAt}
+use Rattle.wire.specs.Read.{good, found, named, source}
 use Rattle.wire.specs.Step.{step}
-use Rattle.wire.proofs.Fields.{field-value, value-inside}
-use Rattle.wire.proofs.Reading.{reading}
+use Rattle.wire.proofs.Fields.{field-value}
+use Rattle.wire.proofs.Reading.{reading, found-good, handed, cut-source, cut-below}
 use Rattle.model.specs.Format.{weightAt, toAt, transitionWidth}
 use Rattle.model.specs.Message.{readTransition}
 use Rattle.model.proofs.transition.Statement.{statement}
 use Rattle.model.proofs.transition.Tie as tie
 
--- `to` is there, so all of the transition is
-inside : (c : tie.Start) → let a = c .args in a .st .at + transitionWidth ≤ length (now (a .s))
-inside c = let a = c .args in omega (arith, value-inside 2 (now (a .s)) (a .st .at + toAt) (c .pre .0))
+-- the places that the facts below look back to
+abbrev start : tie.After-known-told → tie.Start
+start c = c .before .before .before .before .before .before
 
-weight-there : (c : tie.Start) → let a = c .args in fieldAt 4 (now (a .s)) (a .st .at + weightAt) ≡ Number (number 4 (now (a .s)) (a .st .at + weightAt))
-weight-there c = field-value 4 _ _ (omega (arith, inside c))
+-- `from` and `to` are read from the transition's part as from the message, and the weight is there
+from-read : (c : tie.After-read-source) → let a = c .before .before .before .args in c .read-source .result ≡ found (source (now (a .s)) (a .st .at) (a .n) (a .st .prev))
+from-read c =
+    let a = c .before .before .before .args in
+    c .read-source .ensures ∙ ap found (cut-source (now (a .s)) (a .st .at) (a .st .at + transitionWidth) (omega arith) (a .n) (a .st .prev) (a .st .at) (omega arith))
 
-from-there : (c : tie.After-number-at) → let a = c .before .before .args in fieldAt 2 (now (a .s)) (a .st .at) ≡ Number (c .number-at .result)
-from-there c = field-value 2 _ _ (omega (arith, inside (c .before .before))) ∙ ap Number (sym (c .number-at .ensures))
+from-is : (c : tie.After-known-told) → let a = start c .args in source (now (a .s)) (a .st .at) (a .n) (a .st .prev) ≡ good (c .before .source .given .0 .0)
+from-is c = found-good _ (by (from-read (c .before .before .before)) (c .before .source .given .1))
 
-number-at-requires : tie.Need-number-at-requires
-number-at-requires c κs = omega (arith, inside (c .before))
+weight-there : (c : tie.After-known-told)
+    → let a = start c .args in fieldAt 4 (now (a .s)) (a .st .at + weightAt) ≡ Number (number 4 (now (a .s)) (a .st .at + weightAt))
+weight-there c = field-value 4 _ _ (omega arith)
+
+to-read : (c : tie.After-read-below) → let a = start (c .before .before) .args in c .read-below .result ≡ found (named 2 (now (a .s)) (a .st .at + toAt) (a .n))
+to-read c =
+    let a = start (c .before .before) .args in
+    c .read-below .ensures ∙ ap found (cut-below (now (a .s)) (a .st .at) (a .st .at + transitionWidth) (omega arith) 2 toAt (a .n) _ (omega arith))
 
 add-end : tie.Need-add-end
-add-end c = omega (arith, inside (c .before .before))
+add-end c = search needs
 
--- where `from` was read, from behind the test whether it goes on, both ways
-abbrev read-on : tie.Then1 → tie.After-number-at
-read-on c = c .before .before
+sub-read-source : tie.Need-sub-read-source
+sub-read-source c = search needs
 
-abbrev read : tie.Else1 → tie.After-number-at
-read c = c .before .before
+part-read-source-start : tie.Need-part-read-source-start
+part-read-source-start c = search needs
 
--- one that leaves the state that the one before it leaves: that exists, and the order is kept
-again : (c : tie.Then1) → let f = read-on c in let a = f .before .before .args in
-    (ltb (f .number-at .result) (a .n) ≡ true) × (leb (a .st .prev) (f .number-at .result) ≡ true)
-again c =
-    let from = read-on c .number-at .result in
-    let a = read-on c .before .before in
-    (lt-ltb from (a .args .n) (omega (arith, c .if1 .taken, a .pre .1)), le-leb (a .args .st .prev) from (omega (arith, c .if1 .taken)))
+part-read-source-end : tie.Need-part-read-source-end
+part-read-source-end c = search needs
+
+read-source-requires : tie.Need-read-source-requires
+read-source-requires c κs = search needs
+
+enum-known-source : tie.Need-enum-known-source
+enum-known-source c = search needs
+
+enum-told : tie.Need-enum-told
+enum-told c = search needs
+
+fault-requires : tie.Need-fault-requires
+fault-requires c κs = search needs
 
 returns : tie.Need-returns
 unfolding readTransition step
 returns c =
-    let f = read-on (c .before) in
-    let a = f .before .before in
-    simp (reading, from-there f, weight-there a, a .pre .0, again (c .before) .0, again (c .before) .1, le-ltb _ _ (c .if2 .taken))
+    let r = c .before .before .before in
+    simp (c .fault .ensures, reading, handed _ (from-read r) (c .before .enum-told .given .1))
+
+add-to-at : tie.Need-add-to-at
+add-to-at c = search needs
+
+sub-read-below : tie.Need-sub-read-below
+sub-read-below c = search needs
+
+part-read-below-start : tie.Need-part-read-below-start
+part-read-below-start c = search needs
+
+part-read-below-end : tie.Need-part-read-below-end
+part-read-below-end c = search needs
+
+read-below-requires : tie.Need-read-below-requires
+read-below-requires c κs = search needs
+
+enum-told-2 : tie.Need-enum-told-2
+enum-told-2 c = search needs
+
+enum-told-3 : tie.Need-enum-told-3
+enum-told-3 c = search needs
+
+fault-requires-2 : tie.Need-fault-requires-2
+fault-requires-2 c κs = search needs
 
 returns-2 : tie.Need-returns-2
 unfolding readTransition step
 returns-2 c =
-    let f = read-on (c .before) in
-    let a = f .before .before in
-    simp (reading, from-there f, weight-there a, a .pre .0, again (c .before) .0, again (c .before) .1, lt-ltb _ _ (c .if2 .left))
+    let r = c .before .before .before in
+    let k = r .before .before in
+    simp (c .fault2 .ensures, reading, from-is k, weight-there k, handed _ (to-read r) (c .before .enum-told3 .given .1))
 
 returns-3 : tie.Need-returns-3
 unfolding readTransition step
 returns-3 c =
-    let f = read (c .before) in
-    let a = f .before .before in
-    simp (reading, from-there f, weight-there a, a .pre .0, le-ltb _ _ (c .if3 .taken))
-
-returns-4 : tie.Need-returns-4
-unfolding readTransition step
-returns-4 c =
-    let t = c .before .before in
-    let f = read (t .before) in
-    let a = f .before .before in
-    simp (reading, from-there f, weight-there a, a .pre .0, lt-ltb _ _ (t .if3 .left), lt-leb _ _ (c .if4 .taken))
-
-returns-5 : tie.Need-returns-5
-unfolding readTransition step
-returns-5 c =
-    let t = c .before .before .before in
-    let f = read (t .before) in
-    let a = f .before .before in
-    simp (reading, from-there f, weight-there a, a .pre .0, lt-ltb _ _ (t .if3 .left), le-leb _ _ (c .before .if4 .left), le-ltb _ _ (c .if5 .taken))
-
-returns-6 : tie.Need-returns-6
-unfolding readTransition step
-returns-6 c =
-    let t = c .before .before .before in
-    let f = read (t .before) in
-    let a = f .before .before in
-    simp (reading, from-there f, weight-there a, a .pre .0, lt-ltb _ _ (t .if3 .left), le-leb _ _ (c .before .if4 .left), lt-ltb _ _ (c .if5 .left))
+    let r = c .before .before in
+    let k = r .before .before in
+    simp (reading, from-is k, weight-there k, found-good _ (by (to-read r) (c .enum-told2 .given .1)))
 
 pub transition-spec : {M : Type 1} → statement M
-transition-spec = tie.close (tie.spec number-at-requires add-end returns returns-2 returns-3 returns-4 returns-5 returns-6)
+transition-spec =
+    tie.close
+    (tie.spec
+    add-end
+    sub-read-source
+    part-read-source-start
+    part-read-source-end
+    read-source-requires
+    enum-known-source
+    enum-told
+    fault-requires
+    returns
+    add-to-at
+    sub-read-below
+    part-read-below-start
+    part-read-below-end
+    read-below-requires
+    enum-told-2
+    enum-told-3
+    fault-requires-2
+    returns-2
+    returns-3)

@@ -70,7 +70,7 @@ enum-told : tie.Need-enum-told
 enum-told c = search needs
 
 put-refused-requires : tie.Need-put-refused-requires
-put-refused-requires c κs = refused-fits _ (start (after-settle (c .before .before .before)) .pre)
+put-refused-requires c κs = refused-fits _ _ (start (after-settle (c .before .before .before)) .pre)
 
 enum-known-e : tie.Need-enum-known-e
 enum-known-e c = search needs
@@ -79,7 +79,7 @@ number-requires : tie.Need-number-requires
 number-requires c κs = search needs
 
 put-refused-requires-2 : tie.Need-put-refused-requires-2
-put-refused-requires-2 c κs = refused-fits _ (start (after-settle-of-number c) .pre)
+put-refused-requires-2 c κs = refused-fits _ _ (start (after-settle-of-number c) .pre)
 
 same-length : tie.Need-same-length
 same-length c = search needs

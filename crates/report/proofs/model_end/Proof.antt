@@ -1,5 +1,5 @@
 -- `report::model_end` meets its contract: each `return` is the reading under the tests that led there.
-use mathlib.Core.Path.{_≡_}
+use mathlib.Core.Path.{_≡_, _∙_}
 use mathlib.Core.Bool.{true}
 use denote.Ref.{now}
 use lib.ListN.{length}
@@ -9,7 +9,7 @@ use borrow.Author.Tests.{lt-leb, le-leb}
 use Rattle.lists.proofs.Tests.{by}
 use Rattle.wire.specs.Field.{fieldAt}
 use Rattle.wire.specs.declared.Field.the-variants.{Number}
-use Rattle.wire.proofs.Reading.{reading}
+use Rattle.wire.proofs.Reading.{reading, handed, field-found}
 use Rattle.report.specs.Pieces.{cutOf}
 use Rattle.report.specs.Output.{readCut}
 use Rattle.report.proofs.model_end.Statement.{statement}
@@ -23,8 +23,8 @@ else1 c = c .before .before .before .before
 short : (c : tie.Else1) → leb (length (now (c .before .before .args .input))) 8192 ≡ true
 short c = le-leb _ _ (c .if1 .left)
 
-total-there : (c : tie.After-known-told) → fieldAt 4 (now (else1 c .before .before .args .input)) 0 ≡ Number (c .before .total .given .0 .0)
-total-there c = by (c .before .before .before .read .ensures) (c .before .total .given .1)
+total-there : (c : tie.After-known-told) → fieldAt 4 (now (else1 c .before .before .args .input)) 0 ≡ Number (c .before .told .given .0 .0)
+total-there c = by (c .before .before .before .read .ensures) (c .before .told .given .1)
 
 returns : tie.Need-returns
 unfolding readCut cutOf
@@ -33,15 +33,20 @@ returns c = simp (reading, lt-leb _ _ (c .if1 .taken))
 read-requires : tie.Need-read-requires
 read-requires c κs = search needs
 
-enum-known-total : tie.Need-enum-known-total
-enum-known-total c = search needs
+enum-known-told : tie.Need-enum-known-told
+enum-known-told c = search needs
 
 enum-told : tie.Need-enum-told
 enum-told c = search needs
 
+fault-requires : tie.Need-fault-requires
+fault-requires c κs = search needs
+
 returns-2 : tie.Need-returns-2
 unfolding readCut cutOf
-returns-2 c = simp (reading, short (c .before .before .before), by (c .before .before .read .ensures) (c .enum-told .given .1))
+returns-2 c =
+    let read = c .before .before .before in
+    simp (c .fault .ensures, reading, short (read .before), handed _ (read .read .ensures ∙ field-found _) (c .before .enum-told .given .1))
 
 cast-if2 : tie.Need-cast-if2
 cast-if2 c = search needs
@@ -50,8 +55,8 @@ returns-3 : tie.Need-returns-3
 unfolding readCut cutOf
 returns-3 c = simp (reading, short (else1 (c .before)), total-there (c .before), lt-leb _ _ (c .if2 .taken))
 
-cast-t3 : tie.Need-cast-t3
-cast-t3 c = search needs
+cast-t4 : tie.Need-cast-t4
+cast-t4 c = search needs
 
 returns-4 : tie.Need-returns-4
 unfolding readCut cutOf
@@ -63,10 +68,11 @@ model-end-spec =
     (tie.spec
     returns
     read-requires
-    enum-known-total
+    enum-known-told
     enum-told
+    fault-requires
     returns-2
     cast-if2
     returns-3
-    cast-t3
+    cast-t4
     returns-4)

@@ -1,32 +1,65 @@
--- `report::put_refused` meets its contract: a line of its word and the number.
+-- `report::put_refused` meets its contract: its word and the number, the place, and the end of the line.
 use Prim.Native.Nat.{_+_, _≤_}
-use mathlib.Core.List.{_++_}
+use mathlib.Core.List.{[], _∷_, _++_}
 use denote.Ref.{now}
 use native.Mathlib.Omega.{arith}
-use lib.ListN.{length}
+use lib.ListN.{length, length-append}
 use borrow.Author.Needs.{needs}
+use Rattle.wire.proofs.Laid.{_then_, fits, fits-before}
 use Rattle.text.specs.Text.{word, decimal}
-use Rattle.report.specs.Lines.{line, refusedLine}
+use Rattle.report.specs.Lines.{place, refusedLine}
 use Rattle.report.proofs.put_refused.Statement.{statement}
 use Rattle.report.proofs.put_refused.Tie as tie
 
 -- the line fits
-fit : (s : tie.Start) → 0 + length (line (word "refused " ++ decimal (s .args .number))) ≤ length (now (s .args .out))
+fit : (s : tie.Start) → let a = s .args in 0 + length (word "refused " ++ decimal (a .number) ++ place (a .offset) ++ (10 ∷ [])) ≤ length (now (a .out))
 unfolding refusedLine
 fit s = omega (arith, s .pre)
 
-slice-aggregate-put-line : tie.Need-slice-aggregate-put-line
-slice-aggregate-put-line c = search needs
+-- the places that the facts below look back to
+abbrev start : tie.After-put-number → tie.Start
+start c = c .before .before .before .before
 
-put-line-requires : tie.Need-put-line-requires
-put-line-requires c κs = fit (c .before .before .before)
+abbrev number-put : tie.After-put-place → tie.After-put-number
+number-put c = c .before .before .before .before
+
+slice-aggregate-put-number : tie.Need-slice-aggregate-put-number
+slice-aggregate-put-number c = search needs
+
+put-number-requires : tie.Need-put-number-requires
+put-number-requires c κs =
+    let s = c .before .before .before in
+    let a = s .args in
+    let w = word "refused " ++ decimal (a .number) in
+    omega (arith, fit s, length-append (word "refused ") (decimal (a .number)), length-append w (place (a .offset)), length-append (w ++ place (a .offset)) (10 ∷ []))
+
+put-place-requires : tie.Need-put-place-requires
+put-place-requires c κs =
+    let put = c .before .before .before in
+    let s = start put in
+    fits-before (put .put-number .ensures) (place (s .args .offset)) (10 ∷ []) (fit s)
+
+slice-aggregate-put-word : tie.Need-slice-aggregate-put-word
+slice-aggregate-put-word c = search needs
+
+put-word-requires : tie.Need-put-word-requires
+put-word-requires c κs =
+    let place-put = c .before .before .before .before in
+    let put = number-put place-put in
+    fits (put .put-number .ensures then place-put .put-place .ensures) (10 ∷ []) (fit (start put))
 
 same-length : tie.Need-same-length
 same-length c = search needs
 
 returns : tie.Need-returns
 unfolding refusedLine
-returns c = c .before .before .put-line .ensures
+returns c =
+    let end = c .before .before in
+    let place-put = end .before .before .before .before .before in
+    let put = number-put place-put in
+    put .put-number .ensures then place-put .put-place .ensures then end .put-word .ensures
 
 pub put-refused-spec : {M : Type 1} → statement M
-put-refused-spec = tie.close (tie.spec slice-aggregate-put-line put-line-requires same-length returns)
+put-refused-spec =
+    tie.close
+    (tie.spec slice-aggregate-put-number put-number-requires put-place-requires slice-aggregate-put-word put-word-requires same-length returns)

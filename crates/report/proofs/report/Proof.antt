@@ -37,7 +37,7 @@ number-requires : tie.Need-number-requires
 number-requires c κs = search needs
 
 put-refused-requires : tie.Need-put-refused-requires
-put-refused-requires c κs = refused-fits _ (else1 c .if1 .left)
+put-refused-requires c κs = refused-fits _ _ (else1 c .if1 .left)
 
 enum-known-k : tie.Need-enum-known-k
 enum-known-k c = search needs

@@ -1,48 +1,44 @@
 -- `wire::read_count` meets its contract: each `return` is the reading under the tests that led there.
-use mathlib.Core.Path.{_≡_}
+use mathlib.Core.Path.{_≡_, sym, _∙_}
 use denote.Ref.{now}
 use borrow.Author.Needs.{needs}
 use borrow.Author.Tests.{lt-leb, le-leb}
 use Rattle.lists.proofs.Tests.{by}
-use Rattle.wire.specs.Counts.{readCount, countedOf}
 use Rattle.wire.specs.Field.{widthOf, fieldAt}
+use Rattle.wire.specs.Counts.{readCount}
 use Rattle.wire.specs.declared.Field.the-variants.{Number}
-use Rattle.wire.proofs.Reading.{reading}
+use Rattle.wire.proofs.Reading.{reading, stopped, field-found}
 use Rattle.wire.proofs.read_count.Statement.{statement}
 use Rattle.wire.proofs.read_count.Tie as tie
 
--- the places that the facts below look back to
-abbrev start : tie.After-known-told → tie.Start
-start c = c .before .before .before .before .before
-
 -- the field is there
-n-there : (c : tie.After-known-told) → let a = start c .args in fieldAt (widthOf (a .count .width)) (now (a .s)) (a .count .at) ≡ Number (c .before .n .given .0 .0)
-n-there c = by (c .before .before .before .read .ensures) (c .before .n .given .1)
+n-there : (c : tie.After-known-told) → let a = c .before .before .before .before .before .args in fieldAt (widthOf (a .count .width)) (now (a .s)) (a .count .at) ≡ Number (c .before .field .given .0 .0)
+n-there c = by (c .before .before .before .read .ensures) (c .before .field .given .1)
 
 read-requires : tie.Need-read-requires
 read-requires c κs = search needs
 
-enum-known-n : tie.Need-enum-known-n
-enum-known-n c = search needs
+enum-known-field : tie.Need-enum-known-field
+enum-known-field c = search needs
 
 enum-told : tie.Need-enum-told
 enum-told c = search needs
 
 returns : tie.Need-returns
-unfolding readCount countedOf
-returns c = simp (reading, by (c .before .before .read .ensures) (c .enum-told .given .1))
+unfolding readCount
+returns c = stopped _ _ (c .before .before .read .ensures ∙ field-found _) (c .enum-told .given .1)
 
 returns-2 : tie.Need-returns-2
-unfolding readCount countedOf
+unfolding readCount
 returns-2 c = simp (reading, n-there (c .before), lt-leb _ _ (c .if1 .taken))
 
 returns-3 : tie.Need-returns-3
-unfolding readCount countedOf
+unfolding readCount
 returns-3 c = simp (reading, n-there (c .before .before), le-leb _ _ (c .before .if1 .left), lt-leb _ _ (c .if2 .taken))
 
 returns-4 : tie.Need-returns-4
-unfolding readCount countedOf
+unfolding readCount
 returns-4 c = simp (reading, n-there (c .before .before), le-leb _ _ (c .before .if1 .left), le-leb _ _ (c .if2 .left))
 
 pub read-count-spec : {M : Type 1} → statement M
-read-count-spec = tie.close (tie.spec read-requires enum-known-n enum-told returns returns-2 returns-3 returns-4)
+read-count-spec = tie.close (tie.spec read-requires enum-known-field enum-told returns returns-2 returns-3 returns-4)

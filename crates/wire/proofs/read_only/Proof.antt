@@ -1,0 +1,40 @@
+-- `wire::read_only` meets its contract: each `return` is the reading under the tests that led there.
+use mathlib.Core.Path.{_≡_, sym, _∙_}
+use denote.Ref.{now}
+use borrow.Author.Needs.{needs}
+use borrow.Author.Tests.{eq-eqb, ne-eqb}
+use Rattle.lists.proofs.Tests.{by}
+use Rattle.wire.specs.Field.{fieldAt}
+use Rattle.wire.specs.Start.{only}
+use Rattle.wire.specs.declared.Field.the-variants.{Number}
+use Rattle.wire.proofs.Reading.{reading, stopped, field-found}
+use Rattle.wire.proofs.read_only.Statement.{statement}
+use Rattle.wire.proofs.read_only.Tie as tie
+
+-- the byte is there
+n-there : (c : tie.After-known-told) → let a = c .before .before .before .before .before .args in fieldAt 1 (now (a .s)) (a .at) ≡ Number (c .before .field .given .0 .0)
+n-there c = by (c .before .before .before .read .ensures) (c .before .field .given .1)
+
+read-requires : tie.Need-read-requires
+read-requires c κs = search needs
+
+enum-known-field : tie.Need-enum-known-field
+enum-known-field c = search needs
+
+enum-told : tie.Need-enum-told
+enum-told c = search needs
+
+returns : tie.Need-returns
+unfolding only
+returns c = stopped _ _ (c .before .before .read .ensures ∙ field-found _) (c .enum-told .given .1)
+
+returns-2 : tie.Need-returns-2
+unfolding only
+returns-2 c = simp (reading, n-there (c .before), ne-eqb _ _ (c .if1 .taken))
+
+returns-3 : tie.Need-returns-3
+unfolding only
+returns-3 c = simp (reading, n-there (c .before), eq-eqb _ _ (c .if1 .left))
+
+pub read-only-spec : {M : Type 1} → statement M
+read-only-spec = tie.close (tie.spec read-requires enum-known-field enum-told returns returns-2 returns-3)
