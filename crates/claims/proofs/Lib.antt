@@ -1,0 +1,13 @@
+-- Why claims are accepted, and how the code knows it.
+--     Accepted   accepted claims are the largest assignment that obeys the rules
+--     Edgewise   claims checked edge by edge; how large a supported claim can be
+--     Passing    a walk over the records of a message
+--     Judging    what the numbers that were read say of an edge
+--     Marking    marks of the sources that an edge backs
+--     Checking   what a scan of all edges says of the claims
+pub mod Accepted
+pub mod Edgewise
+pub mod Passing
+pub mod Judging
+pub mod Marking
+pub mod Checking
