@@ -1,18 +1,24 @@
 -- What a scan of all edges says of the claims: they are accepted, or not. Assumes nothing.
-use Prim.Native.Nat.{ℕ, _+_, _-_, _*_, _≤_, _<_}
+use Prim.Native.Nat.{ℕ, zero, suc, _+_, _-_, _*_, _≤_, _<_}
 use native.Mathlib.Nat.{le-refl}
 use native.Mathlib.Omega.{arith}
 use mathlib.Core.Bool.{true}
 use mathlib.Core.List.{List}
 use mathlib.Core.Logic.{_⊎_, inl, inr}
 use mathlib.Core.Path.{_≡_, sym, ap, subst, _∙_}
-use lib.ListN.{getD}
+use lib.ListN.{getD, replicate}
 use Rattle.lists.specs.Lists.{_∈_}
 use Rattle.value.specs.Value.{Value, fin, inf, finite, _≼_, _⊑_}
 use Rattle.value.specs.Stored.{stored, infinite}
 use Rattle.value.proofs.Values.{fin-≼, ≼-fin, ≼-inf, ≼-up, ≼-plus, plus-≼, ≼-finite, ⊑-inf, fin-⊑-fin, ≤-of-⊑, inf-⊑-fin}
 use Rattle.value.proofs.Stored.{stored-le}
-use Rattle.rules.specs.Graph.{Graph, Hyper, Cover, Closed}
+use Rattle.wire.specs.Bytes.{Bytes, number}
+use Rattle.wire.specs.Layout.{end}
+use Rattle.wire.proofs.Bytes.{number-below}
+use Rattle.wire.proofs.Parts.{∈-items}
+use Rattle.rules.specs.Graph.{Graph, Target, Hyper, Cover, Closed}
+use Rattle.graph.specs.Format.{graphHeader, targetCountAt, hyperWidth}
+use Rattle.graph.specs.Layouts.{targetLayout, hyperLayout, decoded}
 use Rattle.rules.specs.Rounds.{Assignment, worst}
 use Rattle.rules.proofs.Reasons.{worst-≼, ≼-worst}
 use Rattle.rules.proofs.Size.{Light}
@@ -37,6 +43,26 @@ stored-⊑ a inf h p l = ≼-inf p
 -- the largest weight that 4 bytes say
 abbrev pub heavy : ℕ
 heavy = 4294967295
+
+-- no weight of a message is above it
+pub message-light : (s : List ℕ) (n h c : ℕ) → Bytes s → Light (decoded s n h c) heavy
+unfolding decoded
+message-light s n h c bytes = record {
+  weight = λ {h = e} {t} m k.
+      let (i, l, q) = ∈-items (hyperLayout s n) h graphHeader m in
+      let at = end (hyperLayout s n) i graphHeader in
+      let k′ = subst (λ (e : Hyper). t ∈ e .targets) q k in
+      let (j, o, z) = ∈-items (targetLayout s n) (number 2 s (at + targetCountAt)) (at + hyperWidth) k′ in
+      let p = end (targetLayout s n) j (at + hyperWidth) in
+      let w : t .weight ≡ number 4 s p = ap (λ (t : Target). t .weight) z in
+      omega (arith, number-below 4 s p bytes);
+}
+
+-- nothing is marked at first
+pub unmarked-none : (k v : ℕ) → ¬ (getD {A = ℕ} (replicate k 0) v 0 ≡ 1)
+unmarked-none zero v e = absurd (omega arith)
+unmarked-none (suc k) zero e = absurd (omega arith)
+unmarked-none (suc k) (suc v) e = unmarked-none k v e
 
 module _ (g : Graph) (closed : Closed g) (x : Assignment) (rank : ℕ → ℕ) where
   -- an edge that breaks

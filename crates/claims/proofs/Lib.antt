@@ -5,9 +5,11 @@
 --     Judging    what the numbers that were read say of an edge
 --     Marking    marks of the sources that an edge backs
 --     Checking   what a scan of all edges says of the claims
+--     Answering  what the checker answers, from what was found
 pub mod Accepted
 pub mod Edgewise
 pub mod Passing
 pub mod Judging
 pub mod Marking
 pub mod Checking
+pub mod Answering

@@ -37,9 +37,11 @@ add-v c = omega arith
 returns : tie.Need-returns Inv-loop μ-loop
 returns c =
     let i = c .before .before in
-    let v = i .before .before in
-    (λ e. absurd (true≢false (sym e)), λ e all. i .if1 .taken (all (v .before .before .loop .v) (omega (arith, v .before .loop-test .taken))
-    (ap finite (ap meaning (sym (v .value-of .ensures)) ∙ meaning-finite (c .if2 .taken)))))
+    let v = i .before .before in (
+      λ e. absurd (true≢false (sym e)),
+      λ e all. i .if1 .taken (all (v .before .before .loop .v) (omega (arith, v .before .loop-test .taken))
+          (ap finite (ap meaning (sym (v .value-of .ensures)) ∙ meaning-finite (c .if2 .taken)))),
+    )
 
 loop-less : tie.Need-loop-less Inv-loop μ-loop
 loop-less c = omega arith
