@@ -1,5 +1,5 @@
 -- What a scan of all edges says of the claims: they are accepted, or not. Assumes nothing.
-use Prim.Native.Nat.{ℕ, zero, suc, _+_, _-_, _*_, _≤_, _<_}
+use Prim.Native.Nat.{ℕ, _+_, _-_, _*_, _≤_, _<_}
 use native.Mathlib.Nat.{le-refl}
 use native.Mathlib.Omega.{arith}
 use mathlib.Core.Bool.{true}
@@ -24,6 +24,7 @@ use Rattle.rules.proofs.Reasons.{worst-≼, ≼-worst}
 use Rattle.rules.proofs.Size.{Light}
 use Rattle.claims.specs.Claims.{Support, by-hyper, by-cover, Accepts}
 use Rattle.claims.specs.Scans.{HyperFair, HyperBacks, CoverFair, CoverBacks, Marked, AllBacked}
+use Rattle.claims.proofs.Marking.{zeros-at}
 use Rattle.claims.proofs.Edgewise.{Edgewise, edgewise-accepted, accepted-edgewise, supported-bound}
 
 -- the order of values and that of their stored numbers, where none is cut off
@@ -60,9 +61,7 @@ message-light s n h c bytes = record {
 
 -- nothing is marked at first
 pub unmarked-none : (k v : ℕ) → ¬ (getD {A = ℕ} (replicate k 0) v 0 ≡ 1)
-unmarked-none zero v e = absurd (omega arith)
-unmarked-none (suc k) zero e = absurd (omega arith)
-unmarked-none (suc k) (suc v) e = unmarked-none k v e
+unmarked-none k v e = omega (arith, zeros-at k v)
 
 module _ (g : Graph) (closed : Closed g) (x : Assignment) (rank : ℕ → ℕ) where
   -- an edge that breaks

@@ -6,6 +6,7 @@
 --     Marking    marks of the sources that an edge backs
 --     Checking   what a scan of all edges says of the claims
 --     Answering  what the checker answers, from what was found
+--     Labels     depth labels that are written over, and the cycle that they find
 pub mod Accepted
 pub mod Edgewise
 pub mod Passing
@@ -13,3 +14,4 @@ pub mod Judging
 pub mod Marking
 pub mod Checking
 pub mod Answering
+pub mod Labels
