@@ -12,7 +12,7 @@ use Rattle.lists.proofs.Lists.{howMany, howMany-le, howMany-more, upTo-length, 
 use Rattle.value.specs.Value.{Value, fin, inf, finite, _≼_, _⊑_}
 use Rattle.value.proofs.Values.{fin-≼, ≼-fin, ≼-inf, ≼-up, plus-≼, ≼-plus, finite-≼, ≼-finite, ⊑-of-eq, ⊑-antisym}
 use Rattle.rules.specs.Graph.{Graph, Hyper, Cover, Closed}
-use Rattle.rules.specs.Rounds.{Assignment, coverHolds, worst}
+use Rattle.rules.specs.Rounds.{Assignment, coverHolds, worst, Obeys}
 use Rattle.rules.proofs.Size.{Light}
 use Rattle.rules.proofs.Reasons as Reasons
 use Rattle.rules.proofs.Reasons.{Reason, reason, at-most, worst-≼, ≼-worst}
@@ -26,6 +26,15 @@ pub record Edgewise (g : Graph) (x : Assignment) (rank : ℕ → ℕ) : Type 0 w
 ≼-zero : {a : Value} → a ≼ 0 → a ≡ fin 0
 ≼-zero {a = fin a} p = let h = ≼-fin p in ap fin (omega arith)
 ≼-zero {a = inf} p = ≼-inf p
+
+module _ {g : Graph} {x : Assignment} where
+  -- values that obey the rules are at most what a reason gives
+  reason-obeyed : Obeys g x → {v k : ℕ} → v < g .nodes → Reason g x v k → x v ≼ k
+  reason-obeyed ok {v} l r = ⊑-of-eq (sym (ok v l)) .carries (at-most g x v r)
+
+  -- so the source of a cover edge that holds is 0
+  pub holds-zero : Closed g → Obeys g x → {c : Cover} → c ∈ g .covers → coverHolds x c ≡ true → x (c .source) ≡ fin 0
+  holds-zero closed ok m e = ≼-zero (reason-obeyed ok (closed .cover-source m) (Reasons.by-cover _ m refl e))
 
 module _ {g : Graph} {x : Assignment} {rank : ℕ → ℕ} where
   -- a support is a reason for the node's own value
@@ -47,13 +56,10 @@ module _ {g : Graph} {x : Assignment} {rank : ℕ → ℕ} where
 
   pub accepted-edgewise : Closed g → Accepts g x rank → Edgewise g x rank
   accepted-edgewise closed ok = record {
-    hyper = λ m. record { carries = λ p. claims (closed .hyper-source m) (Reasons.by-hyper _ m refl (≼-worst x _ p)) };
-    cover = λ m e. ≼-zero (claims (closed .cover-source m) (Reasons.by-cover _ m refl e));
+    hyper = λ m. record { carries = λ p. reason-obeyed (ok .obeys) (closed .hyper-source m) (Reasons.by-hyper _ m refl (≼-worst x _ p)) };
+    cover = λ m e. holds-zero closed (ok .obeys) m e;
     supported = ok .supported;
   }
-    where
-      claims : {v k : ℕ} → v < g .nodes → Reason g x v k → x v ≼ k
-      claims {v} l r = ⊑-of-eq (sym (ok .obeys v l)) .carries (at-most g x v r)
 
 -- ---- how large a supported claim can be, whatever the hyperedges give otherwise
 

@@ -7,6 +7,10 @@
 --     Checking   what a scan of all edges says of the claims
 --     Answering  what the checker answers, from what was found
 --     Labels     depth labels that are written over, and the cycle that they find
+--     Puts       numbers in a room after one was stored
+--     Ranks      ranks that rest on smaller ones, and that they reach every finite node
+--     Giving     ranks given one after another
+--     Filling    the rooms of the writer
 pub mod Accepted
 pub mod Edgewise
 pub mod Passing
@@ -15,3 +19,7 @@ pub mod Marking
 pub mod Checking
 pub mod Answering
 pub mod Labels
+pub mod Puts
+pub mod Ranks
+pub mod Giving
+pub mod Filling

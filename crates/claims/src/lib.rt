@@ -480,3 +480,176 @@ fn has_cycle(s: &[u8], n: usize, h: u32, c: u32, middle: usize) -> bool
     }
     deepen(s, n, h, c, middle, &mut labels)
 }
+
+// Writes the values of n nodes from the words, and no rank yet.
+fn begin(n: usize, words: &[u64], claims: &mut [u8])
+    requires { ⌜ n ≤ length (now words) ⌝ }
+    requires { ⌜ n * claimWidth ≤ length (now claims) ⌝ }
+    ensures { λ _. ⌜ Begun n (now (words .entry)) (now (claims .entry)) (now (claims .exit)) ⌝ }
+{
+    let mut v = 0;
+    while v < n {
+        let value = words[v];
+        let at = v * CLAIM;
+        let behind = at + RANK_AT;
+        wire::store_long(claims, at, value);
+        wire::store_long(claims, behind, UNRANKED);
+        v += 1;
+    }
+}
+
+// Sets the first k words to 0.
+fn clear(k: usize, words: &mut [u64])
+    requires { ⌜ k ≤ length (now words) ⌝ }
+    ensures { λ _. ⌜ now (words .exit) ≡ replicate k 0 ++ drop k (now (words .entry)) ⌝ }
+{
+    let mut i = 0;
+    while i < k {
+        words[i] = 0;
+        i += 1;
+    }
+}
+
+// Ranks the sources of hyperedges that back them, one after another; gives the next rank.
+fn rank_hypers(s: &[u8], n: usize, h: u32, given: u64, claims: &mut [u8]) -> u64
+    requires { ⌜ Sound (hyperLayout (now s) n) h graphHeader ⌝ }
+    requires { ⌜ n * claimWidth ≤ length (now claims) ⌝ }
+    requires { ⌜ given + h < unranked ⌝ }
+    ensures { λ r. ⌜ RankedBy (items (hyperLayout (now (s .entry)) n) h graphHeader) (λ e. e .source) (λ b. HyperBacks (claimedValue b) (claimedRank b))
+        given (now (claims .entry)) r (now (claims .exit)) ⌝ }
+{
+    let mut next = given;
+    let mut i = h;
+    let mut p = graph::HEADER;
+    while 0 < i {
+        let source = wire::number_at(s, p, Width::Two) as usize;
+        let k = wire::number_at(s, p + graph::TARGET_COUNT_AT, Width::Two);
+        let at = p;
+        p += graph::HYPER + (k as usize) * graph::TARGET;
+        i -= 1;
+        if rank_of(n, claims, source) == UNRANKED {
+            match hyper_edge(s, n, claims, k, at) {
+                Edge::Backs => {
+                    let place = source * CLAIM + RANK_AT;
+                    wire::store_long(claims, place, next);
+                    next += 1;
+                }
+                Edge::Breaks => {}
+                Edge::Idle => {}
+            }
+        }
+    }
+    next
+}
+
+// Ranks the sources of cover edges that back them, one after another; gives the next rank.
+fn rank_covers(
+    s: &[u8],
+    n: usize,
+    c: u32,
+    middle: usize,
+    given: u64,
+    claims: &mut [u8],
+) -> u64
+    requires { ⌜ Sound (coverLayout (now s) n) c middle ⌝ }
+    requires { ⌜ n * claimWidth ≤ length (now claims) ⌝ }
+    requires { ⌜ given + c < unranked ⌝ }
+    ensures { λ r. ⌜ RankedBy (items (coverLayout (now (s .entry)) n) c middle) (λ e. e .source) (λ b. CoverBacks (claimedValue b) (claimedRank b))
+        given (now (claims .entry)) r (now (claims .exit)) ⌝ }
+{
+    let mut next = given;
+    let mut i = c;
+    let mut p = middle;
+    while 0 < i {
+        let source = wire::number_at(s, p, Width::Two) as usize;
+        let at = p;
+        p += graph::COVER;
+        i -= 1;
+        if rank_of(n, claims, source) == UNRANKED {
+            match cover_edge(s, n, claims, at) {
+                Edge::Backs => {
+                    let place = source * CLAIM + RANK_AT;
+                    wire::store_long(claims, place, next);
+                    next += 1;
+                }
+                Edge::Breaks => {}
+                Edge::Idle => {}
+            }
+        }
+    }
+    next
+}
+
+// Ranks nodes in passes over all edges, until a pass ranks none; each pass before it ranks one, so n are enough.
+fn rank(s: &[u8], n: usize, h: u32, c: u32, middle: usize, claims: &mut [u8])
+    requires { ⌜ Ready (now s) n h c ⌝ }
+    requires { ⌜ middle ≡ end (hyperLayout (now s) n) h graphHeader ⌝ }
+    requires { ⌜ n ≤ 4096 ⌝ }
+    requires { ⌜ n * claimWidth ≤ length (now claims) ⌝ }
+    requires { ⌜ (CoverCycle (decoded (now s) n h c) → ⊥) ⌝ }
+    requires { ⌜ rules.Agree (decoded (now s) n h c) (claimedValue (now claims)) (rules.rounds (decoded (now s) n h c) (count (decoded (now s) n h c))) ⌝ }
+    requires { ⌜ ((v : ℕ) → v < n → claimedRank (now claims) v ≡ unranked) ⌝ }
+    ensures { λ _. ⌜ Kept n (now (claims .entry)) (now (claims .exit)) ⌝ }
+    ensures { λ _. ⌜ AcceptsClaims (decoded (now (s .entry)) n h c) (now (claims .exit)) ⌝ }
+{
+    let mut given: u64 = 0;
+    let mut i = 0;
+    while i < n {
+        let more = rank_hypers(s, n, h, given, claims);
+        let next = rank_covers(s, n, c, middle, more, claims);
+        if next == given {
+            return;
+        }
+        given = next;
+        i += 1;
+    }
+}
+
+// Writes the claims of a graph without a cycle through a cover edge: the rounds settle within n, in the words.
+fn fill(
+    s: &[u8],
+    nodes: u32,
+    h: u32,
+    c: u32,
+    middle: usize,
+    claims: &mut [u8],
+    words: &mut [u64],
+)
+    requires { ⌜ Ready (now s) nodes h c ⌝ }
+    requires { ⌜ middle ≡ end (hyperLayout (now s) nodes) h graphHeader ⌝ }
+    requires { ⌜ nodes ≤ 4096 ⌝ }
+    requires { ⌜ (CoverCycle (decoded (now s) nodes h c) → ⊥) ⌝ }
+    requires { ⌜ (nodes * claimWidth ≤ length (now claims)) × (nodes * 8 ≤ length (now words)) ⌝ }
+    ensures { λ _. ⌜ Filled (decoded (now (s .entry)) nodes h c) (now (claims .entry)) (now (words .entry)) (now (claims .exit)) (now (words .exit)) ⌝ }
+{
+    let n = nodes as usize;
+    rounds::run(s, n, h, c, nodes, words);
+    begin(n, words, claims);
+    clear(n * WORDS, words);
+    rank(s, n, h, c, middle, claims);
+}
+
+// Writes claims about the graph of a message that the checker accepts: first the graph, then its cycles, then the rooms.
+pub fn write(message: &[u8], claims: &mut [u8], words: &mut [u64]) -> Written
+    ensures answer { λ r. ⌜ Writes (readGraph (now (message .entry))) (now (claims .entry)) (now (words .entry)) (now (claims .exit)) (now (words .exit)) r ⌝ }
+    ensures promise { λ r. ⌜ WrittenPromise (now (message .entry)) (now (claims .entry)) (now (words .entry)) (now (claims .exit)) (now (words .exit)) r ⌝ }
+{
+    match graph::check(message) {
+        Checked::Refused(e) => Written::Refused(e),
+        Checked::Graph(nodes, h, c, _) => {
+            let n = nodes as usize;
+            let middle = past_hypers(message, n, h);
+            if has_cycle(message, n, h, c, middle) {
+                return Written::Refused(Refusal::Profile);
+            }
+            if claims.len() < n * CLAIM {
+                return Written::Refused(Refusal::Room);
+            }
+            if words.len() < n * WORDS {
+                return Written::Refused(Refusal::Room);
+            }
+            fill(message, nodes, h, c, middle, claims, words);
+            Written::Claims
+        }
+    }
+}
