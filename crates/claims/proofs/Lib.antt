@@ -10,6 +10,7 @@
 --     Puts       numbers in a room after one was stored
 --     Ranks      ranks that rest on smaller ones, and that they reach every finite node
 --     Giving     ranks given one after another
+--     Standing   the passes that rank, and that they end with ranks that are accepted
 --     Filling    the rooms of the writer
 pub mod Accepted
 pub mod Edgewise
@@ -22,4 +23,5 @@ pub mod Labels
 pub mod Puts
 pub mod Ranks
 pub mod Giving
+pub mod Standing
 pub mod Filling
