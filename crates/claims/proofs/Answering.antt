@@ -1,20 +1,25 @@
--- What the checker answers, from what was found. Assumes nothing.
+-- What the checker and the writer answer, from what was found. Assumes nothing.
 use Prim.Native.Nat.{ℕ, _*_, _≤_}
 use mathlib.Core.List.{List}
 use mathlib.Core.Path.{_≡_, refl, sym, subst, _∙_}
 use lib.ListN.{length}
 use borrow.Author.Tests.{eq-eqb, ne-eqb}
+use native.Mathlib.Omega.{arith}
 use Rattle.refusal.specs.declared.Refusal.{Refusal}
-use Rattle.refusal.specs.declared.Refusal.the-variants.{Length}
+use Rattle.refusal.specs.declared.Refusal.the-variants.{Length, Profile, Room}
 use Rattle.wire.specs.Bytes.{Bytes}
 use Rattle.wire.specs.Read.{Read, good, bad}
+use Rattle.wire.specs.Layout.{end}
+use Rattle.wire.proofs.Layouts.{items-length}
 use Rattle.wire.proofs.Reading.{bad-then, reading}
 use Rattle.wire.proofs.Exact.{good-bind, good-demand}
+use Rattle.rules.specs.Walks.{CoverCycle}
 use Rattle.graph.specs.declared.Checked.the-variants as Checked
 use Rattle.graph.specs.Stored.{StoredGraph}
 use Rattle.graph.specs.Message.{readGraph}
 use Rattle.graph.specs.Answers.{checked}
-use Rattle.graph.specs.Layouts.{decoded}
+use Rattle.graph.specs.Format.{graphHeader}
+use Rattle.graph.specs.Layouts.{hyperLayout, coverLayout, decoded}
 use Rattle.graph.specs.WellFormed.{WellFormed}
 use Rattle.graph.proofs.Answered.{checked-refused}
 use Rattle.graph.proofs.Exact.{accepted-written}
@@ -23,8 +28,10 @@ use Rattle.rounds.proofs.Begin.{Begin}
 use Rattle.claims.specs.Claims.{claimWidth, AcceptsClaims}
 use Rattle.claims.specs.declared.Judged.{Judged}
 use Rattle.claims.specs.declared.Judged.the-variants.{Yes, No, Refused}
-use Rattle.claims.specs.Answers.{readClaims, Judges}
-use Rattle.claims.specs.Promise.{JudgedPromise}
+use Rattle.claims.specs.declared.Written.{Written}
+use Rattle.claims.specs.declared.Written.the-variants as Written
+use Rattle.claims.specs.Answers.{readClaims, Judges, Narrow, Untouched, Filled, WritesOf, cyclic, narrow, filled, Writes}
+use Rattle.claims.specs.Promise.{JudgedPromise, WrittenPromise}
 use Rattle.claims.proofs.Accepted.{accepted-largest}
 
 -- a message that was checked is the writing of a well-formed graph, within the limits of the table
@@ -35,6 +42,10 @@ module _ {s : List ℕ} {n h c : ℕ} (bytes : Bytes s) (begun : Begin s n h c) 
   pub begun-nodes : (1 ≤ n) × (n ≤ 4096)
   unfolding decoded
   begun-nodes = let w = begun-accepted .well-formed in (w .some-node, w .nodes-fit)
+
+  pub begun-covers : c ≤ 4096
+  unfolding decoded
+  begun-covers = omega (arith, begun-accepted .well-formed .covers-fit, items-length (coverLayout s n) c (end (hyperLayout s n) h graphHeader))
 
 module _ (s claims : List ℕ) (bytes : Bytes s) where
   -- what is shown of a call: its answer, and so the promise
@@ -75,4 +86,35 @@ module _ (s claims : List ℕ) (bytes : Bytes s) where
     shown-no l rejected = (
       subst (λ (x : Read StoredGraph). Judges x claims No) (sym (long l)) rejected,
       record { graph = decoded s n h c; accepted = begun-accepted bytes begun; long = l; holds = rejected },
+    )
+
+-- ---- the writer
+
+module _ (s claims words : List ℕ) (bytes : Bytes s) where
+  abbrev pub ShownWritten : (claims′ words′ : List ℕ) → Written → Type 0
+  ShownWritten claims′ words′ r = Writes (readGraph s) claims words claims′ words′ r × WrittenPromise s claims words claims′ words′ r
+
+  untouched : Untouched claims words claims words
+  untouched = record { claims-stay = refl; words-stay = refl }
+
+  pub written-refused : {e : Refusal} → checked (readGraph s) ≡ Checked.Refused e → ShownWritten claims words (Written.Refused e)
+  written-refused {e} h =
+      (subst (λ (x : Read StoredGraph). Writes x claims words claims words (Written.Refused e)) (sym (checked-refused (readGraph s) h)) (refl, untouched), untouched)
+
+  module _ {n h c : ℕ} (begun : Begin s n h c) where
+    -- what is written of the graph is written of the message
+    of-graph : {claims′ words′ : List ℕ} {r : Written} → WritesOf (decoded s n h c) claims words claims′ words′ r → Writes (readGraph s) claims words claims′ words′ r
+    of-graph {claims′} {words′} {r} w = subst (λ (x : Read StoredGraph). Writes x claims words claims′ words′ r) (sym (begun .reads)) w
+
+    pub written-cyclic : CoverCycle (decoded s n h c) → ShownWritten claims words (Written.Refused Profile)
+    written-cyclic z = (of-graph (cyclic z untouched), untouched)
+
+    pub written-narrow : ¬ CoverCycle (decoded s n h c) → Narrow (decoded s n h c) claims words → ShownWritten claims words (Written.Refused Room)
+    written-narrow free small = (of-graph (narrow free small untouched), untouched)
+
+    pub written-filled : {claims′ words′ : List ℕ} → ¬ CoverCycle (decoded s n h c) → ¬ Narrow (decoded s n h c) claims words
+        → Filled (decoded s n h c) claims words claims′ words′ → ShownWritten claims′ words′ Written.Claims
+    written-filled free wide f = (
+      of-graph (filled free wide f),
+      record { graph = decoded s n h c; accepted = begun-accepted bytes begun; writes = filled free wide f },
     )

@@ -1,19 +1,32 @@
 -- The rooms of the writer: words cleared, claims begun, and what the filled rooms hold. Assumes nothing.
-use Prim.Native.Nat.{ℕ, zero, suc, _+_, _*_, _^_, _<_, _≤_}
+use Prim.Native.Nat.{ℕ, zero, suc, _+_, _-_, _*_, _^_, _<_, _≤_}
 use mathlib.Core.List.{List, [], _∷_, _++_}
 use mathlib.Core.Logic.{_⊎_, inl, inr}
 use mathlib.Core.Path.{_≡_, refl, sym, ap, _∙_}
-use lib.ListN.{length, drop, getD, set, replicate}
-use lib.Seq.{drop-drop}
+use lib.ListN.{length, drop, getD, set, replicate, length-append}
+use lib.Seq.{drop-drop, drop-append-add}
 use native.Mathlib.Decide.{ℕ-discrete}
 use native.Mathlib.Nat.{not-suc-le-zero}
 use native.Mathlib.Numerals.{add-one}
 use native.Mathlib.Omega.{arith}
-use Rattle.value.specs.Stored.{infinite}
+use Rattle.value.specs.Stored.{infinite, stored, meaning}
+use Rattle.value.proofs.Stored.{meaning-stored}
 use Rattle.wire.specs.Bytes.{number, put}
 use Rattle.wire.specs.Field.{longWidth}
-use Rattle.claims.specs.Claims.{rankAt, claimWidth, claimedRank}
-use Rattle.claims.specs.Ranking.{unranked, Begun}
+use Rattle.rules.specs.Graph.{Graph, Closed}
+use Rattle.rules.specs.Rounds.{rounds, Agree}
+use Rattle.rules.specs.Count.{count}
+use Rattle.rules.specs.Walks.{CoverCycle}
+use Rattle.rules.proofs.Cycles.{free-count}
+use Rattle.rounds.specs.declared.Outcome.{Outcome}
+use Rattle.rounds.specs.Outcome.{outcomeCount, storedValues, filled, ended}
+use Rattle.rounds.specs.Ready.{Storable}
+use Rattle.rounds.proofs.Promised.{stored-length, filled-at}
+use Rattle.rounds.proofs.Laws.{settled-within}
+use Rattle.claims.specs.Claims.{rankAt, claimWidth, claimedValue, claimedRank, AcceptsClaims}
+use Rattle.claims.specs.Answers.{Filled}
+use Rattle.claims.specs.Ranking.{unranked, Begun, Kept}
+use Rattle.claims.proofs.Accepted.{accepted-largest}
 use Rattle.claims.proofs.Puts.{put-length, put-other, put-same, put-past}
 
 -- ---- words that are cleared one after another
@@ -80,3 +93,41 @@ module _ {v : ℕ} {words b₀ b : List ℕ} (d : Begun v words b₀ b) (fits : 
       rank-at u l (no e) =
           put-other b₁ (v * claimWidth + rankAt) longWidth unranked inside-rank longWidth (u * claimWidth + rankAt) (inl (omega arith))
           ∙ put-other b (v * claimWidth) longWidth value inside longWidth (u * claimWidth + rankAt) (inl (omega arith)) ∙ d .ranks u (omega arith)
+
+-- ---- the rounds settle, and the claims are begun from their room
+
+-- what is behind the two rounds stays
+pub filled-past : (g : Graph) (m k : ℕ) (b : List ℕ) → g .nodes + g .nodes ≤ k → drop k (filled g m b) ≡ drop k b
+unfolding filled
+filled-past g m k b l =
+    let n = g .nodes in
+    let front = storedValues n (rounds g m) ++ storedValues n (rounds g (suc m)) in
+    let long : length front ≡ n + n = simp length-append (omega (arith, stored-length n (rounds g m), stored-length n (rounds g (suc m)))) in
+    let r = k - (n + n) in
+    let here : k ≡ length front + r = omega arith in
+    let there : n + n + r ≡ k = omega arith in
+    ap (λ (j : ℕ). drop j (front ++ drop (n + n) b)) here ∙ drop-append-add front (drop (n + n) b) r ∙ drop-drop r (n + n) b ∙ ap (λ (j : ℕ). drop j b) there
+
+module _ (g : Graph) (closed : Closed g) (storable : Storable g) (free : ¬ CoverCycle g) where
+  -- within n rounds
+  settles : {r : Outcome} → r ≡ ended g (g .nodes) → outcomeCount r ≡ count g
+  settles e = ap outcomeCount (e ∙ settled-within g (g .nodes) (free-count g closed free))
+
+  -- so the claims hold the settled values
+  pub begun-agree : {r : Outcome} (words₀ : List ℕ) {words b₀ b : List ℕ} → r ≡ ended g (g .nodes) → words ≡ filled g (outcomeCount r) words₀ → Begun (g .nodes) words b₀ b
+      → Agree g (claimedValue b) (rounds g (count g))
+  begun-agree words₀ e is d v l =
+      let held = d .values v l ∙ ap (λ (x : List ℕ). getD x v 0) is ∙ filled-at g _ words₀ v l ∙ ap (λ (m : ℕ). stored (rounds g m v)) (settles e) in
+      ap meaning held ∙ meaning-stored (rounds g (count g) v) (λ k q. storable (count g) v k l q)
+
+  -- and once they are ranked and the words are cleared, both rooms are as they should be
+  pub filled-rooms : (r : Outcome) (words : List ℕ) {claims words₁ words₂ b b′ : List ℕ} → words₁ ≡ filled g (outcomeCount r) words → Begun (g .nodes) words₁ claims b
+      → words₂ ≡ replicate (g .nodes * 8) 0 ++ drop (g .nodes * 8) words₁ → Kept (g .nodes) b b′ → AcceptsClaims g b′ → Filled g claims words b′ words₂
+  filled-rooms r words is d cleared k ok = record {
+    largest = accepted-largest g closed ok;
+    accepted = ok;
+    same-length = k .same-length ∙ d .same-length;
+    rest-stays = k .past ∙ d .past;
+    words-are = cleared ∙ ap (λ (x : List ℕ). replicate (g .nodes * 8) 0 ++ x)
+        (ap (drop (g .nodes * 8)) is ∙ filled-past g _ (g .nodes * 8) words (omega arith));
+  }

@@ -406,13 +406,7 @@ fn deepen_hypers(s: &[u8], n: usize, h: u32, labels: &mut [u32; 4096]) -> bool
 }
 
 // Takes each cover edge's source below its target; says whether any label rose.
-fn deepen_covers(
-    s: &[u8],
-    n: usize,
-    c: u32,
-    middle: usize,
-    labels: &mut [u32; 4096],
-) -> bool
+fn deepen_covers(s: &[u8], n: usize, c: u32, middle: usize, labels: &mut [u32; 4096]) -> bool
     requires { ⌜ Sound (coverLayout (now s) n) c middle ⌝ }
     requires { ⌜ (n ≤ 4096) × (length (now labels) ≡ 4096) ⌝ }
     requires { ⌜ c ≤ 4096 ⌝ }
@@ -439,14 +433,7 @@ fn deepen_covers(
 }
 
 // A pass over all edges; says whether any label rose.
-fn deepen(
-    s: &[u8],
-    n: usize,
-    h: u32,
-    c: u32,
-    middle: usize,
-    labels: &mut [u32; 4096],
-) -> bool
+fn deepen(s: &[u8], n: usize, h: u32, c: u32, middle: usize, labels: &mut [u32; 4096]) -> bool
     requires { ⌜ Scannable (now s) n h c ⌝ }
     requires { ⌜ middle ≡ end (hyperLayout (now s) n) h graphHeader ⌝ }
     requires { ⌜ (n ≤ 4096) × (length (now labels) ≡ 4096) ⌝ }
@@ -543,14 +530,7 @@ fn rank_hypers(s: &[u8], n: usize, h: u32, given: u64, claims: &mut [u8]) -> u64
 }
 
 // Ranks the sources of cover edges that back them, one after another; gives the next rank.
-fn rank_covers(
-    s: &[u8],
-    n: usize,
-    c: u32,
-    middle: usize,
-    given: u64,
-    claims: &mut [u8],
-) -> u64
+fn rank_covers(s: &[u8], n: usize, c: u32, middle: usize, given: u64, claims: &mut [u8]) -> u64
     requires { ⌜ Sound (coverLayout (now s) n) c middle ⌝ }
     requires { ⌜ n * claimWidth ≤ length (now claims) ⌝ }
     requires { ⌜ given + c < unranked ⌝ }
@@ -606,15 +586,7 @@ fn rank(s: &[u8], n: usize, h: u32, c: u32, middle: usize, claims: &mut [u8])
 }
 
 // Writes the claims of a graph without a cycle through a cover edge: the rounds settle within n, in the words.
-fn fill(
-    s: &[u8],
-    nodes: u32,
-    h: u32,
-    c: u32,
-    middle: usize,
-    claims: &mut [u8],
-    words: &mut [u64],
-)
+fn fill(s: &[u8], nodes: u32, h: u32, c: u32, middle: usize, claims: &mut [u8], words: &mut [u64])
     requires { ⌜ Ready (now s) nodes h c ⌝ }
     requires { ⌜ middle ≡ end (hyperLayout (now s) nodes) h graphHeader ⌝ }
     requires { ⌜ nodes ≤ 4096 ⌝ }
