@@ -12,6 +12,8 @@
 --     Giving     ranks given one after another
 --     Standing   the passes that rank, and that they end with ranks that are accepted
 --     Filling    the rooms of the writer
+--     One        one answer of each public function, but for the choice of ranks
+--     Together   of what the writer writes the checker says yes
 pub mod Accepted
 pub mod Edgewise
 pub mod Passing
@@ -25,3 +27,5 @@ pub mod Ranks
 pub mod Giving
 pub mod Standing
 pub mod Filling
+pub mod One
+pub mod Together

@@ -15,7 +15,7 @@ use Rattle.wire.proofs.Laid as Laid
 use Rattle.claims.specs.Claims.{rankAt, claimWidth, claimedValue, claimedRank}
 
 -- the same bytes make the same number
-number-same : (k : ℕ) (s s′ : List ℕ) (at : ℕ) → ((i : ℕ) → i < k → getD s′ (at + i) 0 ≡ getD s (at + i) 0) → number k s′ at ≡ number k s at
+pub number-same : (k : ℕ) (s s′ : List ℕ) (at : ℕ) → ((i : ℕ) → i < k → getD s′ (at + i) 0 ≡ getD s (at + i) 0) → number k s′ at ≡ number k s at
 unfolding number
 number-same zero s s′ at f = refl
 number-same (suc k) s s′ at f = ap₂ (λ (a b : ℕ). a * 256 + b) (number-same k s s′ at (λ i l. f i (omega arith))) (f k (omega arith))
