@@ -28,7 +28,7 @@ use Rattle.claims.proofs.Judged.number.Reads as Judged-number
 use Rattle.claims.proofs.Written.number.Reads as Written-number
 
 -- the checker's answer
-judges-one : (x : Read StoredGraph) (claims : List ℕ) (r r′ : Judged) → Judges x claims r → Judges x claims r′ → r ≡ r′
+pub judges-one : (x : Read StoredGraph) (claims : List ℕ) (r r′ : Judged) → Judges x claims r → Judges x claims r′ → r ≡ r′
 judges-one (good g) claims Judged.Yes Judged.Yes p q = refl
 judges-one (good g) claims Judged.Yes Judged.No p q = absurd (q p)
 judges-one (good g) claims Judged.No Judged.Yes p q = absurd (p q)
@@ -54,7 +54,7 @@ SameClaims (good g) Written.Claims claims claims′ = ButRanks (ruled g) claims 
 SameClaims (good g) (Written.Refused e) claims claims′ = claims ≡ claims′
 SameClaims (bad f) r claims claims′ = claims ≡ claims′
 
-abbrev Same : Read StoredGraph → (c d w x : List ℕ) → (r r′ : Written) → Type 0
+abbrev pub Same : Read StoredGraph → (c d w x : List ℕ) → (r r′ : Written) → Type 0
 Same a c d w x r r′ = (r ≡ r′) × SameClaims a r c d × (w ≡ x)
 
 module _ (g : Graph) (claims words : List ℕ) where
@@ -78,7 +78,7 @@ module _ (g : Graph) (claims words : List ℕ) where
   )
 
 -- the writer's answer and rooms
-writes-one : (a : Read StoredGraph) (claims words : List ℕ) (r r′ : Written) (c w d x : List ℕ) → Writes a claims words c w r → Writes a claims words d x r′ → Same a c d w x r r′
+pub writes-one : (a : Read StoredGraph) (claims words : List ℕ) (r r′ : Written) (c w d x : List ℕ) → Writes a claims words c w r → Writes a claims words d x r′ → Same a c d w x r r′
 writes-one (good g) claims words r r′ c w d x p q = writes-of-one (ruled g) claims words p q
 writes-one (bad e) claims words r r′ c w d x p q = (p .0 ∙ sym (q .0), p .1 .claims-stay ∙ sym (q .1 .claims-stay), p .1 .words-stay ∙ sym (q .1 .words-stay))
 
