@@ -4,7 +4,7 @@ use mathlib.Core.List.{List}
 use mathlib.Core.Path.{_≡_, refl}
 use native.Mathlib.Omega.{arith}
 use lib.ListN.{length}
-use Rattle.refusal.specs.declared.Refusal.{Refusal}
+use Rattle.refusal.specs.declared.Fault.{Fault}
 use Rattle.wire.specs.Read.{Read, good, bad}
 use Rattle.formula.specs.Answers.{judged, counted, checked}
 use Rattle.formula.specs.declared.Row.{Row}
@@ -16,7 +16,7 @@ unfolding judged
 judged-fine (good a) e = cc
 judged-fine (bad a) e = cc
 
-pub judged-refused : (x : Read Row) {f : Refusal} → judged x ≡ Judged.Refused f → x ≡ bad f
+pub judged-refused : (x : Read Row) {f : Fault} → judged x ≡ Judged.Refused f → x ≡ bad f
 unfolding judged
 judged-refused (good a) e = cc
 judged-refused (bad a) e = cc
@@ -26,7 +26,7 @@ unfolding counted
 counted-formula (good a) e = cc
 counted-formula (bad a) e = cc
 
-pub counted-refused : (x : Read ℕ) {f : Refusal} → counted x ≡ Checked.Refused f → x ≡ bad f
+pub counted-refused : (x : Read ℕ) {f : Fault} → counted x ≡ Checked.Refused f → x ≡ bad f
 unfolding counted
 counted-refused (good a) e = cc
 counted-refused (bad a) e = cc
@@ -42,7 +42,7 @@ unfolding checked
 checked-formula (good rs) {f} e = record { rows = rs; read = refl; long = cc }
 checked-formula (bad a) e = let z : _≡_ {A = ℕ} 0 1 = cc in absurd (omega arith)
 
-pub checked-refused : (x : Read (List Row)) {f : Refusal} → checked x ≡ Checked.Refused f → x ≡ bad f
+pub checked-refused : (x : Read (List Row)) {f : Fault} → checked x ≡ Checked.Refused f → x ≡ bad f
 unfolding checked
 checked-refused (good a) e = cc
 checked-refused (bad a) e = cc

@@ -1,6 +1,6 @@
 -- A message is accepted as a formula exactly when it is the writing of its rows, and the rows are well-formed. Assumes nothing.
-use Prim.Native.Nat.{ℕ, zero, suc, _+_, _*_, _-_, _<_}
-use mathlib.Core.Bool.{true}
+use Prim.Native.Nat.{ℕ, zero, suc, _+_, _-_, _<_}
+use mathlib.Core.Bool.{true, false}
 use mathlib.Core.List.{List, [], _∷_, _++_, List·Memᴰ·head, List·Memᴰ·tail, List·Memᴰ·append-cases}
 use mathlib.Core.Logic.{_↔_, ⊎-elim}
 use mathlib.Core.Path.{_≡_, refl, sym, ap, subst, _∙_}
@@ -25,12 +25,13 @@ use Rattle.wire.proofs.Counts.{good-count}
 use Rattle.wire.proofs.Exact.{good-bind, good-after, good-demand, length-writeAll, Exact, FitsAll, none, more, all-reads, all-written, message-length, message-rest, start-reads, start-written}
 use Rattle.formula.specs.Format.{formulaHeader, formulaHead, rowsCount, leftAt, rightAt, zeroAt, boundAt, rowWidth, formulaLength}
 use Rattle.formula.specs.declared.Row.{Row}
-use Rattle.formula.specs.Rows.{rowOf, operands, propositions, uses, usedOnce}
-use Rattle.formula.specs.Message.{judgeRow, readRow, rows, readHeader, readFormula}
+use Rattle.formula.specs.Rows.{rowOf, usesLeft, usesRight, usesBound, operands, propositions, uses, usedOnce}
+use Rattle.formula.specs.Message.{rowFrom, fieldsFrom, rows, readHeader, readFormula}
 use Rattle.formula.specs.Write.{fields, writeRow, writeFormula}
 use Rattle.formula.specs.WellFormed.{SayableRow, RowAt, WellFormed}
 use Rattle.formula.proofs.Good.{row-good, header-good, formula-good, good-formula}
 use Rattle.formula.proofs.Judging.{Named, spare-fields, named-fields}
+use Rattle.formula.proofs.Using.{good-spare, good-operand}
 use Rattle.formula.proofs.Spelt.{left, right, spelt, row-length, said}
 
 -- ---- rows
@@ -72,7 +73,7 @@ fields-laid {s} {at} o l r z b h =
 
 module _ (s : List ℕ) (p : ℕ) where
   pub rows-exact : Exact s (rows s p) writeRow (λ st row. RowFits p (st .seen) row)
-  unfolding readRow judgeRow
+  unfolding rowFrom fieldsFrom
   rows-exact = record {
     reads = λ b st row e.
         let g = row-good s p st row e in
@@ -108,19 +109,17 @@ module _ (s : List ℕ) (p : ℕ) where
         let is : rowOf (w .operator) (left row) (right row) (w .code) ≡ row = w .is (f .sayable) in
         let idle = spare-fields (w .operator) (left row) (right row) 0 (w .code) (w .known) (rw is (w .spare)) in
         let names = named-fields p (st .seen) (w .operator) (left row) (right row) (w .code) (w .known) (rw is (f .names)) in
+        let o = w .operator in
         good-bind _ operator-there
-        (good-bind _ left-there
-        (good-bind _ right-there
-        (good-bind _ zero-there
-        (good-bind _ bound-there
         (good-demand _ (le-leb _ _ (w .known))
-        (good-demand _ (idle .left)
-        (good-demand _ (idle .right)
-        (good-demand _ (idle .zero)
-        (good-demand _ (idle .bound)
-        (good-demand _ (names .0)
-        (good-demand _ (names .1)
-        (rw is))))))))))));
+        (good-bind _ (good-spare 1 s _ _ (usesLeft o) left-there (idle .left))
+        (good-bind _ (good-spare 1 s _ _ (usesRight o) right-there (idle .right))
+        (good-bind _ (good-spare 1 s _ _ false zero-there (idle .zero))
+        (good-bind _ (good-spare 4 s _ _ (usesBound o) bound-there (idle .bound))
+        (good-bind _ (good-operand s _ _ _ (usesLeft o) left-there (idle .left) (names .0))
+        (good-bind _ (good-operand s _ _ _ (usesRight o) right-there (idle .right) (names .1))
+        (good-bind _ bound-there
+        (rw is)))))))));
     moves = λ st row. rw row-length;
   }
 

@@ -1,69 +1,82 @@
 -- What a good reading says: each field is there, each demand is met. Assumes nothing.
-use Prim.Native.Nat.{ℕ, _+_, _*_, _<_, _≤_}
+use Prim.Native.Nat.{ℕ, _+_, _≤_}
 use mathlib.Core.List.{List}
-use mathlib.Core.Bool.{true}
+use mathlib.Core.Bool.{Bool, true, false}
 use mathlib.Core.Path.{_≡_, refl, sym, ap, subst, _∙_}
-use lib.Dec.{ltb}
-use lib.ListN.{length}
-use borrow.Author.Tests.{ltb-true, lt-ltb, leb-true, le-leb, eqb-true}
+use native.Mathlib.Nat.{add-zero}
 use native.Mathlib.Omega.{arith}
-use Rattle.lists.specs.Lists.{_∈_, all}
-use Rattle.lists.proofs.Tests.{and-left, and-right}
-use Rattle.lists.proofs.Lists.{all-true, true-all}
+use lib.Dec.{leb}
+use lib.ListN.{length, take, drop}
+use borrow.Author.Tests.{leb-true, le-leb, eqb-true}
+use Rattle.refusal.specs.declared.Refusal.the-variants.{Form}
 use Rattle.wire.specs.declared.Field.the-variants.{Number}
 use Rattle.wire.specs.declared.State.{State}
-use Rattle.wire.specs.Bytes.{number}
 use Rattle.wire.specs.Field.{fieldAt}
-use Rattle.wire.specs.Read.{good}
-use Rattle.wire.specs.Reader.{one, readAll}
+use Rattle.wire.specs.Read.{Read, good, bad, _>>=_, _>>_, demand, field, misnamed}
+use Rattle.wire.specs.Reader.{readAll}
 use Rattle.wire.specs.Start.{readStart}
 use Rattle.wire.specs.Step.{start}
+use Rattle.wire.proofs.Fields.{part-field}
 use Rattle.wire.proofs.Counts.{CountAt, count-good}
-use Rattle.wire.proofs.Fields.{field-value, value-inside}
-use Rattle.wire.proofs.Reading.{reading, bind-good, and-good, demand-good, field-good, good-same}
+use Rattle.wire.proofs.Reading.{reading, bind-good, and-good, demand-good, field-good, good-same, part-below}
 use Rattle.wire.proofs.Readers.{all-length}
 use Rattle.wire.proofs.Exact.{good-bind, good-demand, all-there}
 use Rattle.formula.specs.Format.{formulaHeader, formulaHead, rowsCount, leftAt, rightAt, zeroAt, boundAt, rowWidth, formulaLength}
 use Rattle.formula.specs.declared.Row.{Row}
-use Rattle.formula.specs.Rows.{rowOf, usedOnce}
-use Rattle.formula.specs.Message.{judgeRow, readRow, rows, readHeader, readFormula}
+use Rattle.formula.specs.Rows.{rowOf, usesLeft, usesRight, usesBound, leftLimit, usedOnce}
+use Rattle.formula.specs.Message.{illFormed, spare, operand, fieldsFrom, rowFrom, readRow, rows, readHeader, readFormula}
 use Rattle.formula.proofs.Spelt.{spareZero}
-use Rattle.formula.proofs.Judging.{Named, fields-spare, fields-named}
+use Rattle.formula.proofs.Judging.{named, Idle, Named, fields-spare, fields-named}
+use Rattle.formula.proofs.Using.{spare-good, operand-good, zero-good}
 
--- what a good judgement says of the fields
+-- a row of a known operator is read by its fields
+pub row-known : (s : List ℕ) (at offset p place : ℕ) {o : ℕ} → fieldAt 1 s at ≡ Number o → o ≤ 9 → rowFrom s at offset p place ≡ fieldsFrom s at offset p place o
+unfolding rowFrom
+row-known s at offset p place {o} there known = simp (reading, there, le-leb o 9 known)
+
+-- a row is read from its part of the message as from the message
+module _ (s : List ℕ) (at : ℕ) (inside : at + rowWidth ≤ length s) where
+  spare-part : (used : Bool) (k x offset : ℕ) → x + k ≤ rowWidth → spare used k (take rowWidth (drop at s)) x offset ≡ spare used k s (at + x) offset
+  unfolding spare
+  spare-part used k x offset h = rw (part-below k s at rowWidth x 1 (illFormed offset) inside h) refl
+
+  operand-part : (used : Bool) (x limit offset : ℕ) → x + 1 ≤ rowWidth → operand used (take rowWidth (drop at s)) x limit offset ≡ operand used s (at + x) limit offset
+  unfolding operand
+  operand-part used x limit offset h = rw (part-below 1 s at rowWidth x limit (misnamed offset) inside h) refl
+
+  fields-part : (offset p place o : ℕ) → fieldsFrom (take rowWidth (drop at s)) 0 offset p place o ≡ fieldsFrom s at offset p place o
+  unfolding fieldsFrom
+  fields-part offset p place o = rw (
+    spare-part (usesLeft o) 1 leftAt (offset + leftAt) (omega arith),
+    spare-part (usesRight o) 1 rightAt (offset + rightAt) (omega arith),
+    spare-part false 1 zeroAt (offset + zeroAt) (omega arith),
+    spare-part (usesBound o) 4 boundAt (offset + boundAt) (omega arith),
+    operand-part (usesLeft o) leftAt (leftLimit p place o) (offset + leftAt) (omega arith),
+    operand-part (usesRight o) rightAt place (offset + rightAt) (omega arith),
+    part-field s at rowWidth 4 boundAt inside (omega arith),
+  ) refl
+
+  pub row-part : (offset p place : ℕ) → rowFrom (take rowWidth (drop at s)) 0 offset p place ≡ rowFrom s at offset p place
+  unfolding rowFrom _>>=_
+  row-part offset p place = rw (part-field s at rowWidth 1 0 inside (omega arith), add-zero) (go (field 1 s at))
+    where
+      go : (x : Read ℕ) → (x >>= λ o. demand (leb o 9) Form offset >> fieldsFrom (take rowWidth (drop at s)) 0 offset p place o) ≡ (x >>= λ o. demand (leb o 9) Form offset >> fieldsFrom s at offset p place o)
+      go (good o) = rw (fields-part offset p place o) refl
+      go (bad e) = refl
+
+-- what a good row says of its fields
 pub record Fine (p place operator left right zero bound : ℕ) (row : Row) : Type 0 where
   pub known : operator ≤ 9
   pub is : rowOf operator left right bound ≡ row
   pub spare : spareZero row left right zero bound ≡ true
   pub names : Named p place row
 
-pub judge-good : (p place o l r z b : ℕ) (row : Row) → judgeRow p place o l r z b ≡ good row → Fine p place o l r z b row
-unfolding judgeRow
-judge-good p place o l r z b row e =
-    let known = demand-good _ _ _ e in
-    let left-idle = demand-good _ _ _ (known .1) in
-    let right-idle = demand-good _ _ _ (left-idle .1) in
-    let zero-idle = demand-good _ _ _ (right-idle .1) in
-    let bound-idle = demand-good _ _ _ (zero-idle .1) in
-    let left-named = demand-good _ _ _ (bound-idle .1) in
-    let right-named = demand-good _ _ _ (left-named .1) in
-    let same : rowOf o l r b ≡ row = good-same (right-named .1) in
-    let few : o ≤ 9 = leb-true _ _ (known .0) in
-    record {
-      known = few;
-      is = same;
-      spare = rw (← same) (fields-spare o l r z b few (record { left = left-idle .0; right = right-idle .0; zero = zero-idle .0; bound = bound-idle .0 }));
-      names = rw (← same) (fields-named p place o l r b few (left-named .0) (right-named .0));
-    }
+fields-fine : (p place o l r z b : ℕ) {row : Row} → o ≤ 9 → rowOf o l r b ≡ row → Idle o l r z b
+    → named (usesLeft o) l (leftLimit p place o) ≡ true → named (usesRight o) r place ≡ true → Fine p place o l r z b row
+fields-fine p place o l r z b known same idle left right =
+    record { known = known; is = same; spare = rw (← same) (fields-spare o l r z b known idle); names = rw (← same) (fields-named p place o l r b known left right) }
 
 module _ (s : List ℕ) (p : ℕ) where
-  -- the fields of a row that fits are judged
-  pub row-inside : (st : State) → st .at + rowWidth ≤ length s → readRow s p st ≡ judgeRow p (st .seen) (number 1 s (st .at)) (number 1 s (st .at + leftAt)) (number 1 s (st .at + rightAt)) (number 1 s (st .at + zeroAt)) (number 4 s (st .at + boundAt))
-  unfolding readRow
-  row-inside st h =
-      let at = st .at in
-      simp (reading, field-value 1 s at (omega arith), field-value 1 s (at + leftAt) (omega arith), field-value 1 s (at + rightAt) (omega arith), field-value 1 s (at + zeroAt) (omega arith), field-value 4 s (at + boundAt) (omega arith))
-
   -- what a good row says of the bytes
   pub record RowGood (st : State) (row : Row) : Type 0 where
     pub operator : ℕ
@@ -79,34 +92,40 @@ module _ (s : List ℕ) (p : ℕ) where
     pub fine : Fine p (st .seen) operator left right zero bound row
 
   pub row-good : (st : State) (row : Row) → readRow s p st ≡ good row → RowGood st row
-  unfolding readRow
+  unfolding rowFrom fieldsFrom
   row-good st row e =
-      let o = bind-good _ _ e in
-      let l = bind-good _ _ (o .rest) in
+      let operator = bind-good _ _ e in
+      let known = demand-good _ _ _ (operator .rest) in
+      let l = bind-good _ _ (known .1) in
       let r = bind-good _ _ (l .rest) in
       let z = bind-good _ _ (r .rest) in
       let b = bind-good _ _ (z .rest) in
+      let left = bind-good _ _ (b .rest) in
+      let right = bind-good _ _ (left .rest) in
+      let bound = bind-good _ _ (right .rest) in
+      let o = operator .value in
+      let at-left = operand-good s _ _ _ (usesLeft o) (l .first) (left .first) in
+      let at-right = operand-good s _ _ _ (usesRight o) (r .first) (right .first) in
+      let at-zero = zero-good s _ _ (z .first) in
+      let idle : Idle o (left .value) (right .value) (z .value) (bound .value) = record {
+        left = at-left .is-idle;
+        right = at-right .is-idle;
+        zero = at-zero .1;
+        bound = spare-good 4 s _ _ (usesBound o) (b .first) (bound .first);
+      } in
       record {
-        operator = o .value;
-        left = l .value;
-        right = r .value;
+        operator = o;
+        left = left .value;
+        right = right .value;
         zero = z .value;
-        bound = b .value;
-        operator-there = field-good 1 s _ (o .first);
-        left-there = field-good 1 s _ (l .first);
-        right-there = field-good 1 s _ (r .first);
-        zero-there = field-good 1 s _ (z .first);
-        bound-there = field-good 4 s _ (b .first);
-        fine = judge-good _ _ _ _ _ _ _ row (b .rest);
+        bound = bound .value;
+        operator-there = field-good 1 s _ (operator .first);
+        left-there = at-left .there;
+        right-there = at-right .there;
+        zero-there = at-zero .0;
+        bound-there = field-good 4 s _ (bound .first);
+        fine = fields-fine p (st .seen) o _ _ _ _ (leb-true _ _ (known .0)) (good-same (bound .rest)) idle (at-left .is-named) (at-right .is-named);
       }
-
-  -- the state past a good row is 8 bytes on, inside the message, at the next place
-  pub rows-stay : (st next : State) → one (rows s p) st ≡ good next → (next .at ≡ st .at + rowWidth) × (next .at ≤ length s) × (next .seen ≡ st .seen + 1)
-  rows-stay st next e =
-      let r = bind-good _ _ e in
-      let g = row-good st (r .value) (r .first) in
-      let is = good-same (r .rest) in
-      (rw (← is), rw (← is) (omega (arith, value-inside 4 s (st .at + boundAt) (g .bound-there))), rw (← is))
 
 -- what a good header says of the bytes
 pub record HeaderAt (s : List ℕ) (f : ℕ) : Type 0 where

@@ -1,6 +1,6 @@
 -- The tests of a row's fields, in terms of the row: the fields that it doesn't use are zero, and its names exist. Assumes nothing.
 use Prim.Native.Nat.{ℕ, _≤_, _<_}
-use mathlib.Core.Bool.{Bool, true, _&&_, and-true}
+use mathlib.Core.Bool.{Bool, true, cond, _&&_, _||_, and-true}
 use mathlib.Core.Path.{_≡_, refl, sym, _∙_}
 use lib.Dec.{eqb, ltb}
 use borrow.Author.Tests.{ltb-true, lt-ltb}
@@ -8,8 +8,16 @@ use Rattle.lists.specs.Lists.{_∈_, all}
 use Rattle.lists.proofs.Tests.{and-left, and-right}
 use Rattle.lists.proofs.Lists.{all-true, true-all}
 use Rattle.formula.specs.declared.Row.{Row}
-use Rattle.formula.specs.Rows.{rowOf, usesLeft, usesRight, usesBound, idle, named, leftLimit, operands, propositions}
+use Rattle.formula.specs.Rows.{rowOf, usesLeft, usesRight, usesBound, leftLimit, operands, propositions}
 use Rattle.formula.proofs.Spelt.{spareZero, by-operator}
+
+-- a field that is not used is zero
+abbrev pub idle : (used : Bool) → (field : ℕ) → Bool
+idle used field = used || eqb field 0
+
+-- a field that is used names one of so many
+abbrev pub named : (used : Bool) → (field limit : ℕ) → Bool
+named used field limit = cond used (ltb field limit) true
 
 -- all four fields
 abbrev Spare : (o l r z b : ℕ) → Bool

@@ -1,7 +1,7 @@
 -- How often rows are operands, counted in a table. Assumes nothing.
-use Prim.Native.Nat.{ℕ, zero, suc, _+_, _-_, _<_, _≤_}
+use Prim.Native.Nat.{ℕ, zero, suc, _+_, _*_, _-_, _<_, _≤_}
 use mathlib.Core.Bool.{Bool, true, false, cond, _&&_}
-use mathlib.Core.List.{List, [], _∷_}
+use mathlib.Core.List.{List, [], _∷_, _++_}
 use mathlib.Core.Path.{_≡_, refl, sym}
 use native.Mathlib.Nat.{not-suc-le-zero}
 use native.Mathlib.Numerals.{sub-one}
@@ -11,13 +11,9 @@ use lib.ListN.{length, getD, set, replicate}
 use lib.Seq.{getD-set-same, getD-set-other}
 use borrow.Author.Tests.{eqb-true, eqb-false}
 use Rattle.lists.specs.Lists.{all, upTo}
-use Rattle.wire.specs.Layout.{items}
-use Rattle.wire.proofs.Layouts.{items-more}
-use Rattle.formula.specs.Format.{rowWidth}
 use Rattle.formula.specs.declared.Row.{Row}
 use Rattle.formula.specs.declared.Row.the-variants.{True, False, Proposition, Negation, And, Or, Next, Until}
 use Rattle.formula.specs.Rows.{operands, times, uses}
-use Rattle.formula.specs.Layouts.{rowAt, rowLayout}
 
 -- a table without uses
 pub none-counted : (n i : ℕ) → getD (replicate {A = ℕ} n 0) i 0 ≡ 0
@@ -62,14 +58,16 @@ operands-few (Until q l r b) = omega arith
 pub row-few : (i : ℕ) (row : Row) → times i (operands row) ≤ 2
 row-few i row = omega (arith, times-few i (operands row), operands-few row)
 
--- a loop's turn over rows by position
-pub uses-more : (s : List ℕ) (i k at : ℕ) → 0 < k → uses i (items (rowLayout s) k at) ≡ times i (operands (rowAt s at)) + uses i (items (rowLayout s) (k - 1) (at + rowWidth))
+-- one row more behind others
+pub uses-last : (i : ℕ) (rows : List Row) (row : Row) → uses i (rows ++ (row ∷ [])) ≡ uses i rows + times i (operands row)
 unfolding uses
-uses-more s i k at h = rw (items-more (rowLayout s) k at h)
+uses-last i [] row = omega arith
+uses-last i (first ∷ rows) row = omega (arith, uses-last i rows row)
 
-pub uses-none : (s : List ℕ) (i k at : ℕ) → k ≡ 0 → uses i (items (rowLayout s) k at) ≡ 0
-unfolding uses items
-uses-none s i k at h = rw h
+pub uses-few : (i : ℕ) (rows : List Row) → uses i rows ≤ 2 * length rows
+unfolding uses
+uses-few i [] = omega arith
+uses-few i (row ∷ rows) = omega (arith, uses-few i rows, row-few i row)
 
 -- each of the first i rows is an operand exactly once: the test goes from the last of them down
 abbrev pub firstOnce : List Row → ℕ → Bool

@@ -2,7 +2,7 @@
 use Prim.Native.Nat.{ℕ}
 use mathlib.Core.List.{List}
 use lib.ListN.{length}
-use Rattle.refusal.specs.Number.{ok, numberOf}
+use Rattle.refusal.specs.Number.{ok, numberOf, nowhere}
 use Rattle.wire.specs.Read.{Read, good, bad}
 use Rattle.formula.specs.declared.Row.{Row}
 use Rattle.formula.specs.declared.Judged.{Judged}
@@ -28,4 +28,9 @@ checked (bad e) = Checked.Refused e
 -- the paper's number of an answer
 abbrev pub checkedNumber : Checked → ℕ
 checkedNumber (Checked.Formula f) = ok
-checkedNumber (Checked.Refused e) = numberOf e
+checkedNumber (Checked.Refused e) = numberOf (e .refusal)
+
+-- its offset
+abbrev pub checkedOffset : Checked → ℕ
+checkedOffset (Checked.Formula f) = nowhere
+checkedOffset (Checked.Refused e) = e .offset

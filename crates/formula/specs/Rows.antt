@@ -1,7 +1,7 @@
 -- The rows of a formula message.
 use Prim.Native.Nat.{ℕ, _+_, _-_}
 use mathlib.Core.List.{List, [], _∷_}
-use mathlib.Core.Bool.{Bool, true, cond, _||_}
+use mathlib.Core.Bool.{Bool, cond}
 use lib.ListN.{length}
 use lib.Dec.{eqb, ltb, leb}
 use Rattle.lists.specs.Lists.{all, upTo}
@@ -35,14 +35,6 @@ usesRight o = cond (ltb o 6) (leb 4 o) (leb 8 o)
 -- the bound by EX, AX and the untils
 abbrev pub usesBound : (operator : ℕ) → Bool
 usesBound o = leb 6 o
-
--- a field that is not used is zero
-abbrev pub idle : (used : Bool) → (field : ℕ) → Bool
-idle used field = used || eqb field 0
-
--- a field that is used names one of so many
-abbrev pub named : (used : Bool) → (field limit : ℕ) → Bool
-named used field limit = cond used (ltb field limit) true
 
 -- left names a proposition below p, or an operand, which must be an earlier row
 abbrev pub leftLimit : (p place operator : ℕ) → ℕ

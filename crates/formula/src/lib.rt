@@ -1,31 +1,26 @@
 // The check of a formula message against a number of propositions: the first fault in the paper's order, or how many rows it has.
 ghost use mathlib.Core.Path.{_≡_};
-ghost use Prim.Native.Nat.{ℕ, _+_, _*_, _≤_, _<_};
+ghost use Prim.Native.Nat.{ℕ, _+_, _*_, _^_, _≤_, _<_};
 ghost use mathlib.Core.List.{List, [], _∷_};
 ghost use lib.ListN.{length, getD};
 ghost use Rattle.lists.specs.Lists.{_∈_};
-ghost use Rattle.wire.specs.declared.State.{State};
-ghost use Rattle.wire.specs.declared.Step.the-variants.{Next};
-ghost use Rattle.wire.specs.declared.Field.the-variants.{Number};
-ghost use Rattle.wire.specs.Field.{fieldAt};
-ghost use Rattle.wire.specs.Layout.{items};
-ghost use Rattle.wire.specs.Reader.{one, run};
-ghost use Rattle.wire.specs.Step.{step};
+ghost use Rattle.wire.specs.Field.{widthOf};
+ghost use Rattle.wire.specs.Read.{good, below, found, misnamed};
+ghost use Rattle.wire.specs.Reader.{readAll};
+ghost use Rattle.wire.specs.Step.{start};
 ghost use Rattle.formula.specs.declared.Row.{Row};
 ghost use Rattle.formula.specs.Rows as rows;
 ghost use Rattle.formula.specs.Message as m;
-ghost use Rattle.formula.specs.Layouts.{rowAt, rowLayout};
+ghost use Rattle.formula.specs.Layouts.{rowAt};
 ghost use Rattle.formula.specs.Answers as answers;
-ghost use Rattle.formula.specs.Format.{boundAt, rowWidth};
+ghost use Rattle.formula.specs.Format.{formulaHeader, rowWidth, formulaLength};
+use refusal::Fault;
 use refusal::Refusal;
 use value::Bound;
 use wire::Count;
-use wire::Counted;
 use wire::Field;
 use wire::Head;
 use wire::Opened;
-use wire::State;
-use wire::Step;
 use wire::Width;
 
 // The header of a formula message, and its count.
@@ -76,13 +71,13 @@ pub enum Row {
 // A row without fault, or its first fault.
 pub enum Judged {
     Fine(Row),
-    Refused(Refusal),
+    Refused(Fault),
 }
 
 // How many rows an accepted message has, or its first fault.
 pub enum Checked {
     Formula(u32),
-    Refused(Refusal),
+    Refused(Fault),
 }
 
 impl Checked {
@@ -92,7 +87,20 @@ impl Checked {
     {
         match self {
             Checked::Formula(_) => 0,
-            Checked::Refused(e) => e.number(),
+            Checked::Refused(e) => {
+                let refusal = e.refusal;
+                refusal.number()
+            }
+        }
+    }
+
+    // Where in the message the field starts that was found wrong, and 0 where none was.
+    pub fn offset(self) -> usize
+        ensures { λ r. ⌜ r ≡ answers.checkedOffset self ⌝ }
+    {
+        match self {
+            Checked::Formula(_) => 0,
+            Checked::Refused(e) => e.offset,
         }
     }
 }
@@ -115,102 +123,197 @@ fn row_of(operator: u32, left: u32, right: u32, bound: u32) -> Row
     }
 }
 
-// Whether an operator uses the field right: and, or, and the untils do.
-fn uses_right(operator: u32) -> bool
-    ensures { λ r. ⌜ r ≡ rows.usesRight operator ⌝ }
+// A field that the operator doesn't use, of a row that stands here in its message: it must be zero, or it is FORM.
+fn unused(row: &[u8], offset: usize, at: usize, width: Width) -> Field
+    requires { ⌜ offset + at < 2 ^ 64 ⌝ }
+    ensures { λ r. ⌜ r ≡ found (below (widthOf width) (now (row .entry)) at 1 (m.illFormed (offset + at))) ⌝ }
 {
+    let form = Fault {
+        refusal: Refusal::Form,
+        offset: offset + at,
+    };
+    wire::read_below(row, at, width, 1, form)
+}
+
+// A field that names one of so many propositions or earlier rows, or it is NAME.
+fn named(row: &[u8], offset: usize, at: usize, limit: u32) -> Field
+    requires { ⌜ offset + at < 2 ^ 64 ⌝ }
+    ensures { λ r. ⌜ r ≡ found (below 1 (now (row .entry)) at limit (misnamed (offset + at))) ⌝ }
+{
+    let name = Fault {
+        refusal: Refusal::Name,
+        offset: offset + at,
+    };
+    wire::read_below(row, at, Width::One, limit as u64, name)
+}
+
+// Each kind of operator reads first the fields that it doesn't use, then the others: so the compiler has a branch for each kind.
+
+// True and false use no field.
+fn read_constant(row: &[u8], offset: usize, operator: u32) -> Judged
+    requires { ⌜ (offset + rowWidth < 2 ^ 64) × (operator ≤ 1) ⌝ }
+    ensures { λ r. ⌜ ((p place : ℕ) → r ≡ answers.judged (m.fieldsFrom (now (row .entry)) 0 offset p place operator)) ⌝ }
+{
+    let left = unused(row, offset, LEFT_AT, Width::One);
+    let Field::Number(_) = left else {
+        return Judged::Refused(left.fault());
+    };
+    let right = unused(row, offset, RIGHT_AT, Width::One);
+    let Field::Number(_) = right else {
+        return Judged::Refused(right.fault());
+    };
+    let zero = unused(row, offset, ZERO_AT, Width::One);
+    let Field::Number(_) = zero else {
+        return Judged::Refused(zero.fault());
+    };
+    let bound = unused(row, offset, BOUND_AT, Width::Four);
+    let Field::Number(_) = bound else {
+        return Judged::Refused(bound.fault());
+    };
+    if operator == 0 {
+        return Judged::Fine(Row::True);
+    }
+    Judged::Fine(Row::False)
+}
+
+// A proposition and its negation use left.
+fn read_proposition(row: &[u8], offset: usize, operator: u32, p: u32) -> Judged
+    requires { ⌜ (offset + rowWidth < 2 ^ 64) × (2 ≤ operator) × (operator ≤ 3) ⌝ }
+    ensures { λ r. ⌜ ((place : ℕ) → r ≡ answers.judged (m.fieldsFrom (now (row .entry)) 0 offset p place operator)) ⌝ }
+{
+    let right = unused(row, offset, RIGHT_AT, Width::One);
+    let Field::Number(_) = right else {
+        return Judged::Refused(right.fault());
+    };
+    let zero = unused(row, offset, ZERO_AT, Width::One);
+    let Field::Number(_) = zero else {
+        return Judged::Refused(zero.fault());
+    };
+    let bound = unused(row, offset, BOUND_AT, Width::Four);
+    let Field::Number(_) = bound else {
+        return Judged::Refused(bound.fault());
+    };
+    let first = named(row, offset, LEFT_AT, p);
+    let Field::Number(left) = first else {
+        return Judged::Refused(first.fault());
+    };
+    if operator == 2 {
+        return Judged::Fine(Row::Proposition(left));
+    }
+    Judged::Fine(Row::Negation(left))
+}
+
+// And, or use left and right.
+fn read_pair(row: &[u8], offset: usize, operator: u32, place: u32) -> Judged
+    requires { ⌜ (offset + rowWidth < 2 ^ 64) × (4 ≤ operator) × (operator ≤ 5) ⌝ }
+    ensures { λ r. ⌜ ((p : ℕ) → r ≡ answers.judged (m.fieldsFrom (now (row .entry)) 0 offset p place operator)) ⌝ }
+{
+    let zero = unused(row, offset, ZERO_AT, Width::One);
+    let Field::Number(_) = zero else {
+        return Judged::Refused(zero.fault());
+    };
+    let bound = unused(row, offset, BOUND_AT, Width::Four);
+    let Field::Number(_) = bound else {
+        return Judged::Refused(bound.fault());
+    };
+    let first = named(row, offset, LEFT_AT, place);
+    let Field::Number(left) = first else {
+        return Judged::Refused(first.fault());
+    };
+    let second = named(row, offset, RIGHT_AT, place);
+    let Field::Number(right) = second else {
+        return Judged::Refused(second.fault());
+    };
+    if operator == 4 {
+        return Judged::Fine(Row::And(left, right));
+    }
+    Judged::Fine(Row::Or(left, right))
+}
+
+// EX and AX use left and the bound.
+fn read_next(row: &[u8], offset: usize, operator: u32, place: u32) -> Judged
+    requires { ⌜ (offset + rowWidth < 2 ^ 64) × (6 ≤ operator) × (operator ≤ 7) ⌝ }
+    ensures { λ r. ⌜ ((p : ℕ) → r ≡ answers.judged (m.fieldsFrom (now (row .entry)) 0 offset p place operator)) ⌝ }
+{
+    let right = unused(row, offset, RIGHT_AT, Width::One);
+    let Field::Number(_) = right else {
+        return Judged::Refused(right.fault());
+    };
+    let zero = unused(row, offset, ZERO_AT, Width::One);
+    let Field::Number(_) = zero else {
+        return Judged::Refused(zero.fault());
+    };
+    let first = named(row, offset, LEFT_AT, place);
+    let Field::Number(left) = first else {
+        return Judged::Refused(first.fault());
+    };
+    let last = wire::read(row, BOUND_AT, Width::Four);
+    let Field::Number(bound) = last else {
+        return Judged::Refused(last.fault());
+    };
+    let within = Bound::coded(bound);
+    if operator == 6 {
+        return Judged::Fine(Row::Next(Quantifier::Some, left, within));
+    }
+    Judged::Fine(Row::Next(Quantifier::Every, left, within))
+}
+
+// The untils use left, right and the bound.
+fn read_until(row: &[u8], offset: usize, operator: u32, place: u32) -> Judged
+    requires { ⌜ (offset + rowWidth < 2 ^ 64) × (8 ≤ operator) × (operator ≤ 9) ⌝ }
+    ensures { λ r. ⌜ ((p : ℕ) → r ≡ answers.judged (m.fieldsFrom (now (row .entry)) 0 offset p place operator)) ⌝ }
+{
+    let zero = unused(row, offset, ZERO_AT, Width::One);
+    let Field::Number(_) = zero else {
+        return Judged::Refused(zero.fault());
+    };
+    let first = named(row, offset, LEFT_AT, place);
+    let Field::Number(left) = first else {
+        return Judged::Refused(first.fault());
+    };
+    let second = named(row, offset, RIGHT_AT, place);
+    let Field::Number(right) = second else {
+        return Judged::Refused(second.fault());
+    };
+    let last = wire::read(row, BOUND_AT, Width::Four);
+    let Field::Number(bound) = last else {
+        return Judged::Refused(last.fault());
+    };
+    let within = Bound::coded(bound);
+    if operator == 8 {
+        return Judged::Fine(Row::Until(Quantifier::Some, left, right, within));
+    }
+    Judged::Fine(Row::Until(Quantifier::Every, left, right, within))
+}
+
+// A row that stands here in its message, by the kind of its operator.
+fn read_row(row: &[u8], offset: usize, p: u32, place: u32) -> Judged
+    requires { ⌜ offset + rowWidth < 2 ^ 64 ⌝ }
+    ensures { λ r. ⌜ r ≡ answers.judged (m.rowFrom (now (row .entry)) 0 offset p place) ⌝ }
+{
+    let field = wire::read(row, 0, Width::One);
+    let Field::Number(operator) = field else {
+        return Judged::Refused(field.fault());
+    };
+    if operator < 4 {
+        if operator < 2 {
+            return read_constant(row, offset, operator);
+        }
+        return read_proposition(row, offset, operator, p);
+    }
     if operator < 6 {
-        return 4 <= operator;
+        return read_pair(row, offset, operator, place);
     }
-    8 <= operator
-}
-
-// Whether a field that an operator doesn't use is zero; one that it uses may be any number.
-fn idle(used: bool, field: u32) -> bool
-    ensures { λ r. ⌜ r ≡ rows.idle used field ⌝ }
-{
-    if used {
-        return true;
+    if operator < 8 {
+        return read_next(row, offset, operator, place);
     }
-    field == 0
-}
-
-// The names that left may have: the propositions, or the earlier rows.
-fn left_limit(p: u32, place: u32, operator: u32) -> u32
-    ensures { λ r. ⌜ r ≡ rows.leftLimit p place operator ⌝ }
-{
-    if operator < 4 { p } else { place }
-}
-
-// Whether a field that names something names one of so many.
-fn named(used: bool, field: u32, limit: u32) -> bool
-    ensures { λ r. ⌜ r ≡ rows.named used field limit ⌝ }
-{
-    if used {
-        return field < limit;
+    if operator < 10 {
+        return read_until(row, offset, operator, place);
     }
-    true
-}
-
-// The row of these fields at a place, or its first fault, field by field.
-fn judge(p: u32, place: u32, operator: u32, left: u32, right: u32, zero: u32, bound: u32) -> Judged
-    ensures { λ r. ⌜ r ≡ answers.judged (m.judgeRow p place operator left right zero bound) ⌝ }
-{
-    if 9 < operator {
-        return Judged::Refused(Refusal::Form);
-    }
-    let with_left = 2 <= operator;
-    let with_right = uses_right(operator);
-    let with_bound = 6 <= operator;
-    if !idle(with_left, left) {
-        return Judged::Refused(Refusal::Form);
-    }
-    if !idle(with_right, right) {
-        return Judged::Refused(Refusal::Form);
-    }
-    if zero != 0 {
-        return Judged::Refused(Refusal::Form);
-    }
-    if !idle(with_bound, bound) {
-        return Judged::Refused(Refusal::Form);
-    }
-    if !named(with_left, left, left_limit(p, place, operator)) {
-        return Judged::Refused(Refusal::Name);
-    }
-    if !named(with_right, right, place) {
-        return Judged::Refused(Refusal::Name);
-    }
-    Judged::Fine(row_of(operator, left, right, bound))
-}
-
-// The same, with a branch for each kind of operator: so the compiler knows in each which fields are used.
-fn judge_kind(
-    p: u32,
-    place: u32,
-    operator: u32,
-    left: u32,
-    right: u32,
-    zero: u32,
-    bound: u32,
-) -> Judged
-    ensures { λ r. ⌜ r ≡ answers.judged (m.judgeRow p place operator left right zero bound) ⌝ }
-{
-    if operator <= 1 {
-        return judge(p, place, operator, left, right, zero, bound);
-    }
-    if operator <= 3 {
-        return judge(p, place, operator, left, right, zero, bound);
-    }
-    if operator <= 5 {
-        return judge(p, place, operator, left, right, zero, bound);
-    }
-    if operator <= 7 {
-        return judge(p, place, operator, left, right, zero, bound);
-    }
-    if operator <= 9 {
-        return judge(p, place, operator, left, right, zero, bound);
-    }
-    Judged::Refused(Refusal::Form)
+    Judged::Refused(Fault {
+        refusal: Refusal::Form,
+        offset,
+    })
 }
 
 // The header, and that the message is as long as its count says.
@@ -220,12 +323,12 @@ fn header(s: &[u8]) -> Checked
     if let Opened::Refused(e) = wire::open(s, HEAD) {
         return Checked::Refused(e);
     }
-    let f = match wire::read_count(s, ROWS) {
-        Counted::Count(f) => f,
-        Counted::Refused(e) => return Checked::Refused(e),
+    let count = wire::read_count(s, ROWS);
+    let Field::Number(f) = count else {
+        return Checked::Refused(count.fault());
     };
     if s.len() != HEADER + (f as usize) * ROW {
-        return Checked::Refused(Refusal::Length);
+        return Checked::Refused(wire::SHORT);
     }
     Checked::Formula(f)
 }
@@ -266,56 +369,27 @@ fn count_row(counts: &mut [u8], row: Row)
     }
 }
 
-// One row, whose last field is there, and so are those before it; and the uses that it makes of others.
-fn one_row(s: &[u8], p: u32, bound: u32, st: State, counts: &mut [u8]) -> Step
-    requires { ⌜ fieldAt 4 (now s) (st .at + boundAt) ≡ Number bound ⌝ }
-    requires { ⌜ (st .seen < 64) × (length (now counts) ≡ 64) × ((i : ℕ) → getD (now counts) i 0 < 254) ⌝ }
-    ensures { λ r. ⌜ r ≡ step (one (m.rows (now (s .entry)) p) st) ⌝ }
-    ensures { λ r. ⌜ ((next : State) → r ≡ Next next → (i : ℕ)
-        → getD (now (counts .exit)) i 0 ≡ getD (now (counts .entry)) i 0 + rows.times i (rows.operands (rowAt (now (s .entry)) (st .at)))) ⌝ }
-{
-    let at = st.at;
-    let operator = wire::number_at(s, at, Width::One);
-    let left_at = at + LEFT_AT;
-    let left = wire::number_at(s, left_at, Width::One);
-    let right_at = at + RIGHT_AT;
-    let right = wire::number_at(s, right_at, Width::One);
-    let zero_at = at + ZERO_AT;
-    let zero = wire::number_at(s, zero_at, Width::One);
-    let row = match judge_kind(p, st.seen, operator, left, right, zero, bound) {
-        Judged::Fine(row) => row,
-        Judged::Refused(e) => return Step::Refused(e),
-    };
-    count_row(counts, row);
-    let end = at + ROW;
-    let place = st.seen + 1;
-    Step::Next(State {
-        at: end,
-        prev: st.prev,
-        seen: place,
-    })
-}
-
-// The k rows up to the end of the message, and how often each is an operand: where no last field fits, none is left.
-fn all_rows(s: &[u8], p: u32, first: State, counts: &mut [u8]) -> Step
-    requires { ⌜ (first .at ≤ length (now s)) × (length (now s) + first .seen * rowWidth ≤ first .at + 64 * rowWidth) ⌝ }
+// The f rows, and how often each is an operand. The header has fixed the length, so each row is a part of the message.
+fn all_rows(s: &[u8], p: u32, f: u32, counts: &mut [u8]) -> Checked
+    requires { ⌜ (length (now s) ≡ formulaLength f) × (f ≤ 64) ⌝ }
     requires { ⌜ (length (now counts) ≡ 64) × ((i : ℕ) → getD (now counts) i 0 ≡ 0) ⌝ }
-    ensures { λ r. ⌜ ((k : ℕ) → first .at + k * rowWidth ≡ length (now (s .entry)) → r ≡ step (run (m.rows (now (s .entry)) p) k first)) ⌝ }
-    ensures { λ r. ⌜ ((k : ℕ) → first .at + k * rowWidth ≡ length (now (s .entry)) → (last : State) → r ≡ Next last → (i : ℕ)
-        → getD (now (counts .exit)) i 0 ≡ rows.uses i (items (rowLayout (now (s .entry))) k (first .at))) ⌝ }
+    ensures { λ r. ⌜ r ≡ answers.checked (readAll (m.rows (now (s .entry)) p) f (start formulaHeader)) ⌝ }
+    ensures { λ r. ⌜ ((rs : List Row) → readAll (m.rows (now (s .entry)) p) f (start formulaHeader) ≡ good rs → (i : ℕ)
+        → getD (now (counts .exit)) i 0 ≡ rows.uses i rs) ⌝ }
 {
-    let mut st = first;
-    loop {
-        let bound_at = st.at + BOUND_AT;
-        let Field::Number(bound) = wire::read(s, bound_at, Width::Four) else {
-            return Step::Next(st);
+    let mut at = HEADER;
+    let mut place = 0;
+    while place < f {
+        let end = at + ROW;
+        let row = match read_row(&s[at..end], at, p, place) {
+            Judged::Fine(row) => row,
+            Judged::Refused(e) => return Checked::Refused(e),
         };
-        let read = one_row(s, p, bound, st, counts);
-        let Step::Next(next) = read else {
-            return read;
-        };
-        st = next;
+        count_row(counts, row);
+        at = end;
+        place += 1;
     }
+    Checked::Formula(f)
 }
 
 // Whether every row but the last of f rows, which are operands so often, is one exactly once. All are looked at, so that none waits for another.
@@ -339,27 +413,25 @@ pub fn check(s: &[u8], p: u32) -> Checked
     ensures { λ r. ⌜ r ≡ answers.checked (m.readFormula p (now (s .entry))) ⌝ }
 {
     if 32 < p {
-        return Checked::Refused(Refusal::Limit);
+        return Checked::Refused(Fault {
+            refusal: Refusal::Limit,
+            offset: 0,
+        });
     }
     let head = header(s);
     let Checked::Formula(f) = head else {
         return head;
     };
     let mut counts = [0u8; 64];
-    if let Step::Refused(e) = all_rows(
-        s,
-        p,
-        State {
-            at: HEADER,
-            prev: 0,
-            seen: 0,
-        },
-        &mut counts,
-    ) {
-        return Checked::Refused(e);
-    }
+    let all = all_rows(s, p, f, &mut counts);
+    let Checked::Formula(_) = all else {
+        return all;
+    };
     if !used_once(&counts, f) {
-        return Checked::Refused(Refusal::Form);
+        return Checked::Refused(Fault {
+            refusal: Refusal::Form,
+            offset: 0,
+        });
     }
     head
 }

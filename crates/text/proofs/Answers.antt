@@ -5,7 +5,8 @@ use mathlib.Core.Path.{_≡_, refl, ap, _∙_}
 use lib.ListN.{length, drop}
 use borrow.Author.Tests.{lt-ltb, le-ltb}
 use native.Mathlib.Omega.{arith}
-use Rattle.refusal.specs.declared.Refusal.{Refusal}
+use Rattle.refusal.specs.Number.{unplaced}
+use Rattle.refusal.specs.declared.Fault.{Fault}
 use Rattle.refusal.specs.declared.Refusal.the-variants.{Room}
 use Rattle.wire.specs.Read.{Read, good, bad}
 use Rattle.formula.specs.declared.Row.{Row}
@@ -20,12 +21,12 @@ use Rattle.text.specs.declared.Written.the-variants.{Text, Refused}
 abbrev pub Answered : Read (List Row) → List ℕ → Written → List ℕ → Type 0
 Answered x b r b′ = (r ≡ writtenOf x b) × (b′ ≡ textRoom x b)
 
-pub refused : (x : Read (List Row)) (b : List ℕ) {e : Refusal} → x ≡ bad e → Answered x b (Refused e) b
+pub refused : (x : Read (List Row)) (b : List ℕ) {e : Fault} → x ≡ bad e → Answered x b (Refused e) b
 unfolding writtenOf textRoom
 refused x b h = rw h (refl, refl)
 
 module _ (x : Read (List Row)) (b : List ℕ) (rows : List Row) (h : x ≡ good rows) where
-  pub no-room : length b < length (text (rootOf rows)) → Answered x b (Refused Room) b
+  pub no-room : length b < length (text (rootOf rows)) → Answered x b (Refused (unplaced Room)) b
   unfolding writtenOf textRoom
   no-room k = rw (h, lt-ltb (length b) (length (text (rootOf rows))) k) (refl, refl)
 

@@ -7,6 +7,7 @@ use Rattle.text.proofs.put_word.Reads as put-word
 use Rattle.text.proofs.put_decimal.Reads as put-decimal
 use Rattle.text.proofs.put_number.Reads as put-number
 use Rattle.text.proofs.Written.number.Reads as Written-number
+use Rattle.text.proofs.Written.offset.Reads as Written-offset
 use Rattle.text.proofs.Written.length.Reads as Written-length
 
 -- `text::text`: the answer and the room
@@ -38,3 +39,8 @@ one-put-decimal κs a r r′ s s′ p q = (p .next-is ∙ sym (q .next-is), p .r
 pub one-put-number : (κs : _) (a : _) (r r′ : _) (s s′ : _) → put-number.Post κs a r s → put-number.Post κs a r′ s′
     → (r ≡ r′) × (now (s .0) ≡ now (s′ .0))
 one-put-number κs a r r′ s s′ p q = (p .next-is ∙ sym (q .next-is), p .room-is ∙ sym (q .room-is))
+
+-- `text::Written::offset`
+pub one-offset : (κs : _) (a : _) (r r′ : _) (s s′ : _) → Written-offset.Post κs a r s → Written-offset.Post κs a r′ s′
+    → r ≡ r′
+one-offset κs a r r′ s s′ p q = p ∙ sym q

@@ -4,7 +4,7 @@ use mathlib.Core.List.{List, _++_}
 use mathlib.Core.Bool.{cond}
 use lib.ListN.{length, drop}
 use lib.Dec.{ltb}
-use Rattle.refusal.specs.Number.{ok, numberOf}
+use Rattle.refusal.specs.Number.{ok, numberOf, nowhere, unplaced}
 use Rattle.refusal.specs.declared.Refusal.the-variants.{Room}
 use Rattle.wire.specs.Read.{Read, good, bad}
 use Rattle.formula.specs.declared.Row.{Row}
@@ -16,7 +16,12 @@ use Rattle.text.specs.declared.Written.the-variants as Written
 -- the paper's number of an answer, and the returned length: any refusal has length 0
 abbrev pub writtenNumber : Written → ℕ
 writtenNumber (Written.Text n) = ok
-writtenNumber (Written.Refused e) = numberOf e
+writtenNumber (Written.Refused e) = numberOf (e .refusal)
+
+-- where the field starts that was found wrong
+abbrev pub writtenOffset : Written → ℕ
+writtenOffset (Written.Text n) = nowhere
+writtenOffset (Written.Refused e) = e .offset
 
 abbrev pub writtenLength : Written → ℕ
 writtenLength (Written.Text n) = n
@@ -25,7 +30,7 @@ writtenLength (Written.Refused e) = 0
 -- the formula is checked first; then ROOM if the text doesn't fit; the text's length is returned
 unfoldable pub writtenOf : Read (List Row) → List ℕ → Written
 writtenOf (good rows) b =
-    cond (ltb (length b) (length (text (rootOf rows)))) (Written.Refused Room) (Written.Text (length (text (rootOf rows))))
+    cond (ltb (length b) (length (text (rootOf rows)))) (Written.Refused (unplaced Room)) (Written.Text (length (text (rootOf rows))))
 writtenOf (bad e) b = Written.Refused e
 
 -- the bytes past the text stay; a refusal leaves the room as it came

@@ -6,18 +6,18 @@ ghost use lib.ListN.{length};
 ghost use Rattle.text.specs.Text as t;
 ghost use Rattle.wire.specs.Laid.{Laid};
 ghost use Rattle.text.specs.Rows.{rowText, Ready};
-ghost use Rattle.text.specs.Written.{writtenNumber, writtenLength, writtenOf, textRoom};
+ghost use Rattle.text.specs.Written.{writtenNumber, writtenOffset, writtenLength, writtenOf, textRoom};
 ghost use Rattle.formula.specs.Message.{readFormula};
 use formula::Checked;
 use formula::Quantifier;
 use formula::Row;
-use refusal::Refusal;
+use refusal::Fault;
 use value::Bound;
 
 // The length of the text, or why it was not written.
 pub enum Written {
     Text(usize),
-    Refused(Refusal),
+    Refused(Fault),
 }
 
 impl Written {
@@ -28,6 +28,16 @@ impl Written {
         match self {
             Written::Text(_) => 0,
             Written::Refused(e) => e.number(),
+        }
+    }
+
+    // Where the field starts that was found wrong, and 0 where none was.
+    pub fn offset(self) -> usize
+        ensures { λ r. ⌜ r ≡ writtenOffset self ⌝ }
+    {
+        match self {
+            Written::Text(_) => 0,
+            Written::Refused(e) => e.offset,
         }
     }
 
@@ -211,7 +221,7 @@ pub fn text(s: &[u8], p: u32, room: &mut [u8]) -> Written
             let root = f - 1;
             let length = row_length(s, root);
             if room.len() < length {
-                return Written::Refused(Refusal::Room);
+                return Written::Refused(refusal::ROOM);
             }
             Written::Text(put_row(s, root, room, 0))
         }

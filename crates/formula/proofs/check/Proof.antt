@@ -2,29 +2,25 @@
 use Prim.Native.Nat.{ℕ}
 use mathlib.Core.Bool.{true, false}
 use mathlib.Core.List.{List}
-use mathlib.Core.Path.{_≡_, refl, sym, _∙_}
+use mathlib.Core.Path.{_≡_, refl, _∙_}
 use denote.Ref.{now}
 use lib.ListN.{length, getD}
-use native.Mathlib.Omega.{arith}
 use borrow.Author.Needs.{needs}
 use borrow.Author.Tests.{lt-leb, le-leb, not-true, not-false}
 use Rattle.lists.proofs.Tests.{by}
-use Rattle.wire.specs.declared.State.{State}
-use Rattle.wire.specs.Read.{Read, good}
-use Rattle.wire.specs.Reader.{readAll, run}
-use Rattle.wire.specs.Step.{start, step}
+use Rattle.wire.specs.Read.{good, bad}
+use Rattle.wire.specs.Reader.{readAll}
+use Rattle.wire.specs.Step.{start}
 use Rattle.wire.proofs.Reading.{reading}
-use Rattle.wire.proofs.Readers.{run-good, run-bad, all-length}
-use Rattle.wire.proofs.Turns.{step-next, step-refused}
+use Rattle.wire.proofs.Readers.{all-length}
 use Rattle.formula.specs.Format.{formulaHeader}
 use Rattle.formula.specs.declared.Row.{Row}
 use Rattle.formula.specs.Rows.{uses, usedOnce}
 use Rattle.formula.specs.Message.{readHeader, readFormula, rows}
 use Rattle.formula.specs.Answers.{checked}
 use Rattle.formula.proofs.Good.{header-good}
-use Rattle.formula.proofs.Accepted.{rows-hold}
 use Rattle.formula.proofs.Uses.{none-counted}
-use Rattle.formula.proofs.Answered.{counted-formula, counted-refused}
+use Rattle.formula.proofs.Answered.{counted-formula, counted-refused, checked-formula, checked-refused}
 use Rattle.formula.proofs.check.Statement.{statement}
 use Rattle.formula.proofs.check.Tie as tie
 
@@ -39,28 +35,24 @@ after-known-told c = c .before .before .before .before .before
 head-good : (c : tie.After-known-told) → readHeader (now (entered c .args .s)) ≡ good (c .before .head .given .0 .0)
 head-good c = counted-formula _ (by (c .before .before .before .header .ensures) (c .before .head .given .1))
 
--- the reading of all rows
-abbrev all-read : tie.After-known-told → Read State
-all-read k = let a = entered k .args in run (rows (now (a .s)) (a .p)) (k .before .head .given .0 .0) (start formulaHeader)
-
 -- the rows that were read, and how often each of them is an operand
-record Rows (s counts : List ℕ) (p f : ℕ) : Type 0 where
+record Got (s counts : List ℕ) (p f : ℕ) : Type 0 where
   got : List Row
   there : readAll (rows s p) f (start formulaHeader) ≡ good got
   long : length got ≡ f
   uses-are : (i : ℕ) → getD counts i 0 ≡ uses i got
 
 rows-got : (c : tie.After-enum-told2) → let r = c .before .before .before in let k = r .before .before in let a = entered k .args in
-    Rows (now (a .s)) (r .all-rows .last .1 .1 .1 .0) (a .p) (k .before .head .given .0 .0)
+    Got (now (a .s)) (r .all-rows .last .1 .1 .1 .0) (a .p) (k .before .head .given .0 .0)
 rows-got c =
     let r = c .before .before .before in
-    let k = r .before .before in
-    let a = entered k .args in
-    let told = c .enum-told2 .given .1 in
-    let long = sym (header-good _ _ (head-good k) .long) in
-    let ran = run-good _ _ _ _ (step-next (all-read k) (by {b = step (all-read k)} (r .all-rows .ensures .0 _ long) told)) in
-    let hold = rows-hold (now (a .s)) (a .p) (k .before .head .given .0 .0) (start formulaHeader) (ran .got) (omega (arith, header-good _ _ (head-good k))) (ran .there) in
-    record { got = ran .got; there = ran .there; long = all-length _ _ _ _ (ran .there); uses-are = λ i. rw (hold .items-are) (r .all-rows .ensures .1 _ long _ told i) }
+    let read = checked-formula _ (by (r .all-rows .ensures .0) (c .enum-told2 .given .1)) in
+    record { got = read .rows; there = read .read; long = all-length _ _ _ _ (read .read); uses-are = r .all-rows .ensures .1 _ (read .read) }
+
+-- or the fault of the first that has one
+rows-refused : (c : tie.After-enum-told3) → let r = c .before .before .before in let k = r .before .before in let a = entered k .args in
+    readAll (rows (now (a .s)) (a .p)) (k .before .head .given .0 .0) (start formulaHeader) ≡ bad (c .enum-told3 .given .0 .0)
+rows-refused c = checked-refused _ (by (c .before .before .before .all-rows .ensures .0) (c .enum-told3 .given .1))
 
 returns : tie.Need-returns
 unfolding readFormula checked
@@ -86,21 +78,19 @@ slice-aggregate-all-rows : tie.Need-slice-aggregate-all-rows
 slice-aggregate-all-rows c = search needs
 
 all-rows-requires : tie.Need-all-rows-requires
-all-rows-requires c κs = let h = header-good _ _ (head-good (c .before)) in ((omega (arith, h .long), omega (arith, h .long, h .f-counted .no-more)), (refl, none-counted 64))
+all-rows-requires c κs = let h = header-good _ _ (head-good (c .before)) in ((h .long, h .f-counted .no-more), (refl, none-counted 64))
 
-enum-known-e : tie.Need-enum-known-e
-enum-known-e c = search needs
+enum-told-2 : tie.Need-enum-told-2
+enum-told-2 c = search needs
+
+enum-told-3 : tie.Need-enum-told-3
+enum-told-3 c = search needs
 
 returns-3 : tie.Need-returns-3
 unfolding readFormula checked
 returns-3 c =
-    let r = c .before .before .before .before in
-    let k = r .before .before in
-    let refused = step-refused (all-read k) (by {b = step (all-read k)} (r .all-rows .ensures .0 _ (sym (header-good _ _ (head-good k) .long))) (c .before .e .given .1)) in
-    simp (reading, le-leb _ _ (k .before .before .before .before .if1 .left), head-good k, run-bad _ _ _ _ refused)
-
-enum-told-2 : tie.Need-enum-told-2
-enum-told-2 c = search needs
+    let k = c .before .before .before .before .before in
+    c .enum-told3 .given .1 ∙ simp (reading, le-leb _ _ (k .before .before .before .before .if1 .left), head-good k, rows-refused c)
 
 slice-aggregate-used-once : tie.Need-slice-aggregate-used-once
 slice-aggregate-used-once c = search needs
@@ -141,9 +131,9 @@ check-spec =
     returns-2
     slice-aggregate-all-rows
     all-rows-requires
-    enum-known-e
-    returns-3
     enum-told-2
+    enum-told-3
+    returns-3
     slice-aggregate-used-once
     used-once-requires
     returns-4

@@ -7,8 +7,7 @@ use Rattle.lists.proofs.Tests.{by}
 use Rattle.wire.specs.Counts.{readCount}
 use Rattle.wire.specs.Read.{good}
 use Rattle.wire.specs.Start.{readStart}
-use Rattle.wire.proofs.Counts.{counted-good, counted-refused}
-use Rattle.wire.proofs.Reading.{reading}
+use Rattle.wire.proofs.Reading.{reading, found-good, handed}
 use Rattle.wire.proofs.Start.{opened-good, opened-refused}
 use Rattle.formula.specs.Format.{formulaHead, rowsCount}
 use Rattle.formula.specs.Message.{readHeader}
@@ -24,8 +23,8 @@ start c = c .before .before .before .before .before .before .before .before
 opened : (c : tie.After-enum-told) → readStart (now (c .before .before .before .before .args .s)) formulaHead ≡ good tt
 opened c = opened-good _ (by (c .before .before .«open» .ensures) (c .enum-told .given .1))
 
-f-read : (c : tie.After-known-told2) → readCount (now (start c .args .s)) rowsCount ≡ good (c .before .f .given .0 .0)
-f-read c = counted-good _ (by (c .before .before .before .read-count .ensures) (c .before .f .given .1))
+f-read : (c : tie.After-known-told2) → readCount (now (start c .args .s)) rowsCount ≡ good (c .before .count .given .0 .0)
+f-read c = found-good _ (by (c .before .before .before .read-count .ensures) (c .before .count .given .1))
 
 open-requires : tie.Need-open-requires
 open-requires c κs = search needs
@@ -43,15 +42,20 @@ enum-told c = search needs
 read-count-requires : tie.Need-read-count-requires
 read-count-requires c κs = search needs
 
-enum-known-f : tie.Need-enum-known-f
-enum-known-f c = search needs
+enum-known-count : tie.Need-enum-known-count
+enum-known-count c = search needs
 
-enum-known-e-2 : tie.Need-enum-known-e-2
-enum-known-e-2 c = search needs
+enum-told-2 : tie.Need-enum-told-2
+enum-told-2 c = search needs
+
+fault-requires : tie.Need-fault-requires
+fault-requires c κs = search needs
 
 returns-2 : tie.Need-returns-2
 unfolding readHeader counted
-returns-2 c = simp (reading, opened (c .before .before .before .before), counted-refused _ (by (c .before .before .before .read-count .ensures) (c .before .e2 .given .1)))
+returns-2 c =
+    let r = c .before .before .before in
+    simp (c .fault .ensures, reading, opened (r .before), handed _ (r .read-count .ensures) (c .before .enum-told2 .given .1))
 
 cast-if1 : tie.Need-cast-if1
 cast-if1 c = search needs
@@ -79,8 +83,9 @@ header-spec =
     returns
     enum-told
     read-count-requires
-    enum-known-f
-    enum-known-e-2
+    enum-known-count
+    enum-told-2
+    fault-requires
     returns-2
     cast-if1
     mul-if1
