@@ -89,6 +89,18 @@ static void search(uint32_t root)
     printf("search from %" PRIu32 ": %u, verdict %u, count %" PRIu64 ", words %016" PRIx64 "\n", root, number, verdict, taken, sum);
 }
 
+/* What the writer writes of the graph, in rooms that are longer, and what the checker says of it: with the two messages in each other's
+ * place it would refuse the claims as a graph. */
+static void claims(size_t room, size_t lent)
+{
+    lend();
+    unsigned number = otzarvim_claims_write(graph, sizeof graph, bytes, room, values, lent);
+    printf("claims in %zu and %zu: %u,", room, lent, number);
+    sums();
+    number = otzarvim_claims_check(graph, sizeof graph, bytes, 48, &verdict);
+    printf("claims checked: %u, verdict %u\n", number, verdict);
+}
+
 int main(void)
 {
     lend();
@@ -108,6 +120,7 @@ int main(void)
         sums();
     }
     search(0), search(1), search(3);
+    claims(47, 24), claims(50, 23), claims(49, 25);
     lend();
     number = otzarvim_formula_text(formula, sizeof formula, 2, bytes, 100, &length);
     printf("text: %u, length %zu,", number, length);

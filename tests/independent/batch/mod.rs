@@ -1,5 +1,6 @@
 //! Batches of calls: a systematic part that is always the same, then calls made from a seed.
 
+pub mod claims;
 mod damage;
 pub mod ends;
 mod formulas;
@@ -25,6 +26,7 @@ pub fn systematic() -> Vec<Call> {
         formulas::calls(),
         verdicts::calls(),
         searches::calls(),
+        claims::calls(),
     ];
     let mut calls: Vec<Call> = parts.into_iter().flatten().collect();
     let mut seen = BTreeSet::new();
