@@ -165,11 +165,17 @@ fn judged_verdict(judged: Judged) -> u8
 
 // Checks claims about the graph of a message; gives the verdict's number.
 #[no_mangle]
-pub extern "C" fn otzarvim_claims_check(message: &[u8], claims: &[u8], verdict: &mut u8) -> u8
-    ensures { λ r. ⌜ JudgedBy (now (message .entry)) (now (claims .entry)) r (now (verdict .exit)) ⌝ }
+pub extern "C" fn otzarvim_claims_check(
+    message: &[u8],
+    claims: &[u8],
+    verdict: &mut u8,
+    offset: &mut usize,
+) -> u8
+    ensures { λ r. ⌜ JudgedBy (now (message .entry)) (now (claims .entry)) r (now (verdict .exit)) (now (offset .exit)) ⌝ }
 {
     let judged = claims::check(message, claims);
     *verdict = judged_verdict(judged);
+    *offset = judged.offset();
     judged.number()
 }
 
@@ -179,10 +185,13 @@ pub extern "C" fn otzarvim_claims_write(
     message: &[u8],
     claims: &mut [u8],
     words: &mut [u64],
+    offset: &mut usize,
 ) -> u8
-    ensures { λ r. ⌜ WrittenBy (now (message .entry)) (now (claims .entry)) (now (words .entry)) (now (claims .exit)) (now (words .exit)) r ⌝ }
+    ensures { λ r. ⌜ WrittenBy (now (message .entry)) (now (claims .entry)) (now (words .entry)) (now (claims .exit)) (now (words .exit)) r
+        (now (offset .exit)) ⌝ }
 {
     let written = claims::write(message, claims, words);
+    *offset = written.offset();
     written.number()
 }
 

@@ -310,7 +310,7 @@ pub fn claims(body: &[u8]) -> Line
         return Line::new();
     }
     let judged = claims::check(graph, claimed);
-    judged_word(Line::new().byte(b'C').number(judged.number() as u64), judged)
+    judged_word(checked_line(b'C', judged.number(), judged.offset()), judged)
 }
 
 // A field: a space, and the word for a checker's verdict.
@@ -359,9 +359,7 @@ fn certify_in(message: &[u8], room: &mut [u8], words: &mut [u64]) -> Line
     let lent = sums::of_values(words);
     match written {
         claims::Written::Claims => certified_line(message, room, words, lent),
-        claims::Written::Refused(e) => Line::new()
-            .byte(b'W')
-            .number(e.number() as u64)
+        claims::Written::Refused(e) => checked_line(b'W', e.number(), e.offset)
             .text(b" none")
             .sum(1)
             .sum(sums::of_bytes(room))
@@ -388,7 +386,7 @@ fn certified_line(message: &[u8], room: &[u8], words: &mut [u64], lent: u32) -> 
     let judged = claims::check(message, &room[..long]);
     rooms::gather(room, &mut words[..n]);
     let values = sums::of_values(&words[..n]);
-    judged_word(Line::new().byte(b'W').number(0), judged)
+    judged_word(checked_line(b'W', 0, 0), judged)
         .sum(values)
         .sum(sums::of_bytes(&room[long..]))
         .sum(lent)
