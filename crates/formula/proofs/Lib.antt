@@ -10,6 +10,7 @@
 --     Exact      accepted messages are exactly the writings of well-formed rows
 --     Sums       sums over a list and over a range of numbers
 --     Trees      the rows are a tree: the formula of a row, the size of the root, the rows that it reaches
+--     Located    a fault is of no field, or of one that starts inside the message
 --     One        one answer of each public function
 pub mod Spelt
 pub mod Judging
@@ -22,4 +23,5 @@ pub mod Answered
 pub mod Exact
 pub mod Sums
 pub mod Trees
+pub mod Located
 pub mod One

@@ -1,4 +1,4 @@
--- Definitions: formulas and rows, their messages, which are well-formed, and the answer of the check.
+-- Definitions: formulas and rows, their messages, which are well-formed, the answer of the check, and where a fault is.
 pub mod Formula
 pub mod Rows
 pub mod Format
@@ -7,3 +7,4 @@ pub mod Write
 pub mod WellFormed
 pub mod Answers
 pub mod Layouts
+pub mod Located

@@ -50,6 +50,17 @@ pub const BOUND_AT: usize = ZERO_AT + 1;
 
 pub const ROW: usize = BOUND_AT + 4;
 
+// Faults of no field: a p handed in that is too large, and rows that aren't operands exactly once.
+const TOO_LARGE: Fault = Fault {
+    refusal: Refusal::Limit,
+    offset: 0,
+};
+
+const MISUSED: Fault = Fault {
+    refusal: Refusal::Form,
+    offset: 0,
+};
+
 // On some run, or on every run; some transition, or every transition.
 pub enum Quantifier {
     Some,
@@ -125,7 +136,7 @@ fn row_of(operator: u32, left: u32, right: u32, bound: u32) -> Row
 
 // A field that the operator doesn't use, of a row that stands here in its message: it must be zero, or it is FORM.
 fn unused(row: &[u8], offset: usize, at: usize, width: Width) -> Field
-    requires { ⌜ offset + at < 2 ^ 64 ⌝ }
+    requires { ⌜ (offset + rowWidth < 2 ^ 64) × (at < rowWidth) ⌝ }
     ensures { λ r. ⌜ r ≡ found (below (widthOf width) (now (row .entry)) at 1 (m.illFormed (offset + at))) ⌝ }
 {
     let form = Fault {
@@ -136,15 +147,15 @@ fn unused(row: &[u8], offset: usize, at: usize, width: Width) -> Field
 }
 
 // A field that names one of so many propositions or earlier rows, or it is NAME.
-fn named(row: &[u8], offset: usize, at: usize, limit: u32) -> Field
-    requires { ⌜ offset + at < 2 ^ 64 ⌝ }
-    ensures { λ r. ⌜ r ≡ found (below 1 (now (row .entry)) at limit (misnamed (offset + at))) ⌝ }
+fn named(row: &[u8], offset: usize, field: usize, limit: u32) -> Field
+    requires { ⌜ (offset + rowWidth < 2 ^ 64) × (field < rowWidth) ⌝ }
+    ensures { λ r. ⌜ r ≡ found (below 1 (now (row .entry)) field limit (misnamed (offset + field))) ⌝ }
 {
     let name = Fault {
         refusal: Refusal::Name,
-        offset: offset + at,
+        offset: offset + field,
     };
-    wire::read_below(row, at, Width::One, limit as u64, name)
+    wire::read_below(row, field, Width::One, limit as u64, name)
 }
 
 // Each kind of operator reads first the fields that it doesn't use, then the others: so the compiler has a branch for each kind.
@@ -413,10 +424,7 @@ pub fn check(s: &[u8], p: u32) -> Checked
     ensures { λ r. ⌜ r ≡ answers.checked (m.readFormula p (now (s .entry))) ⌝ }
 {
     if 32 < p {
-        return Checked::Refused(Fault {
-            refusal: Refusal::Limit,
-            offset: 0,
-        });
+        return Checked::Refused(TOO_LARGE);
     }
     let head = header(s);
     let Checked::Formula(f) = head else {
@@ -428,10 +436,7 @@ pub fn check(s: &[u8], p: u32) -> Checked
         return all;
     };
     if !used_once(&counts, f) {
-        return Checked::Refused(Fault {
-            refusal: Refusal::Form,
-            offset: 0,
-        });
+        return Checked::Refused(MISUSED);
     }
     head
 }

@@ -1,12 +1,12 @@
 -- `formula::read_next` meets its contract: each `return` is the reading of the fields under those that were read before.
-use Prim.Native.Nat.{_+_}
+use Prim.Native.Nat.{ℕ, _+_}
 use mathlib.Core.Bool.{true, false}
 use mathlib.Core.Path.{_≡_, _∙_}
 use native.Mathlib.Omega.{arith}
 use denote.Ref.{now}
 use borrow.Author.Needs.{needs}
 use Rattle.lists.proofs.Tests.{by}
-use Rattle.wire.specs.Read.{good, below, misnamed, field}
+use Rattle.wire.specs.Read.{Read, good, below, misnamed, field}
 use Rattle.wire.proofs.Reading.{reading, found-good, handed, field-found}
 use Rattle.formula.specs.Answers.{judged}
 use Rattle.formula.specs.Format.{leftAt, rightAt, zeroAt, boundAt}
@@ -16,7 +16,7 @@ use Rattle.formula.proofs.Using.{Uses, next-uses}
 use Rattle.formula.proofs.read_next.Statement.{statement}
 use Rattle.formula.proofs.read_next.Tie as tie
 
--- the places: where the function starts, and each field that was read
+-- the places: where the function starts, seen from its first field, and from each other field the one before it
 abbrev start : tie.After-unused → tie.Start
 start c = c .before .before
 
@@ -33,18 +33,30 @@ fourth c = c .before .before .before .before
 uses : (c : tie.After-unused) → Uses (start c .args .operator) true false true false
 uses c = next-uses _ (start c .pre .1) (start c .pre .2)
 
--- the fields that were read
-right-zero : (c : tie.After-enum-told) → let a = start (c .before .before) .args in below 1 (now (a .row)) rightAt 1 (illFormed (a .offset + rightAt)) ≡ good (c .enum-told .given .0 .0)
-right-zero c = found-good _ (by (c .before .before .unused .ensures) (c .enum-told .given .1))
+-- the reading of each field, and that it is good
+abbrev right-read : tie.After-unused → Read ℕ
+right-read c = let a = start c .args in below 1 (now (a .row)) rightAt 1 (illFormed (a .offset + rightAt))
 
-zero-zero : (c : tie.After-enum-told3) → let a = start (second (c .before .before)) .args in below 1 (now (a .row)) zeroAt 1 (illFormed (a .offset + zeroAt)) ≡ good (c .enum-told3 .given .0 .0)
-zero-zero c = found-good _ (by (c .before .before .unused2 .ensures) (c .enum-told3 .given .1))
+right-zero : (c : tie.After-enum-told) → right-read (c .before .before) ≡ good (c .enum-told .given .0 .0)
+right-zero c = found-good (right-read (c .before .before)) (by (c .before .before .unused .ensures) (c .enum-told .given .1))
 
-left-named : (c : tie.After-known-told) → let a = start (second (third (c .before .before .before))) .args in below 1 (now (a .row)) leftAt (a .place) (misnamed (a .offset + leftAt)) ≡ good (c .before .first .given .0 .0)
-left-named c = found-good _ (by (c .before .before .before .named .ensures) (c .before .first .given .1))
+abbrev zero-read : tie.After-unused2 → Read ℕ
+zero-read c = let a = start (second c) .args in below 1 (now (a .row)) zeroAt 1 (illFormed (a .offset + zeroAt))
 
-bound-there : (c : tie.After-known-told2) → let a = start (second (third (fourth (c .before .before .before)))) .args in field 4 (now (a .row)) boundAt ≡ good (c .before .last .given .0 .0)
-bound-there c = found-good _ (by (c .before .before .before .read .ensures ∙ field-found _) (c .before .last .given .1))
+zero-zero : (c : tie.After-enum-told3) → zero-read (c .before .before) ≡ good (c .enum-told3 .given .0 .0)
+zero-zero c = found-good (zero-read (c .before .before)) (by (c .before .before .unused2 .ensures) (c .enum-told3 .given .1))
+
+abbrev left-read : tie.After-named → Read ℕ
+left-read c = let a = start (second (third c)) .args in below 1 (now (a .row)) leftAt (a .place) (misnamed (a .offset + leftAt))
+
+left-named : (c : tie.After-known-told) → left-read (c .before .before .before) ≡ good (c .before .first .given .0 .0)
+left-named c = found-good (left-read (c .before .before .before)) (by (c .before .before .before .named .ensures) (c .before .first .given .1))
+
+abbrev bound-read : tie.After-read → Read ℕ
+bound-read c = let a = start (second (third (fourth c))) .args in field 4 (now (a .row)) boundAt
+
+bound-there : (c : tie.After-known-told2) → bound-read (c .before .before .before) ≡ good (c .before .last .given .0 .0)
+bound-there c = found-good (bound-read (c .before .before .before)) (by (c .before .before .before .read .ensures ∙ field-found _) (c .before .last .given .1))
 
 unused-requires : tie.Need-unused-requires
 unused-requires c κs = search needs
@@ -63,7 +75,7 @@ unfolding fieldsFrom spare operand judged
 returns c =
     let r1 = c .before .before .before in
     let u = uses r1 in
-    λ p. simp (c .fault .ensures, u .of-left, u .of-right, u .of-bound, u .names, reading, handed _ (r1 .unused .ensures) (c .before .enum-told2 .given .1))
+    λ p. simp (c .fault .ensures, u .of-left, u .of-right, u .of-bound, u .names, reading, handed (right-read r1) (r1 .unused .ensures) (c .before .enum-told2 .given .1))
 
 unused-requires-2 : tie.Need-unused-requires-2
 unused-requires-2 c κs = search needs
@@ -83,7 +95,7 @@ returns-2 c =
     let r2 = c .before .before .before in
     let r1 = second r2 in
     let u = uses r1 in
-    λ p. simp (c .fault2 .ensures, u .of-left, u .of-right, u .of-bound, u .names, reading, right-zero (r2 .before), handed _ (r2 .unused2 .ensures) (c .before .enum-told4 .given .1))
+    λ p. simp (c .fault2 .ensures, u .of-left, u .of-right, u .of-bound, u .names, reading, right-zero (r2 .before), handed (zero-read r2) (r2 .unused2 .ensures) (c .before .enum-told4 .given .1))
 
 named-requires : tie.Need-named-requires
 named-requires c κs = search needs
@@ -104,7 +116,7 @@ returns-3 c =
     let r2 = third r3 in
     let r1 = second r2 in
     let u = uses r1 in
-    λ p. simp (c .fault3 .ensures, u .of-left, u .of-right, u .of-bound, u .names, reading, right-zero (r2 .before), zero-zero (r3 .before), handed _ (r3 .named .ensures) (c .before .enum-told5 .given .1))
+    λ p. simp (c .fault3 .ensures, u .of-left, u .of-right, u .of-bound, u .names, reading, right-zero (r2 .before), zero-zero (r3 .before), handed (left-read r3) (r3 .named .ensures) (c .before .enum-told5 .given .1))
 
 read-requires : tie.Need-read-requires
 read-requires c κs = search needs
@@ -126,7 +138,7 @@ returns-4 c =
     let r2 = third r3 in
     let r1 = second r2 in
     let u = uses r1 in
-    λ p. simp (c .fault4 .ensures, u .of-left, u .of-right, u .of-bound, u .names, reading, right-zero (r2 .before), zero-zero (r3 .before), left-named (r4 .before), handed _ (r4 .read .ensures ∙ field-found _) (c .before .enum-told6 .given .1))
+    λ p. simp (c .fault4 .ensures, u .of-left, u .of-right, u .of-bound, u .names, reading, right-zero (r2 .before), zero-zero (r3 .before), left-named (r4 .before), handed (bound-read r4) (r4 .read .ensures ∙ field-found _) (c .before .enum-told6 .given .1))
 
 coded-requires : tie.Need-coded-requires
 coded-requires c κs = search needs
