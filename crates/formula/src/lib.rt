@@ -98,10 +98,7 @@ impl Checked {
     {
         match self {
             Checked::Formula(_) => 0,
-            Checked::Refused(e) => {
-                let refusal = e.refusal;
-                refusal.number()
-            }
+            Checked::Refused(e) => e.number(),
         }
     }
 
