@@ -3,7 +3,7 @@
 use mathlib.Core.Path.{_≡_, sym, ap, _∙_}
 use denote.Ref.{now}
 use Rattle.graph.specs.Message.{readGraph}
-use Rattle.claims.specs.Answers.{judgedNumber, writtenNumber}
+use Rattle.claims.specs.Answers.{judgedNumber, writtenNumber, readClaims}
 use Rattle.claims.proofs.One.{judges-one, SameClaims, writes-one}
 use Rattle.export.specs.Claimed.{judgedVerdict}
 use Rattle.export.proofs.otzarvim_graph_check.Reads as graph-check
@@ -47,7 +47,7 @@ one-search κs a r r′ s s′ p q = (p .0 ∙ sym (q .0), p .1 .0 ∙ sym (q .1
 pub one-claims-check : (κs : _) (a : _) (r r′ : _) (s s′ : _) → claims-check.Post κs a r s → claims-check.Post κs a r′ s′
     → (r ≡ r′) × (now (s .1 .1 .0) ≡ now (s′ .1 .1 .0))
 one-claims-check κs a r r′ s s′ p q =
-    let e = judges-one _ _ (p .answer) (q .answer) (p .judges) (q .judges) in
+    let e = judges-one (readClaims (now (a .0)) (now (a .1 .0))) (now (a .1 .0)) (p .answer) (q .answer) (p .judges) (q .judges) in
     (p .number-is ∙ ap judgedNumber e ∙ sym (q .number-is), p .verdict-is ∙ ap judgedVerdict e ∙ sym (q .verdict-is))
 
 -- `export::otzarvim_claims_write`: the answer, the claims but for the choice of ranks, and the words

@@ -16,7 +16,9 @@ same-length-2 : tie.Need-same-length-2
 same-length-2 c = search needs
 
 returns : tie.Need-returns
-returns c = ?
+returns c =
+    let w = c .before .before .before .before .before in
+    record { answer = w .write .result; writes = w .write .ensures .0; promise = w .write .ensures .1; number-is = c .number .ensures }
 
 pub otzarvim-claims-write-spec : {M : Type 1} → statement M
 otzarvim-claims-write-spec = tie.close (tie.spec write-requires number-requires same-length same-length-2 returns)
