@@ -141,11 +141,7 @@ pub extern "C" fn otzarvim_claims_check(message: &[u8], claims: &[u8], verdict: 
 
 // Writes claims about the graph of a message that the checker accepts.
 #[no_mangle]
-pub extern "C" fn otzarvim_claims_write(
-    message: &[u8],
-    claims: &mut [u8],
-    words: &mut [u64],
-) -> u8
+pub extern "C" fn otzarvim_claims_write(message: &[u8], claims: &mut [u8], words: &mut [u64]) -> u8
     ensures { λ r. ⌜ WrittenBy (now (message .entry)) (now (claims .entry)) (now (words .entry)) (now (claims .exit)) (now (words .exit)) r ⌝ }
 {
     let written = claims::write(message, claims, words);

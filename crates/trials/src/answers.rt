@@ -304,7 +304,10 @@ pub fn claims(body: &[u8]) -> Line
         return Line::new();
     }
     let judged = claims::check(graph, claimed);
-    judged_word(Line::new().byte(b'C').number(judged.number() as u64), judged)
+    judged_word(
+        Line::new().byte(b'C').number(judged.number() as u64),
+        judged,
+    )
 }
 
 // A field: a space, and the word for a checker's verdict.
