@@ -132,18 +132,31 @@ static void build(void)
     sums();
 }
 
+/* What the writer writes of the graph, in rooms that are longer, and what the checker says of it: with the two messages in each other's
+ * place it would refuse the claims as a graph. */
+static void claims(size_t room, size_t lent)
+{
+    lend();
+    unsigned number = otzarvim_claims_write(graph, sizeof graph, bytes, room, values, lent, &offset);
+    printf("claims in %zu and %zu: %u at %zu,", room, lent, number, offset);
+    sums();
+    number = otzarvim_claims_check(graph, sizeof graph, bytes, 48, &verdict, &offset);
+    printf("claims checked: %u at %zu, verdict %u\n", number, offset, verdict);
+}
+
 int main(void)
 {
     checks();
     rounds(1), rounds(9);
     search(0), search(1), search(3);
+    claims(47, 24), claims(50, 23), claims(49, 25);
     text(), build();
     decide(0, 9), decide(2, 9), decide(1, 2), decide(2, 1), decide(9, 4);
     settle(9), settle(2);
 
     /* A wrong field of each message: a name of each graph, the last row's zero, and then the third transition's start. */
     graph[sizeof graph - 1] = 3, plain[23] = 3, formula[26] = 1;
-    checks(), rounds(9), search(0), text(), build(), decide(0, 9), settle(9);
+    checks(), rounds(9), search(0), claims(49, 25), text(), build(), decide(0, 9), settle(9);
     model[42] = 3;
     checks(), build(), decide(0, 9), settle(9);
     return 0;

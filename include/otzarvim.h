@@ -6,7 +6,7 @@
  * Every function is proved, and asks nothing of what it is handed but that each pointer and its length
  * name memory that is really there. Any bytes are safe: a message that is not well-formed is refused,
  * and the number says what the first fault is, the offset where it is. No function keeps anything between calls, allocates, or
- * writes anywhere but into what it is lent; 16 KiB of stack suffice (measured, on x86-64); two threads may call at once.
+ * writes anywhere but into what it is lent; 32 KiB of stack suffice (on x86-64); two threads may call at once.
  * Memory that is lent to be written must not overlap anything else that the same call is lent. Where a
  * length is 0, its pointer is not used and may be null.
  *
@@ -59,6 +59,9 @@ enum {
 
 /* The bound, in a message, that means no bound. */
 #define OTZARVIM_NO_BOUND UINT32_MAX
+
+/* How many bytes the claim of a node has: its value (8), then its rank (8). */
+#define OTZARVIM_CLAIM 16
 
 /* The limits on counts. */
 enum {
@@ -153,6 +156,41 @@ uint8_t otzarvim_rounds_solve(const uint8_t *message, size_t message_length, uin
  */
 uint8_t otzarvim_search(const uint8_t *message, size_t message_length, uint32_t root, uint32_t *words,
                         size_t words_length, uint8_t *verdict, uint64_t *count, size_t *offset);
+
+/*
+ * Checks claims about a graph: accepts them exactly when they obey the graph's rules and each finite node has a support,
+ * a hyperedge of it that gives exactly its value or a cover edge of it that holds, all of whose targets have a smaller
+ * rank. What it accepts is the settled values, on every graph.
+ *
+ *   message, message_length   the bytes of a graph message of n nodes; only read
+ *   claims, claims_length     OTZARVIM_CLAIM bytes for each node, node 0 first: its value (8 bytes, infinity as stored), then
+ *                             its rank (8 bytes), big-endian; only read. Any other length than 16n is LENGTH
+ *   verdict                   gets 0 for none, 1 for accepted, 2 for not accepted
+ *   offset                    as for otzarvim_graph_check; 0 for LENGTH of the claims
+ *
+ * A claimed value near 2^64 is a number like any other: no sum wraps, and none is taken for infinity.
+ *
+ * Returns OK, what otzarvim_graph_check returns of the message, LENGTH of the claims: in this order.
+ */
+uint8_t otzarvim_claims_check(const uint8_t *message, size_t message_length, const uint8_t *claims,
+                              size_t claims_length, uint8_t *verdict, size_t *offset);
+
+/*
+ * Writes claims about a graph that otzarvim_claims_check accepts: its settled values, and ranks. It takes a graph where no
+ * cycle passes through a cover edge; a graph built from a model and a formula is of that kind.
+ *
+ *   message, message_length   the bytes of a graph message of n nodes; only read
+ *   claims, claims_length     so many bytes; below 16n is ROOM
+ *   words, words_length       so many numbers; below 8n is ROOM
+ *   offset                    as for otzarvim_graph_check; 0 for PROFILE and ROOM
+ *
+ * With OK the first 16n bytes are the claims, the first 8n numbers are 0, and the rest of both stays. Any ranks that are
+ * accepted may be written.
+ *
+ * Returns OK, what otzarvim_graph_check returns of the message, PROFILE, ROOM: in this order.
+ */
+uint8_t otzarvim_claims_write(const uint8_t *message, size_t message_length, uint8_t *claims, size_t claims_length,
+                              uint64_t *words, size_t words_length, size_t *offset);
 
 /*
  * Writes the text of a formula message whose propositions must be below p, as E[p0 U<=2 p1].

@@ -1,6 +1,7 @@
 //! The batch format of the program `trials` and the line expected for each call.
 
 use crate::bytes;
+use crate::claims;
 use crate::message;
 use crate::refusal::{Fault, Number, CALL};
 use crate::search;
@@ -14,12 +15,12 @@ pub struct Call {
     pub messages: Vec<Vec<u8>>,
 }
 
-pub const LETTERS: &str = "GMFTRVS";
+pub const LETTERS: &str = "GMFTRVSCW";
 
-/// "a message of at most 65,536 bytes, byte rooms of at most 65,536, value rooms of at most 8,192
-/// numbers, word rooms of at most 262,144 words"
+/// "a message of at most 65,536 bytes, byte rooms of at most 65,536, value rooms of at most
+/// 32,768 numbers, word rooms of at most 262,144 words"
 pub const MOST_BYTES: usize = 65_536;
-pub const MOST_VALUES: usize = 8_192;
+pub const MOST_VALUES: usize = 32_768;
 pub const MOST_WORDS: usize = 262_144;
 
 /// How many numbers and messages follow a letter.
@@ -27,7 +28,8 @@ fn shape(letter: u8) -> Option<(usize, usize)> {
     match letter {
         b'G' | b'M' => Some((0, 1)),
         b'F' => Some((1, 1)),
-        b'T' | b'R' | b'S' => Some((2, 1)),
+        b'T' | b'R' | b'S' | b'W' => Some((2, 1)),
+        b'C' => Some((0, 2)),
         b'V' => Some((4, 2)),
         _ => None,
     }
@@ -77,6 +79,14 @@ impl Call {
         Call::new(b'S', &[root, room as u32], &[message])
     }
 
+    pub fn claims(message: &[u8], claims: &[u8]) -> Call {
+        Call::new(b'C', &[], &[message, claims])
+    }
+
+    pub fn certify(room: usize, words: usize, message: &[u8]) -> Call {
+        Call::new(b'W', &[room as u32, words as u32], &[message])
+    }
+
     /// "A call is a letter (1 byte), the size of what follows (4 bytes), and that many bytes: first
     /// the call's numbers, 4 bytes each, then its messages, each a 4-byte length and the bytes."
     pub fn write(&self, out: &mut Vec<u8>) {
@@ -97,13 +107,14 @@ impl Call {
         match self.letter {
             b'T' => self.numbers[1] as usize,
             b'V' => self.numbers[2] as usize,
+            b'W' => self.numbers[0] as usize,
             _ => 0,
         }
     }
 
     fn value_room(&self) -> usize {
         match self.letter {
-            b'R' => self.numbers[1] as usize,
+            b'R' | b'W' => self.numbers[1] as usize,
             b'V' => self.numbers[3] as usize,
             _ => 0,
         }
@@ -221,6 +232,8 @@ pub fn answer(call: &Call) -> Expected {
         b'T' => answer_text(call),
         b'R' => answer_rounds(call),
         b'S' => answer_search(call),
+        b'C' => answer_claims(call),
+        b'W' => answer_writer(call),
         _ => answer_verdict(call),
     };
     Expected {
@@ -307,6 +320,47 @@ fn answer_search(call: &Call) -> Line {
     let told = number_and_offset(fault);
     (
         format!("{told} {word} {taken} {}", sum_of_words(&room)),
+        fault,
+    )
+}
+
+fn answer_claims(call: &Call) -> Line {
+    let (fault, word) = match claims::check(&call.messages[0], &call.messages[1]) {
+        Ok(accepted) => (None, if accepted { "yes" } else { "no" }),
+        Err(fault) => (Some(fault), "none"),
+    };
+    (format!("{} {word}", number_and_offset(fault)), fault)
+}
+
+/// "the choice of ranks is free, so the claims themselves can't be compared": the checker's verdict on
+/// them, the sum of the claimed values, that of the rest of the room, and that of the words.
+fn answer_writer(call: &Call) -> Line {
+    let mut room = byte_room(call.byte_room());
+    let mut words = value_room(call.value_room());
+    let (fault, word, values, rest) = match claims::write(&call.messages[0], &mut room, &mut words)
+    {
+        Ok(graph) => {
+            let (claimed, rest) = room.split_at(claims::CLAIM * graph.nodes);
+            let accepted = claims::check(&call.messages[0], claimed) == Ok(true);
+            let values: Vec<u8> = claimed
+                .chunks(claims::CLAIM)
+                .flat_map(|claim| claim[..8].to_vec())
+                .collect();
+            (
+                None,
+                if accepted { "yes" } else { "no" },
+                sum(&values),
+                sum(rest),
+            )
+        }
+        Err(fault) => (Some(fault), "none", sum(&[]), sum(&room)),
+    };
+    let words = sum_of_values(&words);
+    (
+        format!(
+            "{} {word} {values} {rest} {words}",
+            number_and_offset(fault)
+        ),
         fault,
     )
 }

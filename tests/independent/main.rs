@@ -1,11 +1,12 @@
 //! The independent test program. It is written from document 01 and the requests of document 02 that
-//! have landed (requests 1, 2 and 4), and shares nothing with the crates: it makes batches of calls for
+//! have landed (requests 1, 2, 4 and 6), and shares nothing with the crates: it makes batches of calls for
 //! the program `trials` and inputs for the program `otzarvim`, and says what each must answer.
 
 mod answer;
 mod batch;
 mod build;
 mod bytes;
+mod claims;
 mod known;
 mod message;
 mod offsets;
@@ -25,7 +26,7 @@ use std::process::ExitCode;
 const USAGE: &str = "usage:
   independent make SEED CALLS OUT_STDIN OUT_STDOUT [LETTERS]
       writes a batch of CALLS calls and the lines that `trials` must answer. LETTERS are those of
-      the calls to use, GMFTRVS unless given; with a `?` among them, a call that ends the run is last
+      the calls to use, GMFTRVSCW unless given; with a `?` among them, a call that ends the run is last
   independent ends FOLDER
       writes batches that end in a call which is none, as N.stdin and N.stdout with N from 1
   independent program SEED CASES FOLDER

@@ -20,6 +20,7 @@ ENTRIES = {
     "model": ("check",),
     "formula": ("check",),
     "rounds": ("solve",),
+    "claims": ("check", "write"),
     "text": ("text",),
     "build": (),
     "verdict": ("decide", "settle", "graph", "nodes"),

@@ -40,6 +40,23 @@ mod foreign {
             count: *mut u64,
             offset: *mut usize,
         ) -> u8;
+        pub fn otzarvim_claims_check(
+            message: *const u8,
+            message_length: usize,
+            claims: *const u8,
+            claims_length: usize,
+            verdict: *mut u8,
+            offset: *mut usize,
+        ) -> u8;
+        pub fn otzarvim_claims_write(
+            message: *const u8,
+            message_length: usize,
+            claims: *mut u8,
+            claims_length: usize,
+            words: *mut u64,
+            words_length: usize,
+            offset: *mut usize,
+        ) -> u8;
         pub fn otzarvim_formula_text(
             message: *const u8,
             message_length: usize,
@@ -98,6 +115,12 @@ pub const INFINITE: u64 = u64::MAX;
 
 /// The bound, in a message, that means no bound.
 pub const NO_BOUND: u32 = u32::MAX;
+
+/// How many bytes the claim of a node has: its value (8), then its rank (8), big-endian.
+pub const CLAIM: usize = 16;
+
+/// How many words [`write_claims`] is lent for a node.
+pub const CLAIM_WORDS: usize = 8;
 
 /// So many bytes hold the text of any formula.
 pub const MOST_TEXT: usize = 2048;
@@ -519,6 +542,67 @@ pub fn settled(message: &[u8]) -> Result<Vec<Option<u64>>, Fault> {
     let mut room = vec![0; 2 * nodes];
     solve(message, graph.enough(), &mut room)?;
     Ok(room[..nodes].iter().map(|&stored| (stored != INFINITE).then_some(stored)).collect())
+}
+
+/// Checks claims about a graph message of n nodes: [`CLAIM`] bytes for each node, node 0 first. They are accepted exactly when they
+/// obey the graph's rules and each finite node has a support: a hyperedge of it that gives exactly its value, or a cover edge of it
+/// that holds, all of whose targets have a smaller rank. What is accepted is the settled values, on every graph.
+///
+/// ```
+/// use otzarvim::Refusal;
+///
+/// // One node with a hyperedge without targets, so of value 0.
+/// let graph = [0, 0, 0, 18, 1, 1, 0, 1, 0, 0, 0, 1, 0, 0, 0, 0, 0, 0];
+/// let mut claims = [0; 16];
+/// assert_eq!(otzarvim::check_claims(&graph, &claims), Ok(true));
+/// claims[7] = 1;
+/// assert_eq!(otzarvim::check_claims(&graph, &claims), Ok(false));
+/// assert_eq!(otzarvim::check_claims(&graph, &claims[1..]), Err(Refusal::Length.at(0)));
+/// ```
+pub fn check_claims(message: &[u8], claims: &[u8]) -> Result<bool, Fault> {
+    let (mut verdict, mut offset) = (0, 0);
+    // SAFETY: two slices, and numbers of its own. The function is proved to read and write only these.
+    let number = unsafe {
+        foreign::otzarvim_claims_check(message.as_ptr(), message.len(), claims.as_ptr(), claims.len(), &mut verdict, &mut offset)
+    };
+    match number {
+        0 => Ok(verdict == 1),
+        number => Err(Fault::of(number, offset)),
+    }
+}
+
+/// Writes claims about a graph message of n nodes where no cycle passes through a cover edge: its settled values, with ranks that
+/// [`check_claims`] accepts. The room must have [`CLAIM`] bytes and the words [`CLAIM_WORDS`] numbers for each node; those words are
+/// 0 afterwards, and the rest of both stays.
+///
+/// ```
+/// use otzarvim::Refusal;
+///
+/// let graph = [0, 0, 0, 18, 1, 1, 0, 1, 0, 0, 0, 1, 0, 0, 0, 0, 0, 0];
+/// let (mut claims, mut words) = ([7; 17], [7; 9]);
+/// assert_eq!(otzarvim::write_claims(&graph, &mut claims, &mut words[..7]), Err(Refusal::Room.at(0)));
+/// assert_eq!(otzarvim::write_claims(&graph, &mut claims, &mut words), Ok(()));
+/// assert_eq!(otzarvim::check_claims(&graph, &claims[..16]), Ok(true));
+/// assert_eq!((claims[16], words), (7, [0, 0, 0, 0, 0, 0, 0, 0, 7]));
+/// ```
+pub fn write_claims(message: &[u8], claims: &mut [u8], words: &mut [u64]) -> Result<(), Fault> {
+    let mut offset = 0;
+    // SAFETY: three slices, of which two are lent to this function alone, and a number of its own. The function is proved to read and write only these.
+    let number = unsafe {
+        foreign::otzarvim_claims_write(
+            message.as_ptr(),
+            message.len(),
+            claims.as_mut_ptr(),
+            claims.len(),
+            words.as_mut_ptr(),
+            words.len(),
+            &mut offset,
+        )
+    };
+    match number {
+        0 => Ok(()),
+        number => Err(Fault::of(number, offset)),
+    }
 }
 
 /// Writes the text of a formula message, whose propositions must be below a number of them, to the front of a room; [`MOST_TEXT`]

@@ -1,12 +1,18 @@
--- One answer and one content of every lent room: two calls with the same arguments that satisfy the contract of a public function agree.
+-- One answer and one content of every lent room, but for the ranks that are written: two calls with the same arguments that satisfy the contract of a public function agree.
 -- Here a are the arguments, r is the result, and s is what stands in each argument at the end, in the order of the parameters. Assumes nothing.
-use mathlib.Core.Path.{_≡_, sym, _∙_}
+use mathlib.Core.Path.{_≡_, sym, ap, _∙_}
 use denote.Ref.{now}
+use Rattle.graph.specs.Message.{readGraph}
+use Rattle.claims.specs.Answers.{judgedNumber, judgedOffset, writtenNumber, writtenOffset, readClaims}
+use Rattle.claims.proofs.One.{judges-one, SameClaims, writes-one}
+use Rattle.export.specs.Claimed.{judgedVerdict}
 use Rattle.export.proofs.otzarvim_graph_check.Reads as graph-check
 use Rattle.export.proofs.otzarvim_model_check.Reads as model-check
 use Rattle.export.proofs.otzarvim_formula_check.Reads as formula-check
 use Rattle.export.proofs.otzarvim_rounds_solve.Reads as rounds-solve
 use Rattle.export.proofs.otzarvim_search.Reads as search
+use Rattle.export.proofs.otzarvim_claims_check.Reads as claims-check
+use Rattle.export.proofs.otzarvim_claims_write.Reads as claims-write
 use Rattle.export.proofs.otzarvim_formula_text.Reads as formula-text
 use Rattle.export.proofs.otzarvim_verdict.Reads as verdict
 use Rattle.export.proofs.otzarvim_graph.Reads as graph
@@ -36,6 +42,20 @@ one-rounds-solve κs a r r′ s s′ p q = (p .0 ∙ sym (q .0), p .1 .0 ∙ sym
 pub one-search : (κs : _) (a : _) (r r′ : _) (s s′ : _) → search.Post κs a r s → search.Post κs a r′ s′
     → (r ≡ r′) × (now (s .1 .1 .0) ≡ now (s′ .1 .1 .0)) × (now (s .1 .1 .1 .0) ≡ now (s′ .1 .1 .1 .0)) × (now (s .1 .1 .1 .1 .0) ≡ now (s′ .1 .1 .1 .1 .0)) × (now (s .1 .1 .1 .1 .1 .0) ≡ now (s′ .1 .1 .1 .1 .1 .0))
 one-search κs a r r′ s s′ p q = (p .0 ∙ sym (q .0), p .1 .0 ∙ sym (q .1 .0), p .1 .1 .0 ∙ sym (q .1 .1 .0), p .1 .1 .1 .0 ∙ sym (q .1 .1 .1 .0), p .1 .1 .1 .1 .0 ∙ sym (q .1 .1 .1 .1 .0))
+
+-- `export::otzarvim_claims_check`: the answer and the verdict
+pub one-claims-check : (κs : _) (a : _) (r r′ : _) (s s′ : _) → claims-check.Post κs a r s → claims-check.Post κs a r′ s′
+    → (r ≡ r′) × (now (s .1 .1 .0) ≡ now (s′ .1 .1 .0)) × (now (s .1 .1 .1 .0) ≡ now (s′ .1 .1 .1 .0))
+one-claims-check κs a r r′ s s′ p q =
+    let e = judges-one (readClaims (now (a .0)) (now (a .1 .0))) (now (a .1 .0)) (p .answer) (q .answer) (p .judges) (q .judges) in
+    (p .number-is ∙ ap judgedNumber e ∙ sym (q .number-is), p .verdict-is ∙ ap judgedVerdict e ∙ sym (q .verdict-is), p .offset-is ∙ ap judgedOffset e ∙ sym (q .offset-is))
+
+-- `export::otzarvim_claims_write`: the answer, the claims but for the choice of ranks, and the words
+pub one-claims-write : (κs : _) (a : _) (r r′ : _) (s s′ : _) → (p : claims-write.Post κs a r s) → claims-write.Post κs a r′ s′
+    → (r ≡ r′) × SameClaims (readGraph (now (a .0))) (p .answer) (now (s .1 .0)) (now (s′ .1 .0)) × (now (s .1 .1 .0) ≡ now (s′ .1 .1 .0)) × (now (s .1 .1 .1 .0) ≡ now (s′ .1 .1 .1 .0))
+one-claims-write κs a r r′ s s′ p q =
+    let e = writes-one (readGraph (now (a .0))) (now (a .1 .0)) (now (a .1 .1 .0)) (p .answer) (q .answer) (now (s .1 .0)) (now (s .1 .1 .0)) (now (s′ .1 .0)) (now (s′ .1 .1 .0)) (p .writes) (q .writes) in
+    (p .number-is ∙ ap writtenNumber (e .0) ∙ sym (q .number-is), e .1, e .2, p .offset-is ∙ ap writtenOffset (e .0) ∙ sym (q .offset-is))
 
 -- `export::otzarvim_formula_text`: the answer, the room, the length and the offset
 pub one-formula-text : (κs : _) (a : _) (r r′ : _) (s s′ : _) → formula-text.Post κs a r s → formula-text.Post κs a r′ s′

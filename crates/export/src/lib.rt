@@ -17,6 +17,8 @@ ghost use Rattle.verdict.specs.Promise.{Promise, PromiseAll, PromiseGraph};
 ghost use Rattle.search.specs.Answer as search;
 ghost use Rattle.search.specs.Promise as found;
 ghost use Rattle.export.specs.Results.{graphCounts, modelCounts, formulaCount, verdictNumber, foundNumber, searched, askedOne, askedAll, statesLent};
+ghost use Rattle.export.specs.Claimed.{judgedVerdict, JudgedBy, WrittenBy};
+use claims::Judged;
 use verdict::AllStates;
 use verdict::Verdict;
 
@@ -148,6 +150,49 @@ pub extern "C" fn otzarvim_search(
     *count = answer.count();
     *offset = answer.offset();
     answer.number()
+}
+
+// The number of a checker's verdict on claims.
+fn judged_verdict(judged: Judged) -> u8
+    ensures { λ r. ⌜ r ≡ judgedVerdict judged ⌝ }
+{
+    match judged {
+        Judged::Refused(_) => 0,
+        Judged::Yes => 1,
+        Judged::No => 2,
+    }
+}
+
+// Checks claims about the graph of a message; gives the verdict's number.
+#[no_mangle]
+pub extern "C" fn otzarvim_claims_check(
+    message: &[u8],
+    claims: &[u8],
+    verdict: &mut u8,
+    offset: &mut usize,
+) -> u8
+    ensures { λ r. ⌜ JudgedBy (now (message .entry)) (now (claims .entry)) r (now (verdict .exit)) (now (offset .exit)) ⌝ }
+{
+    let judged = claims::check(message, claims);
+    *verdict = judged_verdict(judged);
+    *offset = judged.offset();
+    judged.number()
+}
+
+// Writes claims about the graph of a message that the checker accepts.
+#[no_mangle]
+pub extern "C" fn otzarvim_claims_write(
+    message: &[u8],
+    claims: &mut [u8],
+    words: &mut [u64],
+    offset: &mut usize,
+) -> u8
+    ensures { λ r. ⌜ WrittenBy (now (message .entry)) (now (claims .entry)) (now (words .entry)) (now (claims .exit)) (now (words .exit)) r
+        (now (offset .exit)) ⌝ }
+{
+    let written = claims::write(message, claims, words);
+    *offset = written.offset();
+    written.number()
 }
 
 // Writes the text of a formula message whose propositions are below p; gives its length.

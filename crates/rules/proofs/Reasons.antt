@@ -21,13 +21,15 @@ pub data Reason (g : Graph) (x : Assignment) (v k : ℕ) : Type 0 where
   by-hyper : (h : Hyper) → h ∈ g .hypers → h .source ≡ v → ((t : Target) → t ∈ h .targets → plus (t .weight) (x (t .node)) ≼ k) → Reason g x v k
 
 module _ (x : Assignment) where
-  worst-≼ : {k : ℕ} (ts : List Target) → ((t : Target) → t ∈ ts → plus (t .weight) (x (t .node)) ≼ k) → worst x ts ≼ k
+  -- a hyperedge's worst is at most k where each target is
+  pub worst-≼ : {k : ℕ} (ts : List Target) → ((t : Target) → t ∈ ts → plus (t .weight) (x (t .node)) ≼ k) → worst x ts ≼ k
   unfolding worst
   worst-≼ [] f = fin-≼ (omega arith)
   worst-≼ (t ∷ ts) f =
       greatest-≼ (plus (t .weight) (x (t .node))) (worst x ts) (f t (List·Memᴰ·head refl)) (worst-≼ ts (λ u m. f u (List·Memᴰ·tail m)))
 
-  ≼-worst : {k : ℕ} (ts : List Target) → worst x ts ≼ k → (t : Target) → t ∈ ts → plus (t .weight) (x (t .node)) ≼ k
+  -- and back
+  pub ≼-worst : {k : ℕ} (ts : List Target) → worst x ts ≼ k → (t : Target) → t ∈ ts → plus (t .weight) (x (t .node)) ≼ k
   unfolding worst
   ≼-worst [] p t m = absurd (List·Memᴰ·not-nil m)
   ≼-worst {k} (u ∷ ts) p t (List·Memᴰ·head e) =

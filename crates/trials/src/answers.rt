@@ -6,6 +6,7 @@ ghost use Rattle.trials.specs.Lines.{Sound};
 use crate::line::Line;
 use crate::rooms;
 use crate::sums;
+use claims::Judged;
 use rounds::Outcome;
 use text::Written;
 use verdict::Answer;
@@ -284,4 +285,123 @@ fn search_line(found: search::Answer, room: u32) -> Line
     search_word(line, found.verdict())
         .number(found.count())
         .sum(room)
+}
+
+// `C`: a graph, claims. The first message ends where its length says, and what is left is the second with its length.
+pub fn claims(body: &[u8]) -> Line
+    ensures { λ r. ⌜ Sound r ⌝ }
+{
+    if body.len() < 4 {
+        return Line::new();
+    }
+    let size = wire::number_at(body, 0, Width::Four);
+    let messages = &body[4..];
+    let end = rooms::front_of_bytes(size, messages);
+    let graph = &messages[..end];
+    if !is_message(size, graph) {
+        return Line::new();
+    }
+    let rest = &messages[end..];
+    if rest.len() < 4 {
+        return Line::new();
+    }
+    let claimed = &rest[4..];
+    if !is_message(wire::number_at(rest, 0, Width::Four), claimed) {
+        return Line::new();
+    }
+    let judged = claims::check(graph, claimed);
+    judged_word(checked_line(b'C', judged.number(), judged.offset()), judged)
+}
+
+// A field: a space, and the word for a checker's verdict.
+fn judged_word(line: Line, judged: Judged) -> Line
+    requires { ⌜ Sound line ⌝ }
+    ensures { λ r. ⌜ Sound r ⌝ }
+{
+    match judged {
+        Judged::Yes => line.text(b" yes"),
+        Judged::No => line.text(b" no"),
+        Judged::Refused(_) => line.text(b" none"),
+    }
+}
+
+// `W`: a room for claims in bytes, a room in numbers; a graph.
+pub fn certify(body: &[u8], bytes: &mut [u8], values: &mut [u64]) -> Line
+    ensures { λ r. ⌜ Sound r ⌝ }
+{
+    if body.len() < 12 {
+        return Line::new();
+    }
+    let asked = wire::number_at(body, 0, Width::Four);
+    let wanted = wire::number_at(body, 4, Width::Four);
+    let message = &body[12..];
+    if !is_message(wire::number_at(body, 8, Width::Four), message) {
+        return Line::new();
+    }
+    let len = rooms::front_of_bytes(asked, bytes);
+    if len < asked as usize {
+        return Line::new();
+    }
+    let count = rooms::front_of_values(wanted, values);
+    if count < wanted as usize {
+        return Line::new();
+    }
+    certify_in(message, &mut bytes[..len], &mut values[..count])
+}
+
+// The writer in rooms that are filled before.
+fn certify_in(message: &[u8], room: &mut [u8], words: &mut [u64]) -> Line
+    ensures { λ r. ⌜ Sound r ⌝ }
+{
+    rooms::fill_bytes(room);
+    rooms::fill_values(words);
+    let written = claims::write(message, room, words);
+    certified(message, written, room, sums::of_values(words))
+}
+
+// Where claims were written, the room holds as many as the graph has nodes, and what is behind them.
+fn certified(message: &[u8], written: claims::Written, room: &[u8], lent: u32) -> Line
+    ensures { λ r. ⌜ Sound r ⌝ }
+{
+    match written {
+        claims::Written::Claims => certified_front(message, room, lent),
+        claims::Written::Refused(e) => {
+            uncertified_line(e.number(), e.offset, sums::of_bytes(room), lent)
+        },
+    }
+}
+
+// The claims are the front of the room; no graph has as many as 65,536 nodes.
+fn certified_front(message: &[u8], room: &[u8], lent: u32) -> Line
+    ensures { λ r. ⌜ Sound r ⌝ }
+{
+    let graph::Checked::Graph(nodes, _, _, _) = graph::check(message) else {
+        return Line::new();
+    };
+    let end = rooms::front_of_bytes(nodes % 65536 * 16, room);
+    let rest = sums::of_bytes(&room[end..]);
+    certified_line(message, &room[..end], rest, lent)
+}
+
+// The number and offset of a refusal, no verdict, no values, and the sums of both rooms.
+fn uncertified_line(number: u8, offset: usize, room: u32, lent: u32) -> Line
+    ensures { λ r. ⌜ Sound r ⌝ }
+{
+    checked_line(b'W', number, offset)
+        .text(b" none")
+        .sum(1)
+        .sum(room)
+        .sum(lent)
+}
+
+// What the checker says of the claims, the sum of the claimed values, that of the rest of their room, and that of the words.
+fn certified_line(message: &[u8], claimed: &[u8], rest: u32, lent: u32) -> Line
+    ensures { λ r. ⌜ Sound r ⌝ }
+{
+    let judged = claims::check(message, claimed);
+    let values = sums::of_claimed(claimed);
+    judged_word(checked_line(b'W', 0, 0), judged)
+        .sum(values)
+        .sum(rest)
+        .sum(lent)
 }

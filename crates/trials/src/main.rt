@@ -21,6 +21,8 @@ fn answer(letter: u8, body: &[u8], bytes: &mut [u8], values: &mut [u64], words: 
         b'R' => answers::rounds(body, values),
         b'V' => answers::verdict(body, bytes, values),
         b'S' => answers::search(body, words),
+        b'C' => answers::claims(body),
+        b'W' => answers::certify(body, bytes, values),
         _ => Line::new(),
     }
 }
@@ -81,7 +83,7 @@ fn answer_all(space: &mut [u8], bytes: &mut [u8], values: &mut [u64], words: &mu
 fn main() {
     let mut space = [0u8; 131096];
     let mut bytes = [0u8; 65536];
-    let mut values = [0u64; 8192];
+    let mut values = [0u64; 32768];
     let mut words = [0u32; 262144];
     answer_all(&mut space, &mut bytes, &mut values, &mut words);
 }

@@ -51,6 +51,8 @@ fn small_calls() -> Vec<Call> {
         Call::rounds(7, 5, &[1, 2, 3]),
         verdict_on(&[1, 2, 3], &[4, 5], 6, 5),
         Call::search(7, 5, &[1, 2, 3]),
+        Call::claims(&[1, 2, 3], &[4, 5]),
+        Call::certify(6, 5, &[1, 2, 3]),
     ]
 }
 
@@ -88,6 +90,13 @@ fn calls_past_limits() -> Vec<Call> {
         Call::search(0, 1, &long),
         Call::search(0, MOST_WORDS + 1, &[]),
         Call::search(0, most, &[]),
+        Call::claims(&long, &[1]),
+        Call::claims(&[1], &long),
+        Call::certify(1, 1, &long),
+        Call::certify(MOST_BYTES + 1, 1, &[]),
+        Call::certify(most, 1, &[]),
+        Call::certify(1, MOST_VALUES + 1, &[]),
+        Call::certify(1, most, &[]),
     ]
 }
 

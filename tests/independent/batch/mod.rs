@@ -1,5 +1,6 @@
 //! Batches of calls: a systematic part that is always the same, then calls made from a seed.
 
+pub mod claims;
 mod damage;
 pub mod ends;
 mod formulas;
@@ -27,6 +28,7 @@ pub fn systematic() -> Vec<Call> {
         verdicts::calls(),
         searches::calls(),
         offsets::calls(),
+        claims::calls(),
     ];
     let mut calls: Vec<Call> = parts.into_iter().flatten().collect();
     let mut seen = BTreeSet::new();

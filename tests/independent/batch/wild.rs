@@ -3,9 +3,10 @@
 
 use super::damage::{self, MENDS};
 use super::generate::{self, EXTREMES};
-use super::{graphs, searches, verdicts};
+use super::{claims as around, graphs, searches, verdicts};
 use crate::answer::{Call, MOST_BYTES, MOST_VALUES, MOST_WORDS};
 use crate::bytes;
+use crate::claims::{self, Claims};
 use crate::message::{self, set, Message};
 use crate::random::Random;
 use crate::text;
@@ -13,7 +14,7 @@ use crate::verdict::Question;
 
 /// A call with one of the letters, and none where no letter is known.
 pub fn call(random: &mut Random, letters: &str) -> Option<Call> {
-    let weighted = "GGMMFFTTTRRRRRVVVVVVVSSSSSS".bytes();
+    let weighted = "GGMMFFTTTRRRRRVVVVVVVSSSSSSCCCCWWW".bytes();
     let usable: Vec<u8> = weighted
         .filter(|letter| letters.contains(*letter as char))
         .collect();
@@ -27,6 +28,8 @@ pub fn call(random: &mut Random, letters: &str) -> Option<Call> {
         b'T' => text_call(random),
         b'R' => rounds_call(random),
         b'S' => search_call(random),
+        b'C' => claims_call(random),
+        b'W' => writer_call(random),
         _ => verdict_call(random),
     })
 }
@@ -241,6 +244,41 @@ fn search_call(random: &mut Random) -> Call {
     let root = state(random, nodes);
     let room = room(random, searches::needed(&message), MOST_WORDS);
     Call::search(root, room, &message)
+}
+
+/// Claims around the ranked ones of a graph, now and then damaged.
+fn claims_call(random: &mut Random) -> Call {
+    let message = graph(random);
+    let message = maybe_damaged(random, &message, 12);
+    let none = || Claims {
+        values: vec![None],
+        ranks: vec![0],
+    };
+    let ranked = bytes::graph(&message).map_or_else(|_| none(), |graph| claims::ranked(&graph));
+    let claims = if random.once_in(3) || ranked.values.len() > 60 {
+        ranked
+    } else {
+        random.pick(&around::around(&ranked))
+    };
+    let mut bytes = claims.write();
+    if random.once_in(8) {
+        let at = random.below(bytes.len());
+        bytes[at] ^= random.pick(&[1, 2, 128, 255]);
+    }
+    if random.once_in(20) {
+        bytes.truncate(random.below(bytes.len()));
+    }
+    Call::claims(&message, &bytes)
+}
+
+/// A writer, with rooms around what it needs.
+fn writer_call(random: &mut Random) -> Call {
+    let message = graph(random);
+    let message = maybe_damaged(random, &message, 12);
+    let nodes = bytes::graph(&message).map_or(2, |graph| graph.nodes);
+    let bytes = room(random, claims::CLAIM * nodes, MOST_BYTES);
+    let words = room(random, claims::WORDS * nodes, MOST_VALUES);
+    Call::certify(bytes, words, &message)
 }
 
 /// Mostly a state that exists.

@@ -1,0 +1,648 @@
+// Claims about a graph: a value and a rank for each node. A checker of claims, and a writer of claims that it accepts.
+ghost use mathlib.Core.Path.{_≡_};
+ghost use mathlib.Core.Bool.{true, false};
+ghost use mathlib.Core.List.{_++_};
+ghost use Prim.Native.Nat.{ℕ, _+_, _*_, _<_, _≤_};
+ghost use lib.ListN.{length, drop, getD, replicate};
+ghost use Rattle.lists.specs.Lists.{_∈_};
+ghost use Rattle.value.specs.Value.{plus};
+ghost use Rattle.value.specs.Stored.{stored};
+ghost use Rattle.wire.specs.Bytes.{number};
+ghost use Rattle.wire.specs.Field.{longWidth};
+ghost use Rattle.wire.specs.Layout.{items, end, Sound};
+ghost use Rattle.rules.specs.Graph.{Target};
+ghost use Rattle.rules.specs.Rounds as rules;
+ghost use Rattle.rules.specs.Count.{count};
+ghost use Rattle.rules.specs.Walks.{CoverCycle};
+ghost use Rattle.graph.specs.Format.{graphHeader, targetCountAt, hyperWidth, nodeAt};
+ghost use Rattle.graph.specs.Layouts.{targetLayout, hyperLayout, coverLayout, decoded, TargetOk, HyperOk, CoverOk, Scannable};
+ghost use Rattle.graph.specs.Message.{readGraph};
+ghost use Rattle.rounds.specs.Ready.{Ready};
+ghost use Rattle.claims.specs.Claims.{rankAt, claimWidth, claimedValue, claimedRank, AcceptsClaims};
+ghost use Rattle.claims.specs.Answers.{judgedNumber, judgedOffset, writtenNumber, writtenOffset, readClaims, Judges, Writes, Filled};
+ghost use Rattle.claims.specs.Promise.{JudgedPromise, WrittenPromise};
+ghost use Rattle.claims.specs.Scans.{HyperFair, HyperBacks, CoverFair, CoverBacks, Found, Scanned, AllBacked};
+ghost use Rattle.claims.specs.Ranking.{unranked, Begun, Kept, RankedBy};
+ghost use Rattle.claims.specs.Labels.{label, Within, Deepest, HyperFalls, CoverFalls, Deeper, Pass};
+use graph::Checked;
+use refusal::Fault;
+use value::Bound;
+use value::Value;
+use wire::Width;
+
+// Where the rank of a node stands in its claim, and how wide a claim is.
+pub const RANK_AT: usize = 8;
+
+pub const CLAIM: usize = 16;
+
+// How many words are lent to the writer for a node.
+pub const WORDS: usize = 8;
+
+// The rank of a node that has none yet.
+const UNRANKED: u64 = 18446744073709551615;
+
+// Accepted, not accepted, or refused.
+pub enum Judged {
+    Yes,
+    No,
+    Refused(Fault),
+}
+
+impl Judged {
+    // The number that the paper gives the answer.
+    pub fn number(self) -> u8
+        ensures { λ r. ⌜ r ≡ judgedNumber self ⌝ }
+    {
+        match self {
+            Judged::Yes => 0,
+            Judged::No => 0,
+            Judged::Refused(e) => e.number(),
+        }
+    }
+
+    // Where the field starts that was found wrong, and 0 where none was.
+    pub fn offset(self) -> usize
+        ensures { λ r. ⌜ r ≡ judgedOffset self ⌝ }
+    {
+        match self {
+            Judged::Yes => 0,
+            Judged::No => 0,
+            Judged::Refused(e) => e.offset,
+        }
+    }
+}
+
+// Claims were written, or refused.
+pub enum Written {
+    Claims,
+    Refused(Fault),
+}
+
+impl Written {
+    // The number that the paper gives the answer.
+    pub fn number(self) -> u8
+        ensures { λ r. ⌜ r ≡ writtenNumber self ⌝ }
+    {
+        match self {
+            Written::Claims => 0,
+            Written::Refused(e) => e.number(),
+        }
+    }
+
+    // Where the field starts that was found wrong, and 0 where none was.
+    pub fn offset(self) -> usize
+        ensures { λ r. ⌜ r ≡ writtenOffset self ⌝ }
+    {
+        match self {
+            Written::Claims => 0,
+            Written::Refused(e) => e.offset,
+        }
+    }
+}
+
+// What an edge is to the claims: it gives less than its source claims; it backs its source's value; or neither.
+enum Edge {
+    Breaks,
+    Backs,
+    Idle,
+}
+
+// How a scan of edges ended: one gives less than its source claims, or none does, and what stands behind them.
+enum Scan {
+    Broken,
+    Past(usize),
+}
+
+// The stored value that is claimed of a node.
+fn value_of(n: usize, claims: &[u8], v: usize) -> u64
+    requires { ⌜ v < n ⌝ }
+    requires { ⌜ n * claimWidth ≤ length (now claims) ⌝ }
+    ensures { λ r. ⌜ r ≡ number longWidth (now (claims .entry)) (v * claimWidth) ⌝ }
+{
+    let at = v * CLAIM;
+    wire::long_at(claims, at)
+}
+
+// The rank that is claimed of a node.
+fn rank_of(n: usize, claims: &[u8], v: usize) -> u64
+    requires { ⌜ v < n ⌝ }
+    requires { ⌜ n * claimWidth ≤ length (now claims) ⌝ }
+    ensures { λ r. ⌜ r ≡ claimedRank (now (claims .entry)) v ⌝ }
+{
+    let at = v * CLAIM + RANK_AT;
+    wire::long_at(claims, at)
+}
+
+// Weight plus claimed value of the target at a position.
+fn target_sum(s: &[u8], n: usize, claims: &[u8], at: usize) -> Value
+    requires { ⌜ TargetOk (now s) n at ⌝ }
+    requires { ⌜ n * claimWidth ≤ length (now claims) ⌝ }
+    ensures { λ r. ⌜ r .0 ≡ stored (plus (number 4 (now (s .entry)) at) (claimedValue (now (claims .entry)) (number 2 (now (s .entry)) (at + nodeAt)))) ⌝ }
+{
+    let weight = wire::number_at(s, at, Width::Four);
+    let node = wire::number_at(s, at + graph::NODE_AT, Width::Two) as usize;
+    let value = value_of(n, claims, node);
+    Value(value).add(weight)
+}
+
+// The greatest weight plus claimed value over k targets at a position; 0 with none. Once it is infinite the targets left are not read.
+fn worst(s: &[u8], n: usize, claims: &[u8], k: u32, at: usize) -> Value
+    requires { ⌜ Sound (targetLayout (now s) n) k at ⌝ }
+    requires { ⌜ n * claimWidth ≤ length (now claims) ⌝ }
+    ensures { λ r. ⌜ r .0 ≡ stored (rules.worst (claimedValue (now (claims .entry))) (items (targetLayout (now (s .entry)) n) k at)) ⌝ }
+{
+    let mut most = Value(0);
+    let mut i = k;
+    let mut p = at;
+    while 0 < i {
+        if most.0 == Value::INFINITE.0 {
+            return most;
+        }
+        let sum = target_sum(s, n, claims, p);
+        most = most.greatest(sum);
+        p += graph::TARGET;
+        i -= 1;
+    }
+    most
+}
+
+// Whether all of k targets at a position have a rank below one.
+fn ranks_below(s: &[u8], n: usize, claims: &[u8], rank: u64, k: u32, at: usize) -> bool
+    requires { ⌜ Sound (targetLayout (now s) n) k at ⌝ }
+    requires { ⌜ n * claimWidth ≤ length (now claims) ⌝ }
+    ensures { λ r. ⌜ (r ≡ true → (t : Target) → t ∈ items (targetLayout (now (s .entry)) n) k at → claimedRank (now (claims .entry)) (t .node) < rank)
+        × (r ≡ false → ¬ ((t : Target) → t ∈ items (targetLayout (now (s .entry)) n) k at → claimedRank (now (claims .entry)) (t .node) < rank)) ⌝ }
+{
+    let mut i = k;
+    let mut p = at;
+    while 0 < i {
+        let node = wire::number_at(s, p + graph::NODE_AT, Width::Two) as usize;
+        let other = rank_of(n, claims, node);
+        p += graph::TARGET;
+        i -= 1;
+        if rank <= other {
+            return false;
+        }
+    }
+    true
+}
+
+// What the hyperedge of k targets at a position is to the claims.
+fn hyper_edge(s: &[u8], n: usize, claims: &[u8], k: u32, at: usize) -> Edge
+    requires { ⌜ HyperOk (now s) n at ⌝ }
+    requires { ⌜ k ≡ number 2 (now s) (at + targetCountAt) ⌝ }
+    requires { ⌜ n * claimWidth ≤ length (now claims) ⌝ }
+    ensures { λ r. ⌜ Found (HyperFair (claimedValue (now (claims .entry))) (hyperLayout (now (s .entry)) n .item at))
+        (HyperBacks (claimedValue (now (claims .entry))) (claimedRank (now (claims .entry))) (hyperLayout (now (s .entry)) n .item at)) r ⌝ }
+{
+    let source = wire::number_at(s, at, Width::Two) as usize;
+    let claimed = value_of(n, claims, source);
+    let targets = at + graph::HYPER;
+    let given = worst(s, n, claims, k, targets);
+    if given.0 < claimed {
+        return Edge::Breaks;
+    }
+    if claimed < given.0 {
+        return Edge::Idle;
+    }
+    if claimed == Value::INFINITE.0 {
+        return Edge::Idle;
+    }
+    let rank = rank_of(n, claims, source);
+    if ranks_below(s, n, claims, rank, k, targets) {
+        return Edge::Backs;
+    }
+    Edge::Idle
+}
+
+// What the cover edge at a position is to the claims.
+fn cover_edge(s: &[u8], n: usize, claims: &[u8], at: usize) -> Edge
+    requires { ⌜ CoverOk (now s) n at ⌝ }
+    requires { ⌜ n * claimWidth ≤ length (now claims) ⌝ }
+    ensures { λ r. ⌜ Found (CoverFair (claimedValue (now (claims .entry))) (coverLayout (now (s .entry)) n .item at))
+        (CoverBacks (claimedValue (now (claims .entry))) (claimedRank (now (claims .entry))) (coverLayout (now (s .entry)) n .item at)) r ⌝ }
+{
+    let source = wire::number_at(s, at, Width::Two) as usize;
+    let bound = Bound::coded(wire::number_at(s, at + graph::COVER_BOUND_AT, Width::Four));
+    let target = wire::number_at(s, at + graph::COVER_TARGET_AT, Width::Two) as usize;
+    let reached = value_of(n, claims, target);
+    if !Value(reached).within(bound) {
+        return Edge::Idle;
+    }
+    let claimed = value_of(n, claims, source);
+    if 0 < claimed {
+        return Edge::Breaks;
+    }
+    let rank = rank_of(n, claims, source);
+    let other = rank_of(n, claims, target);
+    if other < rank {
+        return Edge::Backs;
+    }
+    Edge::Idle
+}
+
+// Scans the hyperedges, and marks the sources of those that back them.
+fn scan_hypers(s: &[u8], n: usize, h: u32, claims: &[u8], marks: &mut [u8; 4096]) -> Scan
+    requires { ⌜ Sound (hyperLayout (now s) n) h graphHeader ⌝ }
+    requires { ⌜ n * claimWidth ≤ length (now claims) ⌝ }
+    requires { ⌜ (n ≤ 4096) × (length (now marks) ≡ 4096) ⌝ }
+    ensures { λ r. ⌜ Scanned (hyperLayout (now (s .entry)) n) h graphHeader (λ e. e .source) (HyperFair (claimedValue (now (claims .entry))))
+        (HyperBacks (claimedValue (now (claims .entry))) (claimedRank (now (claims .entry)))) (now (marks .entry)) (now (marks .exit)) r ⌝ }
+{
+    let mut i = h;
+    let mut p = graph::HEADER;
+    while 0 < i {
+        let source = wire::number_at(s, p, Width::Two) as usize;
+        let k = wire::number_at(s, p + graph::TARGET_COUNT_AT, Width::Two);
+        let at = p;
+        p += graph::HYPER + (k as usize) * graph::TARGET;
+        i -= 1;
+        match hyper_edge(s, n, claims, k, at) {
+            Edge::Breaks => {
+                return Scan::Broken;
+            }
+            Edge::Backs => {
+                marks[source] = 1;
+            }
+            Edge::Idle => {}
+        }
+    }
+    Scan::Past(p)
+}
+
+// Scans the cover edges at a position, and marks the sources of those that back them.
+fn scan_covers(
+    s: &[u8],
+    n: usize,
+    c: u32,
+    from: usize,
+    claims: &[u8],
+    marks: &mut [u8; 4096],
+) -> Scan
+    requires { ⌜ Sound (coverLayout (now s) n) c from ⌝ }
+    requires { ⌜ n * claimWidth ≤ length (now claims) ⌝ }
+    requires { ⌜ (n ≤ 4096) × (length (now marks) ≡ 4096) ⌝ }
+    ensures { λ r. ⌜ Scanned (coverLayout (now (s .entry)) n) c from (λ e. e .source) (CoverFair (claimedValue (now (claims .entry))))
+        (CoverBacks (claimedValue (now (claims .entry))) (claimedRank (now (claims .entry)))) (now (marks .entry)) (now (marks .exit)) r ⌝ }
+{
+    let mut i = c;
+    let mut p = from;
+    while 0 < i {
+        let source = wire::number_at(s, p, Width::Two) as usize;
+        let at = p;
+        p += graph::COVER;
+        i -= 1;
+        match cover_edge(s, n, claims, at) {
+            Edge::Breaks => {
+                return Scan::Broken;
+            }
+            Edge::Backs => {
+                marks[source] = 1;
+            }
+            Edge::Idle => {}
+        }
+    }
+    Scan::Past(p)
+}
+
+// Whether every node that is claimed finite is marked.
+fn all_backed(n: usize, claims: &[u8], marks: &[u8; 4096]) -> bool
+    requires { ⌜ n * claimWidth ≤ length (now claims) ⌝ }
+    requires { ⌜ (n ≤ 4096) × (length (now marks) ≡ 4096) ⌝ }
+    ensures { λ r. ⌜ (r ≡ true → AllBacked n (claimedValue (now (claims .entry))) (now (marks .entry)))
+        × (r ≡ false → ¬ AllBacked n (claimedValue (now (claims .entry))) (now (marks .entry))) ⌝ }
+{
+    let mut v = 0;
+    while v < n {
+        let claimed = value_of(n, claims, v);
+        let mark = marks[v];
+        v += 1;
+        if mark != 1 {
+            if claimed != Value::INFINITE.0 {
+                return false;
+            }
+        }
+    }
+    true
+}
+
+// Whether the claims are accepted. A sum that 64 bits don't hold is infinity's number here. That takes nothing for infinity: where every
+// finite node has a support no claim is above (n - 1) w, and then no sum is so large.
+fn accepts(s: &[u8], n: usize, h: u32, c: u32, claims: &[u8]) -> bool
+    requires { ⌜ Ready (now s) n h c ⌝ }
+    requires { ⌜ n ≤ 4096 ⌝ }
+    requires { ⌜ n * claimWidth ≤ length (now claims) ⌝ }
+    ensures { λ r. ⌜ (r ≡ true → AcceptsClaims (decoded (now (s .entry)) n h c) (now (claims .entry)))
+        × (r ≡ false → ¬ AcceptsClaims (decoded (now (s .entry)) n h c) (now (claims .entry))) ⌝ }
+{
+    let mut marks = [0u8; 4096];
+    let Scan::Past(middle) = scan_hypers(s, n, h, claims, &mut marks) else {
+        return false;
+    };
+    let Scan::Past(_) = scan_covers(s, n, c, middle, claims, &mut marks) else {
+        return false;
+    };
+    all_backed(n, claims, &marks)
+}
+
+// Checks claims about the graph of a message: first the graph, then the length of the claims.
+pub fn check(message: &[u8], claims: &[u8]) -> Judged
+    ensures answer { λ r. ⌜ Judges (readClaims (now (message .entry)) (now (claims .entry))) (now (claims .entry)) r ⌝ }
+    ensures promise { λ r. ⌜ JudgedPromise (now (message .entry)) (now (claims .entry)) r ⌝ }
+{
+    match graph::check(message) {
+        Checked::Refused(e) => Judged::Refused(e),
+        Checked::Graph(nodes, h, c, _) => {
+            let n = nodes as usize;
+            let long = n * CLAIM;
+            if claims.len() != long {
+                return Judged::Refused(wire::SHORT);
+            }
+            if accepts(message, n, h, c, claims) {
+                return Judged::Yes;
+            }
+            Judged::No
+        }
+    }
+}
+
+// Where the cover edges stand: past the hyperedges.
+fn past_hypers(s: &[u8], n: usize, h: u32) -> usize
+    requires { ⌜ Sound (hyperLayout (now s) n) h graphHeader ⌝ }
+    ensures { λ r. ⌜ r ≡ end (hyperLayout (now (s .entry)) n) h graphHeader ⌝ }
+{
+    let mut i = h;
+    let mut p = graph::HEADER;
+    while 0 < i {
+        let k = wire::number_at(s, p + graph::TARGET_COUNT_AT, Width::Two);
+        p += graph::HYPER + (k as usize) * graph::TARGET;
+        i -= 1;
+    }
+    p
+}
+
+// The largest label of k targets at a position; 0 with none.
+fn deepest(s: &[u8], n: usize, labels: &[u32; 4096], k: u32, at: usize) -> u32
+    requires { ⌜ Sound (targetLayout (now s) n) k at ⌝ }
+    requires { ⌜ (n ≤ 4096) × (length (now labels) ≡ 4096) ⌝ }
+    ensures { λ r. ⌜ Deepest (label (now (labels .entry))) (items (targetLayout (now (s .entry)) n) k at) r ⌝ }
+{
+    let mut most: u32 = 0;
+    let mut i = k;
+    let mut p = at;
+    while 0 < i {
+        let node = wire::number_at(s, p + graph::NODE_AT, Width::Two) as usize;
+        let own = labels[node];
+        p += graph::TARGET;
+        i -= 1;
+        if most < own {
+            most = own;
+        }
+    }
+    most
+}
+
+// Takes each hyperedge's source down to the depth of its targets; says whether any label rose.
+fn deepen_hypers(s: &[u8], n: usize, h: u32, labels: &mut [u32; 4096]) -> bool
+    requires { ⌜ Sound (hyperLayout (now s) n) h graphHeader ⌝ }
+    requires { ⌜ (n ≤ 4096) × (length (now labels) ≡ 4096) ⌝ }
+    ensures { λ r. ⌜ Deeper n (items (hyperLayout (now (s .entry)) n) h graphHeader) HyperFalls (now (labels .entry)) (now (labels .exit)) r ⌝ }
+{
+    let mut moved = false;
+    let mut i = h;
+    let mut p = graph::HEADER;
+    while 0 < i {
+        let source = wire::number_at(s, p, Width::Two) as usize;
+        let k = wire::number_at(s, p + graph::TARGET_COUNT_AT, Width::Two);
+        let deep = deepest(s, n, labels, k, p + graph::HYPER);
+        let own = labels[source];
+        p += graph::HYPER + (k as usize) * graph::TARGET;
+        i -= 1;
+        if own < deep {
+            labels[source] = deep;
+            moved = true;
+        }
+    }
+    moved
+}
+
+// Takes each cover edge's source below its target; says whether any label rose.
+fn deepen_covers(s: &[u8], n: usize, c: u32, middle: usize, labels: &mut [u32; 4096]) -> bool
+    requires { ⌜ Sound (coverLayout (now s) n) c middle ⌝ }
+    requires { ⌜ (n ≤ 4096) × (length (now labels) ≡ 4096) ⌝ }
+    requires { ⌜ c ≤ 4096 ⌝ }
+    requires { ⌜ Within n (now labels) 4294901760 ⌝ }
+    ensures { λ r. ⌜ Deeper n (items (coverLayout (now (s .entry)) n) c middle) CoverFalls (now (labels .entry)) (now (labels .exit)) r ⌝ }
+    ensures { λ _. ⌜ ((m : ℕ) → Within n (now (labels .entry)) m → Within n (now (labels .exit)) (m + c)) ⌝ }
+{
+    let mut moved = false;
+    let mut i = c;
+    let mut p = middle;
+    while 0 < i {
+        let source = wire::number_at(s, p, Width::Two) as usize;
+        let target = wire::number_at(s, p + graph::COVER_TARGET_AT, Width::Two) as usize;
+        let below = labels[target];
+        let own = labels[source];
+        p += graph::COVER;
+        i -= 1;
+        if own <= below {
+            labels[source] = below + 1;
+            moved = true;
+        }
+    }
+    moved
+}
+
+// A pass over all edges; says whether any label rose.
+fn deepen(s: &[u8], n: usize, h: u32, c: u32, middle: usize, labels: &mut [u32; 4096]) -> bool
+    requires { ⌜ Scannable (now s) n h c ⌝ }
+    requires { ⌜ middle ≡ end (hyperLayout (now s) n) h graphHeader ⌝ }
+    requires { ⌜ (n ≤ 4096) × (length (now labels) ≡ 4096) ⌝ }
+    requires { ⌜ c ≤ 4096 ⌝ }
+    requires { ⌜ Within n (now labels) 4294901760 ⌝ }
+    ensures { λ r. ⌜ Pass (decoded (now (s .entry)) n h c) (now (labels .entry)) (now (labels .exit)) r ⌝ }
+    ensures { λ _. ⌜ ((m : ℕ) → Within n (now (labels .entry)) m → Within n (now (labels .exit)) (m + c)) ⌝ }
+{
+    let along = deepen_hypers(s, n, h, labels);
+    let over = deepen_covers(s, n, c, middle, labels);
+    if along {
+        return true;
+    }
+    over
+}
+
+// Whether some cycle passes through a cover edge: then, and only then, do the labels still rise in pass n.
+fn has_cycle(s: &[u8], n: usize, h: u32, c: u32, middle: usize) -> bool
+    requires { ⌜ Ready (now s) n h c ⌝ }
+    requires { ⌜ middle ≡ end (hyperLayout (now s) n) h graphHeader ⌝ }
+    requires { ⌜ (n ≤ 4096) × (c ≤ 4096) ⌝ }
+    ensures { λ r. ⌜ (r ≡ true → CoverCycle (decoded (now (s .entry)) n h c)) × (r ≡ false → ¬ CoverCycle (decoded (now (s .entry)) n h c)) ⌝ }
+{
+    let mut labels = [0u32; 4096];
+    let mut passes = 1;
+    while passes < n {
+        if !deepen(s, n, h, c, middle, &mut labels) {
+            return false;
+        }
+        passes += 1;
+    }
+    deepen(s, n, h, c, middle, &mut labels)
+}
+
+// Writes the values of n nodes from the words, and no rank yet.
+fn begin(n: usize, words: &[u64], claims: &mut [u8])
+    requires { ⌜ n ≤ length (now words) ⌝ }
+    requires { ⌜ n * claimWidth ≤ length (now claims) ⌝ }
+    ensures { λ _. ⌜ Begun n (now (words .entry)) (now (claims .entry)) (now (claims .exit)) ⌝ }
+{
+    let mut v = 0;
+    while v < n {
+        let value = words[v];
+        let at = v * CLAIM;
+        let behind = at + RANK_AT;
+        wire::store_long(claims, at, value);
+        wire::store_long(claims, behind, UNRANKED);
+        v += 1;
+    }
+}
+
+// Sets the first k words to 0.
+fn clear(k: usize, words: &mut [u64])
+    requires { ⌜ k ≤ length (now words) ⌝ }
+    ensures { λ _. ⌜ now (words .exit) ≡ replicate k 0 ++ drop k (now (words .entry)) ⌝ }
+{
+    let mut i = 0;
+    while i < k {
+        words[i] = 0;
+        i += 1;
+    }
+}
+
+// Ranks the sources of hyperedges that back them, one after another; gives the next rank.
+fn rank_hypers(s: &[u8], n: usize, h: u32, given: u64, claims: &mut [u8]) -> u64
+    requires { ⌜ Sound (hyperLayout (now s) n) h graphHeader ⌝ }
+    requires { ⌜ n * claimWidth ≤ length (now claims) ⌝ }
+    requires { ⌜ given + h < unranked ⌝ }
+    ensures { λ r. ⌜ RankedBy (items (hyperLayout (now (s .entry)) n) h graphHeader) (λ e. e .source) (λ b. HyperBacks (claimedValue b) (claimedRank b))
+        given (now (claims .entry)) r (now (claims .exit)) ⌝ }
+{
+    let mut next = given;
+    let mut i = h;
+    let mut p = graph::HEADER;
+    while 0 < i {
+        let source = wire::number_at(s, p, Width::Two) as usize;
+        let k = wire::number_at(s, p + graph::TARGET_COUNT_AT, Width::Two);
+        let at = p;
+        p += graph::HYPER + (k as usize) * graph::TARGET;
+        i -= 1;
+        if rank_of(n, claims, source) == UNRANKED {
+            match hyper_edge(s, n, claims, k, at) {
+                Edge::Backs => {
+                    let place = source * CLAIM + RANK_AT;
+                    wire::store_long(claims, place, next);
+                    next += 1;
+                }
+                Edge::Breaks => {}
+                Edge::Idle => {}
+            }
+        }
+    }
+    next
+}
+
+// Ranks the sources of cover edges that back them, one after another; gives the next rank.
+fn rank_covers(s: &[u8], n: usize, c: u32, middle: usize, given: u64, claims: &mut [u8]) -> u64
+    requires { ⌜ Sound (coverLayout (now s) n) c middle ⌝ }
+    requires { ⌜ n * claimWidth ≤ length (now claims) ⌝ }
+    requires { ⌜ given + c < unranked ⌝ }
+    ensures { λ r. ⌜ RankedBy (items (coverLayout (now (s .entry)) n) c middle) (λ e. e .source) (λ b. CoverBacks (claimedValue b) (claimedRank b))
+        given (now (claims .entry)) r (now (claims .exit)) ⌝ }
+{
+    let mut next = given;
+    let mut i = c;
+    let mut p = middle;
+    while 0 < i {
+        let source = wire::number_at(s, p, Width::Two) as usize;
+        let at = p;
+        p += graph::COVER;
+        i -= 1;
+        if rank_of(n, claims, source) == UNRANKED {
+            match cover_edge(s, n, claims, at) {
+                Edge::Backs => {
+                    let place = source * CLAIM + RANK_AT;
+                    wire::store_long(claims, place, next);
+                    next += 1;
+                }
+                Edge::Breaks => {}
+                Edge::Idle => {}
+            }
+        }
+    }
+    next
+}
+
+// Ranks nodes in passes over all edges, until a pass ranks none; each pass before it ranks one, so n are enough.
+fn rank(s: &[u8], n: usize, h: u32, c: u32, middle: usize, claims: &mut [u8])
+    requires { ⌜ Ready (now s) n h c ⌝ }
+    requires { ⌜ middle ≡ end (hyperLayout (now s) n) h graphHeader ⌝ }
+    requires { ⌜ n ≤ 4096 ⌝ }
+    requires { ⌜ n * claimWidth ≤ length (now claims) ⌝ }
+    requires { ⌜ (CoverCycle (decoded (now s) n h c) → ⊥) ⌝ }
+    requires { ⌜ rules.Agree (decoded (now s) n h c) (claimedValue (now claims)) (rules.rounds (decoded (now s) n h c) (count (decoded (now s) n h c))) ⌝ }
+    requires { ⌜ ((v : ℕ) → v < n → claimedRank (now claims) v ≡ unranked) ⌝ }
+    ensures { λ _. ⌜ Kept n (now (claims .entry)) (now (claims .exit)) ⌝ }
+    ensures { λ _. ⌜ AcceptsClaims (decoded (now (s .entry)) n h c) (now (claims .exit)) ⌝ }
+{
+    let mut given: u64 = 0;
+    let mut i = 0;
+    while i < n {
+        let more = rank_hypers(s, n, h, given, claims);
+        let next = rank_covers(s, n, c, middle, more, claims);
+        if next == given {
+            return;
+        }
+        given = next;
+        i += 1;
+    }
+}
+
+// Writes the claims of a graph without a cycle through a cover edge: the rounds settle within n, in the words.
+fn fill(s: &[u8], nodes: u32, h: u32, c: u32, middle: usize, claims: &mut [u8], words: &mut [u64])
+    requires { ⌜ Ready (now s) nodes h c ⌝ }
+    requires { ⌜ middle ≡ end (hyperLayout (now s) nodes) h graphHeader ⌝ }
+    requires { ⌜ nodes ≤ 4096 ⌝ }
+    requires { ⌜ (CoverCycle (decoded (now s) nodes h c) → ⊥) ⌝ }
+    requires { ⌜ (nodes * claimWidth ≤ length (now claims)) × (nodes * 8 ≤ length (now words)) ⌝ }
+    ensures { λ _. ⌜ Filled (decoded (now (s .entry)) nodes h c) (now (claims .entry)) (now (words .entry)) (now (claims .exit)) (now (words .exit)) ⌝ }
+{
+    let n = nodes as usize;
+    rounds::run(s, n, h, c, nodes, words);
+    begin(n, words, claims);
+    clear(n * WORDS, words);
+    rank(s, n, h, c, middle, claims);
+}
+
+// Writes claims about the graph of a message that the checker accepts: first the graph, then its cycles, then the rooms.
+pub fn write(message: &[u8], claims: &mut [u8], words: &mut [u64]) -> Written
+    ensures answer { λ r. ⌜ Writes (readGraph (now (message .entry))) (now (claims .entry)) (now (words .entry)) (now (claims .exit)) (now (words .exit)) r ⌝ }
+    ensures promise { λ r. ⌜ WrittenPromise (now (message .entry)) (now (claims .entry)) (now (words .entry)) (now (claims .exit)) (now (words .exit)) r ⌝ }
+{
+    match graph::check(message) {
+        Checked::Refused(e) => Written::Refused(e),
+        Checked::Graph(nodes, h, c, _) => {
+            let n = nodes as usize;
+            let middle = past_hypers(message, n, h);
+            if has_cycle(message, n, h, c, middle) {
+                return Written::Refused(refusal::PROFILE);
+            }
+            if claims.len() < n * CLAIM {
+                return Written::Refused(refusal::ROOM);
+            }
+            if words.len() < n * WORDS {
+                return Written::Refused(refusal::ROOM);
+            }
+            fill(message, nodes, h, c, middle, claims, words);
+            Written::Claims
+        }
+    }
+}
