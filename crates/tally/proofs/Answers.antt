@@ -1,0 +1,64 @@
+-- What entering answers, case by case, and what the code has to know for it. Assumes nothing.
+use Prim.Native.Nat.{ℕ, _+_, _-_, _^_, _<_, _≤_}
+use mathlib.Core.Bool.{Bool, true, false, _&&_}
+use mathlib.Core.Path.{_≡_, refl, sym, ap, _∙_}
+use native.Mathlib.Omega.{arith}
+use lib.Dec.{ltb, leb}
+use lib.ListN.{length, getD}
+use borrow.Author.Tests.{lt-ltb, le-ltb, le-leb, lt-leb, ltb-true, ltb-false, leb-true}
+use Rattle.lists.proofs.Tests.{by-test, and-left, and-right, clash}
+use Rattle.refusal.specs.declared.Refusal.the-variants.{Name, Limit}
+use Rattle.tally.specs.declared.Entry.{Entry}
+use Rattle.tally.specs.declared.Entry.the-variants.{Yes, No, Refused}
+use Rattle.tally.specs.declared.Tally.{Tally}
+use Rattle.tally.specs.declared.Answer.the-variants as Answer
+use Rattle.tally.specs.Tally.{mostAccepted, named, roundsOf, places, placeOf, together, countedAt, spare}
+use Rattle.tally.specs.Entered.{turnedAway, enterOf}
+use Rattle.tally.proofs.Counting.{one-of}
+
+-- an entry of the table has a place
+pub placed : (e : Entry) → named e ≡ true → placeOf e < places
+placed (Yes r) h = omega arith
+placed (No r) h = omega arith
+placed (Refused n r) h = omega (arith, leb-true n 11 (and-right (leb 1 n) (leb n 11) h))
+
+-- ---- where there is room for one more
+
+-- the sum's test, as it is made without passing 64 bits
+pub sum-test : (sum rounds : ℕ) → sum < 2 ^ 64 → leb rounds (18446744073709551615 - sum) ≡ ltb (sum + rounds) (2 ^ 64)
+sum-test sum rounds h =
+    by-test (ltb (sum + rounds) (2 ^ 64))
+    (λ e. le-leb rounds (18446744073709551615 - sum) (omega (arith, ltb-true (sum + rounds) (2 ^ 64) e)) ∙ sym e)
+    (λ e. lt-leb rounds (18446744073709551615 - sum) (omega (arith, ltb-false (sum + rounds) (2 ^ 64) e)) ∙ sym e)
+
+pub spare-none : (t : Tally) (rounds : ℕ) → ltb (together (t .counts)) mostAccepted ≡ false → spare t rounds ≡ false
+unfolding spare
+spare-none t rounds e = rw e
+
+pub spare-sum : (t : Tally) (rounds : ℕ) → ltb (together (t .counts)) mostAccepted ≡ true → spare t rounds ≡ ltb (t .sum + rounds) (2 ^ 64)
+unfolding spare
+spare-sum t rounds e = rw e
+
+-- what room says
+pub spare-counts : (t : Tally) (rounds : ℕ) → spare t rounds ≡ true → together (t .counts) < mostAccepted
+unfolding spare
+spare-counts t rounds e = ltb-true _ _ (and-left (ltb (together (t .counts)) mostAccepted) (ltb (t .sum + rounds) (2 ^ 64)) e)
+
+pub spare-fits : (t : Tally) (rounds : ℕ) → spare t rounds ≡ true → t .sum + rounds < 2 ^ 64
+unfolding spare
+spare-fits t rounds e = ltb-true _ _ (and-right (ltb (together (t .counts)) mostAccepted) (ltb (t .sum + rounds) (2 ^ 64)) e)
+
+-- ---- the three answers
+
+module _ (t : Tally) (e : Entry) where
+  pub not-named : named e ≡ false → enterOf t e ≡ turnedAway t Name
+  unfolding enterOf
+  not-named h = rw h
+
+  pub at-end : named e ≡ true → spare t (roundsOf e) ≡ false → enterOf t e ≡ turnedAway t Limit
+  unfolding enterOf
+  at-end h k = rw (h, k)
+
+  pub taken : named e ≡ true → spare t (roundsOf e) ≡ true → enterOf t e ≡ record { tally = countedAt t (placeOf e) (roundsOf e); answer = Answer.Accepted }
+  unfolding enterOf
+  taken h k = rw (h, k)
