@@ -1,10 +1,12 @@
 -- What the library is handed for an entry of the nightly sheet, and what it gives back.
 use Prim.Native.Nat.{ℕ}
 use mathlib.Core.Bool.{cond}
+use mathlib.Core.Path.{_≡_}
 use lib.Dec.{eqb}
-use Rattle.tally.specs.Entered.{answerNumber}
+use Rattle.tally.specs.Entered.{answerNumber, enterOf}
 use Rattle.tally.specs.declared.Entry.{Entry}
 use Rattle.tally.specs.declared.Entry.the-variants as Entry
+use Rattle.tally.specs.declared.Tally.{Tally}
 use Rattle.tally.specs.declared.Entered.{Entered}
 use Rattle.export.specs.declared.Noted.{Noted}
 
@@ -19,3 +21,8 @@ entryOf number verdict rounds =
 -- the tally after an entry, and the number of the answer
 abbrev pub notedOf : Entered → Noted
 notedOf e = record { tally = e .tally; number = answerNumber (e .answer) }
+
+-- what entering into a tally that is lent returns, and what it leaves there
+pub record EnteredInto (came : Tally) (e : Entry) (number : ℕ) (left : Tally) : Type 0 where
+  pub number-is : number ≡ answerNumber (enterOf came e .answer)
+  pub tally-is : left ≡ enterOf came e .tally

@@ -19,7 +19,7 @@ ghost use Rattle.search.specs.Promise as found;
 ghost use Rattle.export.specs.Results.{graphCounts, modelCounts, formulaCount, verdictNumber, foundNumber, searched, askedOne, askedAll, statesLent};
 ghost use Rattle.tally.specs.Entered as t;
 ghost use Rattle.tally.specs.Report as report;
-ghost use Rattle.export.specs.Sheet.{entryOf, notedOf};
+ghost use Rattle.export.specs.Sheet.{entryOf, notedOf, EnteredInto};
 use tally::Entry;
 use tally::Tally;
 use verdict::AllStates;
@@ -285,8 +285,7 @@ pub extern "C" fn otzarvim_tally_enter(
     verdict: u8,
     rounds: u32,
 ) -> u8
-    ensures { λ r. ⌜ (r ≡ t.answerNumber (t.enterOf (now (tally .entry)) (entryOf number verdict rounds) .answer))
-        × (now (tally .exit) ≡ t.enterOf (now (tally .entry)) (entryOf number verdict rounds) .tally) ⌝ }
+    ensures { λ r. ⌜ EnteredInto (now (tally .entry)) (entryOf number verdict rounds) r (now (tally .exit)) ⌝ }
 {
     let noted = note(*tally, number, verdict, rounds);
     *tally = noted.tally;

@@ -2,8 +2,16 @@
 --     Spelled    a list by its places
 --     Counting   the counts together, and one more of them
 --     Answers    what entering answers, case by case
---     Lines      a line more of the report
+--     Sheets     the sheet of a history with one entry more
+--     History    a tally that began at zero is the sheet of what was accepted
+--     Lines      the lines of the report, and the answer in each case
+--     Tells      the report determines the tally
+--     One        one answer of each public function
 pub mod Spelled
 pub mod Counting
 pub mod Answers
+pub mod Sheets
+pub mod History
 pub mod Lines
+pub mod Tells
+pub mod One

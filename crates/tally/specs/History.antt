@@ -4,7 +4,6 @@ use mathlib.Core.List.{List, [], _∷_}
 use mathlib.Core.Bool.{Bool, true, false, cond}
 use lib.Dec.{eqb}
 use lib.ListN.{length, take}
-use Rattle.lists.specs.Lists.{_∈_}
 use Rattle.lists.specs.Making.{keep, span}
 use Rattle.tally.specs.declared.Entry.{Entry}
 use Rattle.tally.specs.declared.Entry.the-variants.{Yes, No, Refused}
@@ -54,5 +53,6 @@ handedIn (Yes r) = r
 handedIn (No r) = r
 handedIn (Refused n r) = r
 
-pub record FourBytes (h : List Entry) : Type 0 where
-  pub each : {e : Entry} → e ∈ h → handedIn e < 2 ^ 32
+unfoldable pub FourBytes : List Entry → Type 0
+FourBytes [] = Unit
+FourBytes (e ∷ h) = (handedIn e < 2 ^ 32) × FourBytes h

@@ -43,4 +43,4 @@ reportRoom numbers room = cond (ltb (length room) (length (lines numbers))) room
 -- the numbers that a tally of the machine holds: 13 counts, and each number below 2 ^ 64
 pub record Stored (t : Tally) : Type 0 where
   pub counts-are : length (t .counts) ≡ places
-  pub below : {n : ℕ} → n ∈ numbersOf t → n < 2 ^ 64
+  pub below : (n : ℕ) → n ∈ numbersOf t → n < 2 ^ 64

@@ -22,7 +22,7 @@ returns-4 c =
       ne-eqb (a .verdict) 0 (c .before .before .if1 .left),
       eq-eqb (a .number) 0 (omega arith),
       ne-eqb (a .verdict) 1 (λ e. omega (arith, c .match .keys2)),
-      eq-eqb (a .verdict) 2 (c .match .keys2)
+      eq-eqb (a .verdict) 2 (c .match .keys2),
     )
 
 returns-5 : tie.Need-returns-5
@@ -32,7 +32,7 @@ returns-5 c =
       ne-eqb (a .verdict) 0 (c .before .before .if1 .left),
       eq-eqb (a .number) 0 (omega arith),
       ne-eqb (a .verdict) 1 (c .match .rest .0 .1),
-      ne-eqb (a .verdict) 2 (c .match .rest .1)
+      ne-eqb (a .verdict) 2 (c .match .rest .1),
     )
 
 pub entry-spec : {M : Type 1} → statement M
