@@ -5,6 +5,7 @@ ghost use lib.ListN.{length};
 ghost use Rattle.trials.specs.Lines.{Sound};
 use crate::line::Line;
 use crate::rooms;
+use crate::sheet;
 use crate::sums;
 use rounds::Outcome;
 use text::Written;
@@ -278,4 +279,21 @@ fn search_line(found: search::Answer, room: u32) -> Line
     search_word(line, found.verdict())
         .number(found.count())
         .sum(room)
+}
+
+// `N`: entries, into one tally that starts at zero.
+pub fn entries(body: &[u8]) -> Line
+    ensures { λ r. ⌜ Sound r ⌝ }
+{
+    if body.len() < 4 {
+        return Line::new();
+    }
+    let message = &body[4..];
+    if !is_message(wire::number_at(body, 0, Width::Four), message) {
+        return Line::new();
+    }
+    if !sheet::are_entries(message) {
+        return Line::new();
+    }
+    sheet::line(sheet::note_all(message))
 }

@@ -2,6 +2,7 @@
 mod answers;
 mod line;
 mod rooms;
+mod sheet;
 mod sums;
 
 ghost use Rattle.trials.specs.Lines.{Sound};
@@ -21,6 +22,7 @@ fn answer(letter: u8, body: &[u8], bytes: &mut [u8], values: &mut [u64], words: 
         b'R' => answers::rounds(body, values),
         b'V' => answers::verdict(body, bytes, values),
         b'S' => answers::search(body, words),
+        b'N' => answers::entries(body),
         _ => Line::new(),
     }
 }
