@@ -8,7 +8,7 @@ set -eu
 . "$(dirname "$0")/common.sh"
 
 seed=1
-calls=11000
+calls=11600
 
 [ $# -eq 0 ] || [ "$*" = --write ] || die "usage: regenerate.sh [--write]"
 store=$root/crates/trials

@@ -4,6 +4,7 @@ use crate::bytes;
 use crate::message;
 use crate::refusal::{Fault, Number, CALL};
 use crate::search;
+use crate::tally::{self, Entry, Tally};
 use crate::verdict::{self, Question};
 
 /// A call: a letter, its numbers and its messages.
@@ -14,7 +15,7 @@ pub struct Call {
     pub messages: Vec<Vec<u8>>,
 }
 
-pub const LETTERS: &str = "GMFTRVS";
+pub const LETTERS: &str = "GMFTRVSN";
 
 /// "a message of at most 65,536 bytes, byte rooms of at most 65,536, value rooms of at most 8,192
 /// numbers, word rooms of at most 262,144 words"
@@ -25,7 +26,7 @@ pub const MOST_WORDS: usize = 262_144;
 /// How many numbers and messages follow a letter.
 fn shape(letter: u8) -> Option<(usize, usize)> {
     match letter {
-        b'G' | b'M' => Some((0, 1)),
+        b'G' | b'M' | b'N' => Some((0, 1)),
         b'F' => Some((1, 1)),
         b'T' | b'R' | b'S' => Some((2, 1)),
         b'V' => Some((4, 2)),
@@ -77,6 +78,12 @@ impl Call {
         Call::new(b'S', &[root, room as u32], &[message])
     }
 
+    pub fn entries(entries: &[Entry]) -> Call {
+        let mut message = vec![];
+        entries.iter().for_each(|entry| entry.write(&mut message));
+        Call::new(b'N', &[], &[&message])
+    }
+
     /// "A call is a letter (1 byte), the size of what follows (4 bytes), and that many bytes: first
     /// the call's numbers, 4 bytes each, then its messages, each a 4-byte length and the bytes."
     pub fn write(&self, out: &mut Vec<u8>) {
@@ -117,11 +124,13 @@ impl Call {
     }
 
     pub fn within_limits(&self) -> bool {
+        let readable = self.letter != b'N' || tally::entries(&self.messages[0]).is_some();
         let short = self
             .messages
             .iter()
             .all(|message| message.len() <= MOST_BYTES);
-        short
+        readable
+            && short
             && self.byte_room() <= MOST_BYTES
             && self.value_room() <= MOST_VALUES
             && self.word_room() <= MOST_WORDS
@@ -221,6 +230,7 @@ pub fn answer(call: &Call) -> Expected {
         b'T' => answer_text(call),
         b'R' => answer_rounds(call),
         b'S' => answer_search(call),
+        b'N' => answer_entries(call),
         _ => answer_verdict(call),
     };
     Expected {
@@ -307,6 +317,21 @@ fn answer_search(call: &Call) -> Line {
     };
     let sum = sum_of_words(&room);
     (format!("{} {word} {taken} {sum}", number(fault)), fault)
+}
+
+/// "how many were accepted, answers, and then the report's numbers in its order". The rule is the
+/// first that refused an entry.
+fn answer_entries(call: &Call) -> Line {
+    let mut tally = Tally::default();
+    let entries = tally::entries(&call.messages[0]).expect("a call within its limits");
+    let refused: Vec<Option<Fault>> = entries
+        .into_iter()
+        .map(|entry| tally.enter(entry).err())
+        .collect();
+    let answers: Vec<u8> = refused.iter().map(|fault| number(*fault)).collect();
+    let mut fields = vec![tally.accepted().to_string(), sum(&answers)];
+    fields.extend(tally.report().iter().map(u128::to_string));
+    (fields.join(" "), refused.into_iter().flatten().next())
 }
 
 fn spent(number: Number) -> Option<Fault> {

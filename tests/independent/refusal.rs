@@ -122,6 +122,8 @@ pub const RULES: &[(&str, &str, &str)] = &[
     ("call", "cover edges of a search", "S"),
     ("call", "root", "S"),
     ("call", "word room", "S"),
+    ("entry", "refusal number", "N"),
+    ("entry", "entries accepted", ""),
     ("program", "longer input", "P"),
     ("program", "end of the model", "P"),
 ];

@@ -2,6 +2,7 @@
 
 mod damage;
 pub mod ends;
+pub mod entries;
 mod formulas;
 pub mod generate;
 mod graphs;
@@ -25,6 +26,7 @@ pub fn systematic() -> Vec<Call> {
         formulas::calls(),
         verdicts::calls(),
         searches::calls(),
+        entries::calls(),
     ];
     let mut calls: Vec<Call> = parts.into_iter().flatten().collect();
     let mut seen = BTreeSet::new();

@@ -3,7 +3,7 @@
 
 use super::damage::{self, MENDS};
 use super::generate::{self, EXTREMES};
-use super::{graphs, searches, verdicts};
+use super::{entries, graphs, searches, verdicts};
 use crate::answer::{Call, MOST_BYTES, MOST_VALUES, MOST_WORDS};
 use crate::bytes;
 use crate::message::{self, set, Message};
@@ -13,7 +13,7 @@ use crate::verdict::Question;
 
 /// A call with one of the letters, and none where no letter is known.
 pub fn call(random: &mut Random, letters: &str) -> Option<Call> {
-    let weighted = "GGMMFFTTTRRRRRVVVVVVVSSSSSS".bytes();
+    let weighted = "GGMMFFTTTRRRRRVVVVVVVSSSSSSNN".bytes();
     let usable: Vec<u8> = weighted
         .filter(|letter| letters.contains(*letter as char))
         .collect();
@@ -27,6 +27,7 @@ pub fn call(random: &mut Random, letters: &str) -> Option<Call> {
         b'T' => text_call(random),
         b'R' => rounds_call(random),
         b'S' => search_call(random),
+        b'N' => entries_call(random),
         _ => verdict_call(random),
     })
 }
@@ -273,4 +274,11 @@ fn budget(random: &mut Random, count: u32) -> u32 {
         4..=5 => count,
         _ => u32::MAX,
     }
+}
+
+/// A history, now and then a long one.
+fn entries_call(random: &mut Random) -> Call {
+    let most = if large(random) { MOST_BYTES / 6 } else { 40 };
+    let length = random.between(0, most);
+    Call::entries(&entries::history(random, length))
 }
