@@ -89,6 +89,33 @@ static void search(uint32_t root)
     printf("search from %" PRIu32 ": %u, verdict %u, count %" PRIu64 ", words %016" PRIx64 "\n", root, number, verdict, taken, sum);
 }
 
+static void enter(otzarvim_tally *tally, uint8_t first, uint8_t second, uint32_t rounds)
+{
+    unsigned number = otzarvim_tally_enter(tally, first, second, rounds);
+    lend();
+    unsigned written = otzarvim_tally_report(tally, bytes, 200, &length);
+    printf("entered %u %u %" PRIu32 ": %u, report %u, length %zu:", first, second, rounds, number, written, length);
+    for (size_t i = 0; i < length; i++)
+        putchar(bytes[i] == '\n' ? ' ' : bytes[i]);
+    sums();
+}
+
+/* Every number has a field of its own; then a tally at its end, and a room that is too small. */
+static void tallies(void)
+{
+    otzarvim_tally tally = {0};
+    enter(&tally, 0, 1, 5), enter(&tally, 0, 2, 3), enter(&tally, 0, 2, 4), enter(&tally, 1, 0, 9);
+    for (uint8_t i = 2; i <= 12; i++)
+        enter(&tally, i, 0, 1000);
+    enter(&tally, 0, 0, 6), enter(&tally, 0, 3, 7), enter(&tally, 2, 1, 8);
+    otzarvim_tally last = {4294967280, 5, {1, 2, 0, 0, 0, 0, 0, 0, 0, 0, 6}, UINT64_MAX - 8, 3};
+    enter(&last, 0, 1, 9), enter(&last, 0, 1, 8), enter(&last, 0, 2, 0), enter(&last, 12, 0, 0);
+    lend();
+    unsigned number = otzarvim_tally_report(&last, bytes, 57, &length);
+    printf("report in 57 bytes: %u, length %zu,", number, length);
+    sums();
+}
+
 int main(void)
 {
     lend();
@@ -118,5 +145,6 @@ int main(void)
     sums();
     decide(0, 9), decide(2, 9), decide(1, 2), decide(2, 1), decide(9, 4);
     settle(9), settle(2);
+    tallies();
     return 0;
 }
