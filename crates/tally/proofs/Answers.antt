@@ -1,26 +1,24 @@
 -- What entering answers, case by case, and what the code has to know for it. Assumes nothing.
-use Prim.Native.Nat.{ℕ, _+_, _-_, _^_, _<_, _≤_}
-use mathlib.Core.Bool.{Bool, true, false, _&&_}
-use mathlib.Core.Path.{_≡_, refl, sym, ap, _∙_}
+use Prim.Native.Nat.{ℕ, _+_, _-_, _^_, _<_}
+use mathlib.Core.Bool.{true, false}
+use mathlib.Core.Path.{_≡_, sym, _∙_}
 use native.Mathlib.Omega.{arith}
 use lib.Dec.{ltb, leb}
-use lib.ListN.{length, getD}
-use borrow.Author.Tests.{lt-ltb, le-ltb, le-leb, lt-leb, ltb-true, ltb-false, leb-true}
-use Rattle.lists.proofs.Tests.{by-test, and-left, and-right, clash}
+use borrow.Author.Tests.{le-leb, lt-leb, ltb-true, ltb-false, leb-true}
+use Rattle.lists.proofs.Tests.{by-test, and-left, and-right}
 use Rattle.refusal.specs.declared.Refusal.the-variants.{Name, Limit}
 use Rattle.tally.specs.declared.Entry.{Entry}
 use Rattle.tally.specs.declared.Entry.the-variants.{Yes, No, Refused}
 use Rattle.tally.specs.declared.Tally.{Tally}
 use Rattle.tally.specs.declared.Answer.the-variants as Answer
-use Rattle.tally.specs.Tally.{mostAccepted, named, roundsOf, places, placeOf, together, countedAt, spare}
+use Rattle.tally.specs.Tally.{mostAccepted, isEntry, roundsOf, places, countPlace, together, countedAt, spare}
 use Rattle.tally.specs.Entered.{turnedAway, enterOf}
-use Rattle.tally.proofs.Counting.{one-of}
 
 -- an entry of the table has a place
-pub placed : (e : Entry) → named e ≡ true → placeOf e < places
-placed (Yes r) h = omega arith
-placed (No r) h = omega arith
-placed (Refused n r) h = omega (arith, leb-true n 11 (and-right (leb 1 n) (leb n 11) h))
+pub has-place : (e : Entry) → isEntry e ≡ true → countPlace e < places
+has-place (Yes r) h = omega arith
+has-place (No r) h = omega arith
+has-place (Refused n r) h = omega (arith, leb-true n 11 (and-right (leb 1 n) (leb n 11) h))
 
 -- ---- where there is room for one more
 
@@ -51,14 +49,14 @@ spare-fits t rounds e = ltb-true _ _ (and-right (ltb (together (t .counts)) most
 -- ---- the three answers
 
 module _ (t : Tally) (e : Entry) where
-  pub not-named : named e ≡ false → enterOf t e ≡ turnedAway t Name
+  pub no-entry : isEntry e ≡ false → enterOf t e ≡ turnedAway t Name
   unfolding enterOf
-  not-named h = rw h
+  no-entry h = rw h
 
-  pub at-end : named e ≡ true → spare t (roundsOf e) ≡ false → enterOf t e ≡ turnedAway t Limit
+  pub at-end : isEntry e ≡ true → spare t (roundsOf e) ≡ false → enterOf t e ≡ turnedAway t Limit
   unfolding enterOf
   at-end h k = rw (h, k)
 
-  pub taken : named e ≡ true → spare t (roundsOf e) ≡ true → enterOf t e ≡ record { tally = countedAt t (placeOf e) (roundsOf e); answer = Answer.Accepted }
+  pub entry-counted : isEntry e ≡ true → spare t (roundsOf e) ≡ true → enterOf t e ≡ record { tally = countedAt t (countPlace e) (roundsOf e); answer = Answer.Accepted }
   unfolding enterOf
-  taken h k = rw (h, k)
+  entry-counted h k = rw (h, k)

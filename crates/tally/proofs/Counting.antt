@@ -1,7 +1,7 @@
 -- The counts together, and what one more entry does to them. Assumes nothing.
 use Prim.Native.Nat.{ℕ, zero, suc, _+_, _<_, _≤_, max}
 use mathlib.Core.List.{List, [], _∷_}
-use mathlib.Core.Path.{_≡_, ap, _∙_}
+use mathlib.Core.Path.{_≡_}
 use native.Mathlib.Numerals.{add-one}
 use native.Mathlib.Omega.{arith}
 use lib.ListN.{length, getD, set, drop}
@@ -22,11 +22,11 @@ one-of (n ∷ l) zero h = omega arith
 one-of (n ∷ l) (suc i) h = omega (arith, one-of l i (omega arith))
 
 -- one more of one of them is one more of all
-pub one-more : (l : List ℕ) (i : ℕ) → i < length l → together (set l i (getD l i 0 + 1)) ≡ together l + 1
+pub count-more : (l : List ℕ) (i : ℕ) → i < length l → together (set l i (getD l i 0 + 1)) ≡ together l + 1
 unfolding together
-one-more [] i h = absurd (omega arith)
-one-more (n ∷ l) zero h = omega arith
-one-more (n ∷ l) (suc i) h = omega (arith, one-more l i (omega arith))
+count-more [] i h = absurd (omega arith)
+count-more (n ∷ l) zero h = omega arith
+count-more (n ∷ l) (suc i) h = omega (arith, count-more l i (omega arith))
 
 -- a tally with one more at a place, whichever way the largest was found
 pub counted-is : (t : Tally) (at rounds m : ℕ) → m ≡ max (t .largest) rounds

@@ -1,6 +1,6 @@
 -- The lines of the report: one more of them, how long they are, and the answer in each of the two cases. Assumes nothing.
 use Prim.Native.Nat.{ℕ, _+_, _*_, _<_, _≤_}
-use mathlib.Core.List.{List, [], _∷_, _++_, append-assoc, append-nil}
+use mathlib.Core.List.{List, [], _∷_, _++_, append-assoc}
 use mathlib.Core.Path.{_≡_, refl, sym, ap, ap₂, _∙_}
 use native.Mathlib.Numerals.{add-one}
 use native.Mathlib.Omega.{arith}
@@ -29,7 +29,7 @@ unfolding lines
 lines-length [] = omega arith
 lines-length (n ∷ l) = simp length-append (omega (arith, decimal-length 20 n, lines-length l))
 
--- ---- at the front of a room
+-- ---- at the lines-front of a room
 
 module _ {b s b′ : List ℕ} {next : ℕ} (l : Laid b 0 s b′ next) where
   room-now : b′ ≡ s ++ drop (length s) b
@@ -39,8 +39,8 @@ module _ {b s b′ : List ℕ} {next : ℕ} (l : Laid b 0 s b′ next) where
   length-now : next ≡ length s
   length-now = omega (arith, l .next-is)
 
-  pub front : take next b′ ≡ s
-  front = ap₂ take length-now room-now ∙ take-at s (drop (length s) b) (length s) refl
+  pub lines-front : take next b′ ≡ s
+  lines-front = ap₂ take length-now room-now ∙ take-at s (drop (length s) b) (length s) refl
 
 -- ---- the two answers
 

@@ -9,7 +9,7 @@ use Rattle.tally.specs.declared.Tally.{Tally}
 use Rattle.tally.specs.declared.Answer.{Answer}
 use Rattle.tally.specs.declared.Answer.the-variants as Answer
 use Rattle.tally.specs.declared.Entered.{Entered}
-use Rattle.tally.specs.Tally.{named, roundsOf, placeOf, countedAt, spare}
+use Rattle.tally.specs.Tally.{isEntry, roundsOf, countPlace, countedAt, spare}
 
 -- the paper's number of an answer
 abbrev pub answerNumber : Answer → ℕ
@@ -23,6 +23,6 @@ turnedAway t e = record { tally = t; answer = Answer.Refused e }
 -- number 0 or one outside the table is NAME; else, after 4,294,967,295 accepted, LIMIT; else the entry is counted
 unfoldable pub enterOf : Tally → Entry → Entered
 enterOf t e =
-    cond (named e)
-    (cond (spare t (roundsOf e)) (record { tally = countedAt t (placeOf e) (roundsOf e); answer = Answer.Accepted }) (turnedAway t Limit))
+    cond (isEntry e)
+    (cond (spare t (roundsOf e)) (record { tally = countedAt t (countPlace e) (roundsOf e); answer = Answer.Accepted }) (turnedAway t Limit))
     (turnedAway t Name)

@@ -10,13 +10,13 @@ use Rattle.tally.specs.declared.Entry.the-variants.{Yes, No, Refused}
 use Rattle.tally.specs.declared.Tally.{Tally}
 use Rattle.tally.specs.declared.Answer.{Answer}
 use Rattle.tally.specs.declared.Answer.the-variants as Answer
-use Rattle.tally.specs.Tally.{mostAccepted, named, roundsOf, places, placeOf}
+use Rattle.tally.specs.Tally.{mostAccepted, isEntry, roundsOf, places, countPlace}
 use Rattle.tally.specs.Entered.{enterOf}
 
 -- the tally after a sequence of entries
-unfoldable pub after : Tally → List Entry → Tally
-after t [] = t
-after t (e ∷ h) = after (enterOf t e .tally) h
+unfoldable pub tallyAfter : Tally → List Entry → Tally
+tallyAfter t [] = t
+tallyAfter t (e ∷ h) = tallyAfter (enterOf t e .tally) h
 
 -- the entries that were accepted on the way
 abbrev pub isAccepted : Answer → Bool
@@ -28,24 +28,24 @@ acceptedFrom t [] = []
 acceptedFrom t (e ∷ h) = cond (isAccepted (enterOf t e .answer)) (e ∷ acceptedFrom (enterOf t e .tally) h) (acceptedFrom (enterOf t e .tally) h)
 
 -- the same from zero, without a tally: those that the table has, the first 4,294,967,295 of them
-unfoldable pub firstNamed : List Entry → List Entry
-firstNamed h = take mostAccepted (keep named h)
+unfoldable pub firstEntries : List Entry → List Entry
+firstEntries h = take mostAccepted (keep isEntry h)
 
 -- how many of a history have a place, the sum of its rounds, and the largest
-unfoldable pub countOf : List Entry → ℕ → ℕ
-countOf h place = length (keep (λ e. eqb (placeOf e) place) h)
+unfoldable pub countAt : List Entry → ℕ → ℕ
+countAt h place = length (keep (λ e. eqb (countPlace e) place) h)
 
-unfoldable pub sumOf : List Entry → ℕ
-sumOf [] = 0
-sumOf (e ∷ h) = roundsOf e + sumOf h
+unfoldable pub sumRounds : List Entry → ℕ
+sumRounds [] = 0
+sumRounds (e ∷ h) = roundsOf e + sumRounds h
 
-unfoldable pub largestOf : List Entry → ℕ
-largestOf [] = 0
-largestOf (e ∷ h) = max (roundsOf e) (largestOf h)
+unfoldable pub largestRounds : List Entry → ℕ
+largestRounds [] = 0
+largestRounds (e ∷ h) = max (roundsOf e) (largestRounds h)
 
 -- the sheet of a history of accepted entries
 unfoldable pub sheetOf : List Entry → Tally
-sheetOf h = record { counts = span (λ place. countOf h place ∷ []) 0 places; sum = sumOf h; largest = largestOf h }
+sheetOf h = record { counts = span (λ place. countAt h place ∷ []) 0 places; sum = sumRounds h; largest = largestRounds h }
 
 -- what is handed in: rounds of 4 bytes
 abbrev pub handedIn : Entry → ℕ

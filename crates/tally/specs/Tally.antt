@@ -18,10 +18,10 @@ abbrev pub inTable : ℕ → Bool
 inTable n = leb 1 n && leb n 11
 
 -- an entry is yes, no or a refusal number; 0 and a number outside the table are none
-abbrev pub named : Entry → Bool
-named (Yes r) = true
-named (No r) = true
-named (Refused n r) = inTable n
+abbrev pub isEntry : Entry → Bool
+isEntry (Yes r) = true
+isEntry (No r) = true
+isEntry (Refused n r) = inTable n
 
 -- the rounds that count: refusals but BUDGET count as 0, whatever is handed in
 abbrev pub roundsOf : Entry → ℕ
@@ -33,10 +33,10 @@ roundsOf (Refused n r) = cond (eqb n overBudget) r 0
 abbrev pub places : ℕ
 places = 13
 
-abbrev pub placeOf : Entry → ℕ
-placeOf (Yes r) = 0
-placeOf (No r) = 1
-placeOf (Refused n r) = n + 1
+abbrev pub countPlace : Entry → ℕ
+countPlace (Yes r) = 0
+countPlace (No r) = 1
+countPlace (Refused n r) = n + 1
 
 -- it starts at zero
 unfoldable pub atZero : Tally

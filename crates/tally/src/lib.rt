@@ -4,7 +4,7 @@ ghost use Prim.Native.Nat.{_+_, _≤_, _<_, _^_};
 ghost use lib.ListN.{length, getD};
 ghost use lib.Dec.{ltb};
 ghost use Rattle.wire.specs.Laid.{Laid};
-ghost use Rattle.tally.specs.Tally.{mostAccepted, named, roundsOf, placeOf, together, atZero, spare, countedAt};
+ghost use Rattle.tally.specs.Tally.{mostAccepted, isEntry, roundsOf, countPlace, together, atZero, spare, countedAt};
 ghost use Rattle.tally.specs.Entered.{answerNumber, enterOf};
 ghost use Rattle.tally.specs.Report.{lines, numbersOf, reportedNumber, reportedLength, reportedOf, reportRoom};
 use refusal::Refusal;
@@ -50,8 +50,8 @@ impl Answer {
 
 impl Entry {
     // Whether it is yes, no or a number of the table.
-    fn is_named(self) -> bool
-        ensures { λ r. ⌜ r ≡ named self ⌝ }
+    fn is_entry(self) -> bool
+        ensures { λ r. ⌜ r ≡ isEntry self ⌝ }
     {
         match self {
             Entry::Yes(_) => true,
@@ -62,7 +62,7 @@ impl Entry {
 
     // Which of the counts it goes into.
     fn place(self) -> usize
-        ensures { λ r. ⌜ r ≡ placeOf self ⌝ }
+        ensures { λ r. ⌜ r ≡ countPlace self ⌝ }
     {
         match self {
             Entry::Yes(_) => 0,
@@ -146,7 +146,7 @@ impl Tally {
     pub fn enter(self, entry: Entry) -> Entered
         ensures { λ r. ⌜ r ≡ enterOf self entry ⌝ }
     {
-        if !entry.is_named() {
+        if !entry.is_entry() {
             return Entered {
                 tally: self,
                 answer: Answer::Refused(Refusal::Name),
@@ -219,7 +219,7 @@ impl Reported {
     }
 }
 
-// Stores numbers in decimal at the front of a room, each ended by a line feed; returns the position past them.
+// Stores numbers in decimal at the lines-front of a room, each ended by a line feed; returns the position past them.
 fn put_lines(room: &mut [u8], numbers: &[u64]) -> usize
     requires { ⌜ length (lines (now numbers)) ≤ length (now room) ⌝ }
     ensures { λ r. ⌜ Laid (now (room .entry)) 0 (lines (now (numbers .entry))) (now (room .exit)) r ⌝ }

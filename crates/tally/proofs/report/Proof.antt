@@ -1,11 +1,9 @@
--- `tally::report` meets its contract: the lines are made in a room that holds any, then ROOM, then they are stored from the front.
-use Prim.Native.Nat.{_≤_}
-use mathlib.Core.List.{List}
+-- `tally::report` meets its contract: the lines are made in a room that holds any, then ROOM, then they are stored from the lines-front.
 use mathlib.Core.Path.{_≡_, refl, sym, ap}
 use native.Mathlib.Omega.{arith}
-use lib.ListN.{length, length-take}
-use Rattle.wire.proofs.Laid.{said, same-length as kept-length}
-use Rattle.tally.proofs.Lines.{lines-length, front, no-room, written}
+use lib.ListN.{length}
+use Rattle.wire.proofs.Laid.{said}
+use Rattle.tally.proofs.Lines.{lines-length, lines-front, no-room, written}
 use borrow.Author.Needs.{needs}
 use Rattle.tally.proofs.report.Statement.{statement}
 use Rattle.tally.proofs.report.Tie as tie
@@ -30,12 +28,12 @@ array-share-prefix-text c = search needs
 slice-aggregate-put-word : tie.Need-slice-aggregate-put-word
 slice-aggregate-put-word c =
     let put = c .before .before .before .before .put-lines in
-    omega (arith, ap length (front (put .ensures)), put .ensures .next-is)
+    omega (arith, ap length (lines-front (put .ensures)), put .ensures .next-is)
 
 put-word-requires : tie.Need-put-word-requires
 put-word-requires c κs =
     let put = c .before .before .before .before .put-lines in
-    omega (arith, ap length (front (put .ensures)), put .ensures .next-is)
+    omega (arith, ap length (lines-front (put .ensures)), put .ensures .next-is)
 
 same-length : tie.Need-same-length
 same-length c = search needs
@@ -44,7 +42,7 @@ returns-2 : tie.Need-returns-2
 returns-2 c =
     let a = c .before .before .before .before .before .before .before .before .before .before .before .args in
     let put = c .before .before .before .before .before .before .before .put-lines in
-    written (a .numbers .now) (a .room .now) (said (c .before .before .put-word .ensures) (sym (front (put .ensures))) refl refl)
+    written (a .numbers .now) (a .room .now) (said (c .before .before .put-word .ensures) (sym (lines-front (put .ensures))) refl refl)
 
 pub report-spec : {M : Type 1} → statement M
 report-spec =

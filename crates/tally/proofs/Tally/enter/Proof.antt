@@ -8,26 +8,26 @@ use borrow.Author.Tests.{not-true, not-false}
 use Rattle.lists.proofs.Tests.{by}
 use Rattle.tally.specs.declared.Tally.{Tally}
 use Rattle.tally.specs.declared.Answer.the-variants as Answer
-use Rattle.tally.specs.Tally.{named, roundsOf, placeOf, spare, countedAt}
+use Rattle.tally.specs.Tally.{isEntry, roundsOf, countPlace, spare, countedAt}
 use Rattle.tally.proofs.Counting.{one-of}
-use Rattle.tally.proofs.Answers.{placed, spare-counts, spare-fits, not-named, at-end, taken}
+use Rattle.tally.proofs.Answers.{has-place, spare-counts, spare-fits, no-entry, at-end, entry-counted}
 use borrow.Author.Needs.{needs}
 use Rattle.tally.proofs.Tally.enter.Statement.{statement}
 use Rattle.tally.proofs.Tally.enter.Tie as tie
 
-is-named-requires : tie.Need-is-named-requires
-is-named-requires c κs = search needs
+is-entry-requires : tie.Need-is-entry-requires
+is-entry-requires c κs = search needs
 
 -- what the tests showed
-is-one : (c : tie.After-is-named) → c .is-named .result ≡ true → named (c .before .args .entry) ≡ true
-is-one c h = by (c .is-named .ensures) h
+is-one : (c : tie.After-is-entry) → c .is-entry .result ≡ true → isEntry (c .before .args .entry) ≡ true
+is-one c h = by (c .is-entry .ensures) h
 
 -- whether there was room, by the rounds of the entry
 room : (c : tie.After-has-spare) → c .has-spare .result ≡ spare (c .before .before .before .before .args .self) (roundsOf (c .before .before .before .before .args .entry))
 room c = c .has-spare .ensures ∙ ap (spare (c .before .before .before .before .args .self)) (c .before .rounds .ensures)
 
 returns : tie.Need-returns
-returns c = sym (not-named _ _ (by (c .before .is-named .ensures) (not-true _ (c .if1 .taken))))
+returns c = sym (no-entry _ _ (by (c .before .is-entry .ensures) (not-true _ (c .if1 .taken))))
 
 rounds-requires : tie.Need-rounds-requires
 rounds-requires c κs = search needs
@@ -38,8 +38,8 @@ has-spare-requires c κs = search needs
 returns-2 : tie.Need-returns-2
 returns-2 c =
     let tested = c .before in
-    let named-here = tested .before .before in
-    sym (at-end _ _ (is-one (named-here .before) (not-false _ (named-here .if1 .left))) (by (room tested) (not-true _ (c .if2 .taken))))
+    let entry-here = tested .before .before in
+    sym (at-end _ _ (is-one (entry-here .before) (not-false _ (entry-here .if1 .left))) (by (room tested) (not-true _ (c .if2 .taken))))
 
 place-requires : tie.Need-place-requires
 place-requires c κs = search needs
@@ -49,9 +49,9 @@ counted-requires c κs =
     let tested = c .before .before in
     let start = tested .before .before .before .before in
     let size : length (start .args .self .counts) ≡ 13 = search needs in
-    let is-named = is-one (tested .before .before .before) (not-false _ (tested .before .before .if1 .left)) in
+    let is-entry = is-one (tested .before .before .before) (not-false _ (tested .before .before .if1 .left)) in
     let spare-here = by (room tested) (not-false _ (c .before .if2 .left)) in
-    let inside : c .place .result < 13 = omega (arith, placed (start .args .entry) is-named, c .place .ensures) in (
+    let inside : c .place .result < 13 = omega (arith, has-place (start .args .entry) is-entry, c .place .ensures) in (
       inside,
       omega (arith, spare-counts _ _ spare-here, one-of (start .args .self .counts) (c .place .result) (omega arith)),
       omega (arith, spare-fits _ _ spare-here, tested .before .rounds .ensures),
@@ -60,18 +60,18 @@ counted-requires c κs =
 returns-3 : tie.Need-returns-3
 returns-3 c =
     let tested = c .before .before .before in
-    let named-here = tested .before .before in
-    let a = named-here .before .before .args in
-    let same : c .counted .result ≡ countedAt (a .self) (placeOf (a .entry)) (roundsOf (a .entry)) =
+    let entry-here = tested .before .before in
+    let a = entry-here .before .before .args in
+    let same : c .counted .result ≡ countedAt (a .self) (countPlace (a .entry)) (roundsOf (a .entry)) =
     c .counted .ensures ∙ ap₂ (countedAt (a .self)) (c .before .place .ensures) (tested .before .rounds .ensures) in
     ap (λ (t : Tally). record { tally = t; answer = Answer.Accepted }) same
-    ∙ sym (taken _ _ (is-one (named-here .before) (not-false _ (named-here .if1 .left))) (by (room tested) (not-false _ (c .before .before .if2 .left))))
+    ∙ sym (entry-counted _ _ (is-one (entry-here .before) (not-false _ (entry-here .if1 .left))) (by (room tested) (not-false _ (c .before .before .if2 .left))))
 
 pub enter-spec : {M : Type 1} → statement M
 enter-spec =
     tie.close
     (tie.spec
-    is-named-requires
+    is-entry-requires
     returns
     rounds-requires
     has-spare-requires

@@ -1,11 +1,8 @@
--- `Entry::is_named` meets its contract: a refusal's number is tested from both ends.
-use mathlib.Core.Path.{ap, sym, _∙_}
-use lib.Dec.{leb}
+-- `Entry::is_entry` meets its contract: a refusal's number is tested from both ends.
 use borrow.Author.Needs.{needs}
 use borrow.Author.Tests.{le-leb, lt-leb}
-use Rattle.tally.specs.Tally.{named}
-use Rattle.tally.proofs.Entry.is_named.Statement.{statement}
-use Rattle.tally.proofs.Entry.is_named.Tie as tie
+use Rattle.tally.proofs.Entry.is_entry.Statement.{statement}
+use Rattle.tally.proofs.Entry.is_entry.Tie as tie
 
 enum-told : tie.Need-enum-told
 enum-told c = search needs
@@ -28,7 +25,7 @@ returns-3 c = rw (c .before .before .self .given .1, le-leb 1 _ (c .if1 .taken))
 returns-4 : tie.Need-returns-4
 returns-4 c = rw (c .before .before .self .given .1, lt-leb 1 _ (c .if1 .left))
 
-pub is-named-spec : {M : Type 1} → statement M
-is-named-spec =
+pub is-entry-spec : {M : Type 1} → statement M
+is-entry-spec =
     tie.close
     (tie.spec enum-told enum-told-2 enum-known-self returns returns-2 returns-3 returns-4)
