@@ -11,7 +11,7 @@ use Rattle.tally.specs.declared.Entry.{Entry}
 use Rattle.tally.specs.declared.Entry.the-variants.{Yes, No, Refused}
 use Rattle.tally.specs.declared.Tally.{Tally}
 use Rattle.tally.specs.declared.Answer.the-variants as Answer
-use Rattle.tally.specs.Tally.{mostAccepted, isEntry, roundsOf, places, countPlace, together, countedAt, spare}
+use Rattle.tally.specs.Tally.{mostAccepted, isEntry, roundsOf, places, countPlace, together, countedAt, takesMore}
 use Rattle.tally.specs.Entered.{turnedAway, enterOf}
 
 -- an entry of the table has a place
@@ -29,22 +29,22 @@ sum-test sum rounds h =
     (λ e. le-leb rounds (18446744073709551615 - sum) (omega (arith, ltb-true (sum + rounds) (2 ^ 64) e)) ∙ sym e)
     (λ e. lt-leb rounds (18446744073709551615 - sum) (omega (arith, ltb-false (sum + rounds) (2 ^ 64) e)) ∙ sym e)
 
-pub spare-none : (t : Tally) (rounds : ℕ) → ltb (together (t .counts)) mostAccepted ≡ false → spare t rounds ≡ false
-unfolding spare
-spare-none t rounds e = rw e
+pub takes-none : (t : Tally) (rounds : ℕ) → ltb (together (t .counts)) mostAccepted ≡ false → takesMore t rounds ≡ false
+unfolding takesMore
+takes-none t rounds e = rw e
 
-pub spare-sum : (t : Tally) (rounds : ℕ) → ltb (together (t .counts)) mostAccepted ≡ true → spare t rounds ≡ ltb (t .sum + rounds) (2 ^ 64)
-unfolding spare
-spare-sum t rounds e = rw e
+pub takes-sum : (t : Tally) (rounds : ℕ) → ltb (together (t .counts)) mostAccepted ≡ true → takesMore t rounds ≡ ltb (t .sum + rounds) (2 ^ 64)
+unfolding takesMore
+takes-sum t rounds e = rw e
 
 -- what room says
-pub spare-counts : (t : Tally) (rounds : ℕ) → spare t rounds ≡ true → together (t .counts) < mostAccepted
-unfolding spare
-spare-counts t rounds e = ltb-true _ _ (and-left (ltb (together (t .counts)) mostAccepted) (ltb (t .sum + rounds) (2 ^ 64)) e)
+pub takes-counts : (t : Tally) (rounds : ℕ) → takesMore t rounds ≡ true → together (t .counts) < mostAccepted
+unfolding takesMore
+takes-counts t rounds e = ltb-true _ _ (and-left (ltb (together (t .counts)) mostAccepted) (ltb (t .sum + rounds) (2 ^ 64)) e)
 
-pub spare-fits : (t : Tally) (rounds : ℕ) → spare t rounds ≡ true → t .sum + rounds < 2 ^ 64
-unfolding spare
-spare-fits t rounds e = ltb-true _ _ (and-right (ltb (together (t .counts)) mostAccepted) (ltb (t .sum + rounds) (2 ^ 64)) e)
+pub takes-fits : (t : Tally) (rounds : ℕ) → takesMore t rounds ≡ true → t .sum + rounds < 2 ^ 64
+unfolding takesMore
+takes-fits t rounds e = ltb-true _ _ (and-right (ltb (together (t .counts)) mostAccepted) (ltb (t .sum + rounds) (2 ^ 64)) e)
 
 -- ---- the three answers
 
@@ -53,10 +53,10 @@ module _ (t : Tally) (e : Entry) where
   unfolding enterOf
   no-entry h = rw h
 
-  pub at-end : isEntry e ≡ true → spare t (roundsOf e) ≡ false → enterOf t e ≡ turnedAway t Limit
+  pub at-end : isEntry e ≡ true → takesMore t (roundsOf e) ≡ false → enterOf t e ≡ turnedAway t Limit
   unfolding enterOf
   at-end h k = rw (h, k)
 
-  pub entry-counted : isEntry e ≡ true → spare t (roundsOf e) ≡ true → enterOf t e ≡ record { tally = countedAt t (countPlace e) (roundsOf e); answer = Answer.Accepted }
+  pub entry-counted : isEntry e ≡ true → takesMore t (roundsOf e) ≡ true → enterOf t e ≡ record { tally = countedAt t (countPlace e) (roundsOf e); answer = Answer.Accepted }
   unfolding enterOf
   entry-counted h k = rw (h, k)

@@ -17,11 +17,11 @@ use Rattle.tally.specs.declared.Tally.{Tally}
 use Rattle.tally.specs.declared.Answer.{Answer}
 use Rattle.tally.specs.declared.Answer.the-variants as Answer
 use Rattle.tally.specs.declared.Entered.{Entered}
-use Rattle.tally.specs.Tally.{mostAccepted, isEntry, roundsOf, places, atZero, together, spare}
+use Rattle.tally.specs.Tally.{mostAccepted, isEntry, roundsOf, places, atZero, together, takesMore}
 use Rattle.tally.specs.Entered.{turnedAway, enterOf}
 use Rattle.tally.specs.History.{tallyAfter, isAccepted, acceptedFrom, firstEntries, countAt, sumRounds, largestRounds, sheetOf, handedIn, FourBytes}
 use Rattle.tally.proofs.Spelled.{spread-at}
-use Rattle.tally.proofs.Answers.{spare-none, spare-sum, no-entry, at-end, entry-counted}
+use Rattle.tally.proofs.Answers.{takes-none, takes-sum, no-entry, at-end, entry-counted}
 use Rattle.tally.proofs.Sheets.{Fine, fine-last, counts-together, rounds-small, sum-small, sheet-none, sheet-last}
 
 -- ---- a sheet has room exactly while fewer than the most are on it
@@ -36,13 +36,13 @@ module _ (h : List Entry) (f : Fine h) where
   unfolding sheetOf
   sheet-sum room = omega (arith, sum-small h f)
 
-  has-spare : (rounds : ℕ) → rounds < 2 ^ 32 → length h < mostAccepted → spare (sheetOf h) rounds ≡ true
-  has-spare rounds small room =
-      spare-sum (sheetOf h) rounds (lt-ltb (together (sheetOf h .counts)) mostAccepted (omega (arith, sheet-together)))
+  takes-more : (rounds : ℕ) → rounds < 2 ^ 32 → length h < mostAccepted → takesMore (sheetOf h) rounds ≡ true
+  takes-more rounds small room =
+      takes-sum (sheetOf h) rounds (lt-ltb (together (sheetOf h .counts)) mostAccepted (omega (arith, sheet-together)))
       ∙ lt-ltb (sheetOf h .sum + rounds) (2 ^ 64) (omega (arith, sheet-sum (omega arith)))
 
-  no-spare : (rounds : ℕ) → mostAccepted ≤ length h → spare (sheetOf h) rounds ≡ false
-  no-spare rounds full = spare-none (sheetOf h) rounds (le-ltb (together (sheetOf h .counts)) mostAccepted (omega (arith, sheet-together)))
+  takes-no-more : (rounds : ℕ) → mostAccepted ≤ length h → takesMore (sheetOf h) rounds ≡ false
+  takes-no-more rounds full = takes-none (sheetOf h) rounds (le-ltb (together (sheetOf h .counts)) mostAccepted (omega (arith, sheet-together)))
 
 -- ---- from a sheet on
 
@@ -112,14 +112,14 @@ led (e ∷ h) before f room small =
     by-test (ltb (length before) mostAccepted)
     (λ more.
     let below = ltb-true (length before) mostAccepted more in
-    let here = entry-counted (sheetOf before) e n (has-spare before f (roundsOf e) (omega (arith, rounds-small e, small .0)) below) in
+    let here = entry-counted (sheetOf before) e n (takes-more before f (roundsOf e) (omega (arith, rounds-small e, small .0)) below) in
     rw (rest-more before e h n below)
     (led-on (sheetOf before) (sheetOf (before ++ (e ∷ []))) e h before (rest (before ++ (e ∷ [])) h)
     (here ∙ ap (λ (t : Tally). record { tally = t; answer = Answer.Accepted }) (sym (sheet-last before e n)))
     (led h (before ++ (e ∷ [])) (fine-last before e f n (small .0)) (omega (arith, length-append before (e ∷ []))) (small .1))))
     (λ full.
     let none = ltb-false (length before) mostAccepted full in
-    let away = led-away (sheetOf before) e h before (rest before h) Limit (at-end (sheetOf before) e n (no-spare before f (roundsOf e) none)) (led h before f room (small .1)) in
+    let away = led-away (sheetOf before) e h before (rest before h) Limit (at-end (sheetOf before) e n (takes-no-more before f (roundsOf e) none)) (led h before f room (small .1)) in
     rw (rest-full before (e ∷ h) none) (rw (rest-full before h none) at away)))
     (λ n. rw (rest-away before e h n) (led-away (sheetOf before) e h before (rest before h) Name (no-entry (sheetOf before) e n) (led h before f room (small .1))))
 
@@ -195,10 +195,10 @@ module _ (h : List Entry) (small : FourBytes h) where
       (λ n.
       by-test (ltb (length seen) mostAccepted)
       (λ more.
-      let room = has-spare seen accepted-fine (roundsOf e) (omega (arith, rounds-small e)) (ltb-true (length seen) mostAccepted more) in
+      let room = takes-more seen accepted-fine (roundsOf e) (omega (arith, rounds-small e)) (ltb-true (length seen) mostAccepted more) in
       rw (after-sheet, entry-counted (sheetOf seen) e n room, n, more))
       (λ full.
-      let room = no-spare seen accepted-fine (roundsOf e) (ltb-false (length seen) mostAccepted full) in
+      let room = takes-no-more seen accepted-fine (roundsOf e) (ltb-false (length seen) mostAccepted full) in
       rw (after-sheet, at-end (sheetOf seen) e n room, n, full)))
       (λ n. rw (no-entry (tallyAfter atZero h) e n, n))
 
@@ -209,7 +209,7 @@ pub refused-stays : (t : Tally) (e : Entry) → isAccepted (enterOf t e .answer)
 refused-stays t e away =
     by-test (isEntry e)
     (λ n.
-    by-test (spare t (roundsOf e))
+    by-test (takesMore t (roundsOf e))
     (λ room. clash (ap (λ (s : Entered). isAccepted (s .answer)) (entry-counted t e n room)) away)
     (λ none. ap (λ (s : Entered). s .tally) (at-end t e n none)))
     (λ n. ap (λ (s : Entered). s .tally) (no-entry t e n))

@@ -9,7 +9,7 @@ use Rattle.tally.specs.declared.Tally.{Tally}
 use Rattle.tally.specs.declared.Answer.{Answer}
 use Rattle.tally.specs.declared.Answer.the-variants as Answer
 use Rattle.tally.specs.declared.Entered.{Entered}
-use Rattle.tally.specs.Tally.{isEntry, roundsOf, countPlace, countedAt, spare}
+use Rattle.tally.specs.Tally.{isEntry, roundsOf, countPlace, countedAt, takesMore}
 
 -- the paper's number of an answer
 abbrev pub answerNumber : Answer → ℕ
@@ -24,5 +24,5 @@ turnedAway t e = record { tally = t; answer = Answer.Refused e }
 unfoldable pub enterOf : Tally → Entry → Entered
 enterOf t e =
     cond (isEntry e)
-    (cond (spare t (roundsOf e)) (record { tally = countedAt t (countPlace e) (roundsOf e); answer = Answer.Accepted }) (turnedAway t Limit))
+    (cond (takesMore t (roundsOf e)) (record { tally = countedAt t (countPlace e) (roundsOf e); answer = Answer.Accepted }) (turnedAway t Limit))
     (turnedAway t Name)

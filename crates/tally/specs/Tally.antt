@@ -13,15 +13,15 @@ use Rattle.tally.specs.declared.Tally.{Tally}
 abbrev pub mostAccepted : ℕ
 mostAccepted = 4294967295
 
--- the table of refusals: 1 to 11, 7 too
-abbrev pub inTable : ℕ → Bool
-inTable n = leb 1 n && leb n 11
+-- the table of refusals as it stands: from 1 up to here, 7 too
+abbrev pub lastNumber : ℕ
+lastNumber = 11
 
 -- an entry is yes, no or a refusal number; 0 and a number outside the table are none
 abbrev pub isEntry : Entry → Bool
 isEntry (Yes r) = true
 isEntry (No r) = true
-isEntry (Refused n r) = inTable n
+isEntry (Refused n r) = leb 1 n && leb n lastNumber
 
 -- the rounds that count: refusals but BUDGET count as 0, whatever is handed in
 abbrev pub roundsOf : Entry → ℕ
@@ -31,7 +31,7 @@ roundsOf (Refused n r) = cond (eqb n overBudget) r 0
 
 -- how many counts there are, and the place of each: yes, no, then the refusal numbers from 1 up
 abbrev pub places : ℕ
-places = 13
+places = 2 + lastNumber
 
 abbrev pub countPlace : Entry → ℕ
 countPlace (Yes r) = 0
@@ -53,5 +53,5 @@ countedAt t at rounds = record { counts = set (t .counts) at (getD (t .counts) a
 
 -- the most is not yet counted. A tally that began at zero has room for any sum (`sum-fits`); one that did not is at its end too where
 -- its sum would pass 64 bits
-unfoldable pub spare : Tally → ℕ → Bool
-spare t rounds = ltb (together (t .counts)) mostAccepted && ltb (t .sum + rounds) (2 ^ 64)
+unfoldable pub takesMore : Tally → ℕ → Bool
+takesMore t rounds = ltb (together (t .counts)) mostAccepted && ltb (t .sum + rounds) (2 ^ 64)

@@ -4,7 +4,7 @@ ghost use Prim.Native.Nat.{_+_, _≤_, _<_, _^_};
 ghost use lib.ListN.{length, getD};
 ghost use lib.Dec.{ltb};
 ghost use Rattle.wire.specs.Laid.{Laid};
-ghost use Rattle.tally.specs.Tally.{mostAccepted, isEntry, roundsOf, countPlace, together, atZero, spare, countedAt};
+ghost use Rattle.tally.specs.Tally.{mostAccepted, isEntry, roundsOf, countPlace, together, atZero, takesMore, countedAt};
 ghost use Rattle.tally.specs.Entered.{answerNumber, enterOf};
 ghost use Rattle.tally.specs.Report.{lines, numbersOf, reportedNumber, reportedLength, reportedOf, reportRoom};
 use refusal::Refusal;
@@ -118,8 +118,8 @@ impl Tally {
     }
 
     // Whether one entry more with these rounds can be counted.
-    fn has_spare(self, rounds: u64) -> bool
-        ensures { λ r. ⌜ r ≡ spare self rounds ⌝ }
+    fn takes_more(self, rounds: u64) -> bool
+        ensures { λ r. ⌜ r ≡ takesMore self rounds ⌝ }
     {
         let counts = self.counts;
         if !below_most(counts) {
@@ -153,7 +153,7 @@ impl Tally {
             };
         }
         let rounds = entry.rounds();
-        if !self.has_spare(rounds) {
+        if !self.takes_more(rounds) {
             return Entered {
                 tally: self,
                 answer: Answer::Refused(Refusal::Limit),

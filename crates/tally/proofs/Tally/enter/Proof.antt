@@ -8,9 +8,9 @@ use borrow.Author.Tests.{not-true, not-false}
 use Rattle.lists.proofs.Tests.{by}
 use Rattle.tally.specs.declared.Tally.{Tally}
 use Rattle.tally.specs.declared.Answer.the-variants as Answer
-use Rattle.tally.specs.Tally.{isEntry, roundsOf, countPlace, spare, countedAt}
+use Rattle.tally.specs.Tally.{isEntry, roundsOf, countPlace, takesMore, countedAt}
 use Rattle.tally.proofs.Counting.{one-of}
-use Rattle.tally.proofs.Answers.{has-place, spare-counts, spare-fits, no-entry, at-end, entry-counted}
+use Rattle.tally.proofs.Answers.{has-place, takes-counts, takes-fits, no-entry, at-end, entry-counted}
 use borrow.Author.Needs.{needs}
 use Rattle.tally.proofs.Tally.enter.Statement.{statement}
 use Rattle.tally.proofs.Tally.enter.Tie as tie
@@ -23,8 +23,8 @@ is-one : (c : tie.After-is-entry) → c .is-entry .result ≡ true → isEntry (
 is-one c h = by (c .is-entry .ensures) h
 
 -- whether there was room, by the rounds of the entry
-room : (c : tie.After-has-spare) → c .has-spare .result ≡ spare (c .before .before .before .before .args .self) (roundsOf (c .before .before .before .before .args .entry))
-room c = c .has-spare .ensures ∙ ap (spare (c .before .before .before .before .args .self)) (c .before .rounds .ensures)
+room : (c : tie.After-takes-more) → c .takes-more .result ≡ takesMore (c .before .before .before .before .args .self) (roundsOf (c .before .before .before .before .args .entry))
+room c = c .takes-more .ensures ∙ ap (takesMore (c .before .before .before .before .args .self)) (c .before .rounds .ensures)
 
 returns : tie.Need-returns
 returns c = sym (no-entry _ _ (by (c .before .is-entry .ensures) (not-true _ (c .if1 .taken))))
@@ -32,8 +32,8 @@ returns c = sym (no-entry _ _ (by (c .before .is-entry .ensures) (not-true _ (c 
 rounds-requires : tie.Need-rounds-requires
 rounds-requires c κs = search needs
 
-has-spare-requires : tie.Need-has-spare-requires
-has-spare-requires c κs = search needs
+takes-more-requires : tie.Need-takes-more-requires
+takes-more-requires c κs = search needs
 
 returns-2 : tie.Need-returns-2
 returns-2 c =
@@ -50,11 +50,11 @@ counted-requires c κs =
     let start = tested .before .before .before .before in
     let size : length (start .args .self .counts) ≡ 13 = search needs in
     let is-entry = is-one (tested .before .before .before) (not-false _ (tested .before .before .if1 .left)) in
-    let spare-here = by (room tested) (not-false _ (c .before .if2 .left)) in
+    let takes-here = by (room tested) (not-false _ (c .before .if2 .left)) in
     let inside : c .place .result < 13 = omega (arith, has-place (start .args .entry) is-entry, c .place .ensures) in (
       inside,
-      omega (arith, spare-counts _ _ spare-here, one-of (start .args .self .counts) (c .place .result) (omega arith)),
-      omega (arith, spare-fits _ _ spare-here, tested .before .rounds .ensures),
+      omega (arith, takes-counts _ _ takes-here, one-of (start .args .self .counts) (c .place .result) (omega arith)),
+      omega (arith, takes-fits _ _ takes-here, tested .before .rounds .ensures),
     )
 
 returns-3 : tie.Need-returns-3
@@ -74,7 +74,7 @@ enter-spec =
     is-entry-requires
     returns
     rounds-requires
-    has-spare-requires
+    takes-more-requires
     returns-2
     place-requires
     counted-requires
