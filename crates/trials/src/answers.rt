@@ -292,8 +292,5 @@ pub fn entries(body: &[u8]) -> Line
     if !is_message(wire::number_at(body, 0, Width::Four), message) {
         return Line::new();
     }
-    if !sheet::are_entries(message) {
-        return Line::new();
-    }
-    sheet::line(sheet::note_all(message))
+    sheet::line(message)
 }

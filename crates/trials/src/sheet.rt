@@ -9,14 +9,14 @@ use tally::Tally;
 use wire::Width;
 
 // The tally after the entries, how many were accepted, and the sum of the numbers that were answered.
-pub struct Sheet {
-    pub tally: Tally,
-    pub accepted: u64,
-    pub answers: u32,
+struct Sheet {
+    tally: Tally,
+    accepted: u64,
+    answers: u32,
 }
 
 // Whether the message is entries, each of a kind that there is.
-pub fn are_entries(s: &[u8]) -> bool {
+fn are_entries(s: &[u8]) -> bool {
     if s.len() % 6 != 0 {
         return false;
     }
@@ -64,7 +64,7 @@ fn note(sheet: Sheet, entry: Entry) -> Sheet {
 }
 
 // All entries, into one tally that starts at zero.
-pub fn note_all(s: &[u8]) -> Sheet {
+fn note_all(s: &[u8]) -> Sheet {
     let count = s.len() / 6;
     let mut sheet = Sheet {
         tally: Tally::zero(),
@@ -81,7 +81,7 @@ pub fn note_all(s: &[u8]) -> Sheet {
 }
 
 // How many were accepted, the sum of the answers, and the numbers of the report.
-pub fn line(sheet: Sheet) -> Line
+fn sheet_line(sheet: Sheet) -> Line
     ensures { λ r. ⌜ Sound r ⌝ }
 {
     let tally = sheet.tally;
@@ -96,4 +96,14 @@ pub fn line(sheet: Sheet) -> Line
         i += 1;
     }
     line
+}
+
+// The line of a message of entries; an empty one where it is none.
+pub fn line(message: &[u8]) -> Line
+    ensures { λ r. ⌜ Sound r ⌝ }
+{
+    if !are_entries(message) {
+        return Line::new();
+    }
+    sheet_line(note_all(message))
 }

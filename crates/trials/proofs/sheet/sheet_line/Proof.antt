@@ -1,9 +1,9 @@
--- `sheet::line` meets its contract: the line stays sound, number by number.
+-- `sheet::sheet_line` meets its contract: the line stays sound, number by number.
 use Prim.Native.Nat.{_-_, _≤_}
 use Rattle.trials.specs.Lines.{Sound}
 use borrow.Author.Needs.{needs}
-use Rattle.trials.proofs.sheet.line.Statement.{statement}
-use Rattle.trials.proofs.sheet.line.Tie as tie
+use Rattle.trials.proofs.sheet.sheet_line.Statement.{statement}
+use Rattle.trials.proofs.sheet.sheet_line.Tie as tie
 
 abbrev Inv-loop : tie.InvT-loop
 Inv-loop numbers line₀ i₀ line i = (i ≤ 15) × Sound line
@@ -50,8 +50,8 @@ loop-again c = search needs
 returns : tie.Need-returns Inv-loop μ-loop
 returns c = search needs
 
-pub line-spec : {M : Type 1} → statement M
-line-spec =
+pub sheet-line-spec : {M : Type 1} → statement M
+sheet-line-spec =
     tie.close
     (tie.spec
     Inv-loop
