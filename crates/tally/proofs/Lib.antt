@@ -6,6 +6,7 @@
 --     History    a tally that began at zero is the sheet of what was accepted
 --     Lines      the lines of the report, and the answer in each case
 --     Tells      the report determines the tally
+--     Known      known sheets
 --     One        one answer of each public function
 pub mod Spelled
 pub mod Counting
@@ -14,4 +15,5 @@ pub mod Sheets
 pub mod History
 pub mod Lines
 pub mod Tells
+pub mod Known
 pub mod One
