@@ -21,6 +21,7 @@ ENTRIES = {
     "formula": ("check",),
     "rounds": ("solve",),
     "text": ("text",),
+    "tally": ("report",),
     "build": (),
     "verdict": ("decide", "settle", "graph", "nodes"),
     "report": ("report", "program"),
