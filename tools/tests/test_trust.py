@@ -20,6 +20,7 @@ ENTRIES = {
     "model": ("check",),
     "formula": ("check",),
     "rounds": ("solve",),
+    "claims": ("check", "write"),
     "text": ("text",),
     "tally": ("report",),
     "build": (),

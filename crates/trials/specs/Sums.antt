@@ -1,5 +1,7 @@
 -- Adler-32 sums: two halves below 65,521, the lower one starting from 1.
-use Prim.Native.Nat.{ℕ, _+_, _*_, _/_, _%_}
+use Prim.Native.Nat.{ℕ, suc, _+_, _*_, _/_, _%_}
+use mathlib.Core.Bool.{cond}
+use lib.Dec.{ltb}
 use mathlib.Core.List.{List, [], _∷_, _++_}
 use Rattle.wire.specs.Bytes.{bytes}
 
@@ -24,3 +26,8 @@ adler s = afterAll 1 s
 unfoldable pub wide : ℕ → List ℕ → List ℕ
 wide k [] = []
 wide k (n ∷ ns) = bytes k n ++ wide k ns
+
+-- of claims from byte i on, those bytes that are the first 8 of their 16
+unfoldable pub claimedValues : ℕ → List ℕ → List ℕ
+claimedValues i [] = []
+claimedValues i (x ∷ xs) = cond (ltb (i % 16) 8) (x ∷ claimedValues (suc i) xs) (claimedValues (suc i) xs)

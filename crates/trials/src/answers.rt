@@ -359,7 +359,7 @@ fn certify_in(message: &[u8], room: &mut [u8], words: &mut [u64]) -> Line
     let written = claims::write(message, room, words);
     let lent = sums::of_values(words);
     match written {
-        claims::Written::Claims => certified_line(message, room, words, lent),
+        claims::Written::Claims => certified(message, room, lent),
         claims::Written::Refused(e) => checked_line(b'W', e.number(), e.offset)
             .text(b" none")
             .sum(1)
@@ -368,28 +368,30 @@ fn certify_in(message: &[u8], room: &mut [u8], words: &mut [u64]) -> Line
     }
 }
 
-// What the checker says of the claims, the sum of the claimed values, that of the rest of their room, and that of the words before they
-// are used to gather the values. Claims were written, so the graph is accepted and both rooms are long enough.
-fn certified_line(message: &[u8], room: &[u8], words: &mut [u64], lent: u32) -> Line
+// Claims were written, so the graph is accepted, and the room holds its claims and what is behind them.
+fn certified(message: &[u8], room: &[u8], lent: u32) -> Line
     ensures { λ r. ⌜ Sound r ⌝ }
 {
     let graph::Checked::Graph(nodes, _, _, _) = graph::check(message) else {
         return Line::new();
     };
-    let n = nodes as usize;
-    let long = n * claims::CLAIM;
+    let long = (nodes as usize) * claims::CLAIM;
     if room.len() < long {
         return Line::new();
     }
-    if words.len() < n {
-        return Line::new();
-    }
-    let judged = claims::check(message, &room[..long]);
-    rooms::gather(room, &mut words[..n]);
-    let values = sums::of_values(&words[..n]);
+    let rest = sums::of_bytes(&room[long..]);
+    certified_line(message, &room[..long], rest, lent)
+}
+
+// What the checker says of the claims, the sum of the claimed values, that of the rest of their room, and that of the words.
+fn certified_line(message: &[u8], claimed: &[u8], rest: u32, lent: u32) -> Line
+    ensures { λ r. ⌜ Sound r ⌝ }
+{
+    let judged = claims::check(message, claimed);
+    let values = sums::of_claimed(claimed);
     judged_word(checked_line(b'W', 0, 0), judged)
         .sum(values)
-        .sum(sums::of_bytes(&room[long..]))
+        .sum(rest)
         .sum(lent)
 }
 

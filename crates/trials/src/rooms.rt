@@ -1,7 +1,5 @@
 // The rooms that calls are lent: fronts of what the program has, filled afresh.
-ghost use Prim.Native.Nat.{_+_, _*_, _%_, _≤_};
-ghost use lib.ListN.{length};
-ghost use Rattle.wire.specs.Bytes.{number};
+ghost use Prim.Native.Nat.{_+_, _%_};
 ghost use Rattle.io.specs.Counts.{Counts};
 ghost use Rattle.trials.specs.Rooms.{Each};
 
@@ -58,19 +56,6 @@ pub fn fill_words(room: &mut [u32])
     let mut i = 0;
     while i < room.len() {
         room[i] = ((i + 1) % 4294967296) as u32;
-        i += 1;
-    }
-}
-
-// Number i is the value that is claimed of node i.
-pub fn gather(claimed: &[u8], room: &mut [u64])
-    requires { ⌜ length (now room) * 16 ≤ length (now claimed) ⌝ }
-    ensures { λ _. ⌜ Each (λ i. number 8 (now (claimed .entry)) (i * 16)) (now (room .exit)) ⌝ }
-{
-    let mut i = 0;
-    while i < room.len() {
-        let at = i * claims::CLAIM;
-        room[i] = wire::long_at(claimed, at);
         i += 1;
     }
 }

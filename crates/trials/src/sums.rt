@@ -1,7 +1,7 @@
 // Adler-32 sums of rooms.
 ghost use mathlib.Core.Path.{_≡_};
 ghost use Rattle.wire.specs.Bytes.{bytes};
-ghost use Rattle.trials.specs.Sums.{after, afterAll, adler, wide};
+ghost use Rattle.trials.specs.Sums.{after, afterAll, adler, wide, claimedValues};
 
 // A sum with one byte more.
 pub fn add(sum: u32, x: u8) -> u32
@@ -65,6 +65,22 @@ pub fn of_words(s: &[u32]) -> u32
     while i < s.len() {
         sum = add_word(sum, s[i]);
         i += 1;
+    }
+    sum
+}
+
+// The sum of the first half of each claim, the claimed values.
+pub fn of_claimed(s: &[u8]) -> u32
+    ensures { λ r. ⌜ r ≡ adler (claimedValues 0 (now (s .entry))) ⌝ }
+{
+    let mut sum = 1;
+    let mut i = 0;
+    while i < s.len() {
+        let at = i;
+        i += 1;
+        if at % 16 < 8 {
+            sum = add(sum, s[at]);
+        }
     }
     sum
 }
