@@ -1,4 +1,4 @@
-"""The commands: ask, draw, compile, show."""
+"""The commands: ask, draw, compile, certify, verify, show."""
 
 from __future__ import annotations
 
@@ -8,7 +8,7 @@ import sys
 from itertools import chain
 from typing import Iterator, List, Optional
 
-from . import checks
+from . import checks, claims
 from .answers import Answer, read_answer, reasons, render_answer, render_refusal
 from .checks import Complaint, Complaints
 from .compiler import compile_formula, compile_model
@@ -132,6 +132,42 @@ def compile_command(words: argparse.Namespace) -> int:
     return ANSWERED
 
 
+def _claimed(words: argparse.Namespace) -> bytes:
+    """The message of a question's graph."""
+    _in_order(words.model, words.formula)
+    question = _question(_model(words.model), words.formula, False)
+    checks.insist(_complaints(question))
+    words.graph = claims.Graph(question.model, question.formula)
+    return words.graph.message()
+
+
+def certify(words: argparse.Namespace) -> int:
+    """Writes claims about a question's graph, once the proved checker has accepted them."""
+    message = _claimed(words)
+    claimed = claims.certificate(words.graph)
+    number, word = claims.verdict(message, claimed, words.program)
+    if (number, word) != (0, "yes"):
+        print(f"not accepted: {number} {word}", file=sys.stderr)
+        return REFUSED
+    try:
+        with open(words.output, "wb") as file:
+            file.write(claimed)
+    except OSError as error:
+        raise Mistake(Place(words.output), error.strerror or "can't be written") from None
+    print(f"accepted: {len(claimed):,} bytes for {words.graph.nodes:,} nodes")
+    return ANSWERED
+
+
+def verify(words: argparse.Namespace) -> int:
+    """Says what the proved checker says of claims about a question's graph."""
+    number, word = claims.verdict(_claimed(words), _read_bytes(words.claims), words.program)
+    if number:
+        print(f"refused {number}")
+        return REFUSED
+    print("accepted" if word == "yes" else "not accepted")
+    return ANSWERED if word == "yes" else REFUSED
+
+
 def show(words: argparse.Namespace) -> int:
     """Writes messages as text: a model, a formula, or both, the formula then as a comment."""
     named = _model(words.names) if words.names else None
@@ -181,6 +217,16 @@ def _parser() -> argparse.ArgumentParser:
     compiles.add_argument("formula", metavar="FORMULA", nargs="?", help="the formula's text, or @FILE")
     compiles.add_argument("-o", dest="output", metavar="FILE", required=True, help="where the bytes go; - for standard output")
     compiles.add_argument("--raw", action="store_true", help=raw)
+
+    trials = "the program trials to ask (else target/bin/trials)"
+    certifies = add("certify", "write claims about a question's graph that the checker accepts: a value and a rank for each node", certify)
+    verifies = add("verify", "ask the checker whether it accepts such claims", verify)
+    for command in (certifies, verifies):
+        command.add_argument("model", metavar="MODEL", help="a model's text; - for standard input")
+        command.add_argument("formula", metavar="FORMULA", help="the formula's text, or @FILE")
+        command.add_argument("--program", metavar="PATH", help=trials)
+    certifies.add_argument("-o", dest="output", metavar="FILE", required=True, help="where the claims go")
+    verifies.add_argument("claims", metavar="CLAIMS", help="the file with the claims")
 
     shows = add("show", "write messages as text again", show)
     shows.add_argument("file", metavar="FILE", help="a model, a formula, or a model followed by a formula; - for standard input")

@@ -357,30 +357,42 @@ fn certify_in(message: &[u8], room: &mut [u8], words: &mut [u64]) -> Line
     rooms::fill_bytes(room);
     rooms::fill_values(words);
     let written = claims::write(message, room, words);
-    let lent = sums::of_values(words);
+    certified(message, written, room, sums::of_values(words))
+}
+
+// Where claims were written, the room holds as many as the graph has nodes, and what is behind them.
+fn certified(message: &[u8], written: claims::Written, room: &[u8], lent: u32) -> Line
+    ensures { λ r. ⌜ Sound r ⌝ }
+{
     match written {
-        claims::Written::Claims => certified(message, room, lent),
-        claims::Written::Refused(e) => checked_line(b'W', e.number(), e.offset)
-            .text(b" none")
-            .sum(1)
-            .sum(sums::of_bytes(room))
-            .sum(lent),
+        claims::Written::Claims => certified_front(message, room, lent),
+        claims::Written::Refused(e) => {
+            uncertified_line(e.number(), e.offset, sums::of_bytes(room), lent)
+        },
     }
 }
 
-// Claims were written, so the graph is accepted, and the room holds its claims and what is behind them.
-fn certified(message: &[u8], room: &[u8], lent: u32) -> Line
+// The claims are the front of the room; no graph has as many as 65,536 nodes.
+fn certified_front(message: &[u8], room: &[u8], lent: u32) -> Line
     ensures { λ r. ⌜ Sound r ⌝ }
 {
     let graph::Checked::Graph(nodes, _, _, _) = graph::check(message) else {
         return Line::new();
     };
-    let long = (nodes as usize) * claims::CLAIM;
-    if room.len() < long {
-        return Line::new();
-    }
-    let rest = sums::of_bytes(&room[long..]);
-    certified_line(message, &room[..long], rest, lent)
+    let end = rooms::front_of_bytes(nodes % 65536 * 16, room);
+    let rest = sums::of_bytes(&room[end..]);
+    certified_line(message, &room[..end], rest, lent)
+}
+
+// The number and offset of a refusal, no verdict, no values, and the sums of both rooms.
+fn uncertified_line(number: u8, offset: usize, room: u32, lent: u32) -> Line
+    ensures { λ r. ⌜ Sound r ⌝ }
+{
+    checked_line(b'W', number, offset)
+        .text(b" none")
+        .sum(1)
+        .sum(room)
+        .sum(lent)
 }
 
 // What the checker says of the claims, the sum of the claimed values, that of the rest of their room, and that of the words.
