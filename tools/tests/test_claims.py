@@ -1,0 +1,44 @@
+"""Claims: the graph of a question, and ranks that rest on smaller ones. The checker itself is asked in the gate, by `trials`."""
+
+import struct
+import unittest
+from pathlib import Path
+
+from otzarvim_tools import claims
+from otzarvim_tools.model_text import read_model
+from otzarvim_tools.question import read_question
+from otzarvim_tools.sizes import graph_size
+
+ROOT = Path(__file__).resolve().parents[2]
+FORMULAS = ("E[p0 U<=2 p1]", "A[p0 U p1]", "(EX<=3 p0 & AX !p1)", "E[A[true U<=5 p1] U<=7 (AX<=9 p0 | false)]")
+
+
+class Claims(unittest.TestCase):
+    def graphs(self):
+        model = read_model((ROOT / "examples" / "paper_m.otz").read_text(), "paper_m.otz")
+        for text in FORMULAS:
+            question = read_question(model, text, "formula")
+            yield question, claims.Graph(question.model, question.formula)
+
+    def test_a_graph_is_as_large_as_its_size_says(self):
+        for question, graph in self.graphs():
+            size = graph_size(question.model, question.formula)
+            self.assertEqual((graph.nodes, len(graph.hyperedges), len(graph.covers), len(graph.message())), (size.nodes, size.hyperedges, size.covers, size.message))
+
+    def test_t13(self):
+        _, graph = next(self.graphs())
+        inf = claims.INFINITE
+        self.assertEqual(claims.settled(graph), [0, inf, inf, 0, 0, 0, 2, 0])
+
+    def test_each_finite_node_has_a_support(self):
+        for _, graph in self.graphs():
+            pairs = list(struct.iter_unpack(">QQ", claims.certificate(graph)))
+            self.assertEqual(len(pairs), graph.nodes)
+            values, ranks = [value for value, _ in pairs], [rank for _, rank in pairs]
+            supported = {source for source, targets in graph.hyperedges if claims._gives(targets, values) == values[source] and all(ranks[node] < ranks[source] for _, node in targets)}
+            supported |= {cover[0] for cover in graph.covers if claims._holds(cover, values) and ranks[cover[2]] < ranks[cover[0]]}
+            self.assertLessEqual({node for node in range(graph.nodes) if values[node] != claims.INFINITE}, supported)
+
+
+if __name__ == "__main__":
+    unittest.main()
