@@ -1,7 +1,7 @@
 -- What the checker and the writer answer, from what was found. Assumes nothing.
 use Prim.Native.Nat.{ℕ, _*_, _≤_}
 use mathlib.Core.List.{List}
-use mathlib.Core.Path.{_≡_, refl, sym, subst, _∙_}
+use mathlib.Core.Path.{_≡_, refl, sym, subst}
 use lib.ListN.{length}
 use borrow.Author.Tests.{eq-eqb, ne-eqb}
 use native.Mathlib.Omega.{arith}
@@ -21,7 +21,6 @@ use Rattle.graph.specs.Message.{readGraph}
 use Rattle.graph.specs.Answers.{checked}
 use Rattle.graph.specs.Format.{graphHeader}
 use Rattle.graph.specs.Layouts.{hyperLayout, coverLayout, decoded}
-use Rattle.graph.specs.WellFormed.{WellFormed}
 use Rattle.graph.proofs.Answered.{checked-refused}
 use Rattle.graph.proofs.Exact.{accepted-written}
 use Rattle.rounds.specs.Promise.{Accepted}

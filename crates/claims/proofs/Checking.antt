@@ -5,13 +5,12 @@ use native.Mathlib.Omega.{arith}
 use mathlib.Core.Bool.{true}
 use mathlib.Core.List.{List}
 use mathlib.Core.Logic.{_⊎_, inl, inr}
-use mathlib.Core.Path.{_≡_, sym, ap, subst, _∙_}
+use mathlib.Core.Path.{_≡_, sym, ap, subst}
 use lib.ListN.{getD, replicate}
 use Rattle.lists.specs.Lists.{_∈_}
 use Rattle.value.specs.Value.{Value, fin, inf, finite, _≼_, _⊑_}
 use Rattle.value.specs.Stored.{stored, infinite}
-use Rattle.value.proofs.Values.{fin-≼, ≼-fin, ≼-inf, ≼-up, ≼-plus, plus-≼, ≼-finite, ⊑-inf, fin-⊑-fin, ≤-of-⊑, inf-⊑-fin}
-use Rattle.value.proofs.Stored.{stored-le}
+use Rattle.value.proofs.Values.{≼-fin, ≼-inf, ≼-plus, plus-≼, ≼-finite, fin-⊑-fin, ≤-of-⊑, inf-⊑-fin}
 use Rattle.wire.specs.Bytes.{Bytes, number}
 use Rattle.wire.specs.Layout.{end}
 use Rattle.wire.proofs.Bytes.{number-below}
@@ -25,7 +24,7 @@ use Rattle.rules.proofs.Size.{Light}
 use Rattle.claims.specs.Claims.{Support, by-hyper, by-cover, Accepts}
 use Rattle.claims.specs.Scans.{HyperFair, HyperBacks, CoverFair, CoverBacks, Marked, AllBacked}
 use Rattle.claims.proofs.Marking.{zeros-at}
-use Rattle.claims.proofs.Edgewise.{Edgewise, edgewise-accepted, accepted-edgewise, supported-bound}
+use Rattle.claims.proofs.Edgewise.{edgewise-accepted, accepted-edgewise, supported-bound}
 
 -- the order of values and that of their stored numbers, where none is cut off
 ⊑-stored : (a b : Value) → a ⊑ b → stored a ≤ stored b

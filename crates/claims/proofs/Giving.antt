@@ -1,18 +1,17 @@
 -- Ranks given one after another: the claims keep their values, the ranks rest on smaller ones, and there are as many ranked nodes as were given
 -- ranks. Assumes nothing.
 use Prim.Native.Nat.{ℕ, _+_, _-_, _*_, _≤_, _<_}
-use mathlib.Core.Bool.{Bool, true, false}
+use mathlib.Core.Bool.{Bool, true}
 use mathlib.Core.List.{List}
-use mathlib.Core.Logic.{_⊎_, inl, inr}
-use mathlib.Core.Path.{_≡_, refl, sym, ap, subst, _∙_}
+use mathlib.Core.Path.{_≡_, refl, sym, subst, _∙_}
 use lib.Dec.{ltb}
-use lib.ListN.{length, drop}
+use lib.ListN.{length}
 use borrow.Author.Tests.{ltb-true, lt-ltb, le-ltb}
 use native.Mathlib.Decide.{ℕ-discrete, decLt}
 use native.Mathlib.Nat.{le-refl}
 use native.Mathlib.Omega.{arith}
 use Rattle.lists.specs.Lists.{_∈_, upTo}
-use Rattle.lists.proofs.Lists.{howMany, howMany-le, howMany-more, upTo-length, ∈-upTo, upTo-∈}
+use Rattle.lists.proofs.Lists.{howMany, howMany-le, howMany-more, upTo-length, upTo-∈}
 use Rattle.lists.proofs.Tests.{by-test}
 use Rattle.value.specs.Value.{finite}
 use Rattle.wire.specs.Bytes.{put}

@@ -1,14 +1,13 @@
 -- What the numbers that were read say of an edge: whether it is fair to the claims, and whether it backs its source. Assumes nothing.
-use Prim.Native.Nat.{ℕ, _+_, _*_, _≤_, _<_, min}
+use Prim.Native.Nat.{ℕ, _*_, _≤_, _<_}
 use mathlib.Core.Bool.{Bool, true, false}
 use mathlib.Core.List.{List}
-use mathlib.Core.Path.{_≡_, refl, sym, ap, _∙_}
+use mathlib.Core.Path.{_≡_, sym, ap, _∙_}
 use native.Mathlib.Omega.{arith}
 use Rattle.lists.specs.Lists.{_∈_}
 use Rattle.lists.proofs.Tests.{clash}
-use Rattle.value.specs.Value.{Value, fin, inf, finite, meets}
+use Rattle.value.specs.Value.{Value, fin, inf, finite}
 use Rattle.value.specs.Stored.{stored, meaning, infinite}
-use Rattle.value.specs.Coded.{boundOf}
 use Rattle.value.proofs.Stored.{meaning-infinite, meaning-finite, stored-meaning}
 use Rattle.wire.specs.Bytes.{number}
 use Rattle.wire.specs.Field.{longWidth}

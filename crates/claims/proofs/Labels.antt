@@ -3,10 +3,10 @@
 use Prim.Native.Nat.{ℕ, suc, _+_, _-_, _*_, _≤_, _<_}
 use mathlib.Core.Bool.{Bool, true, false, true≢false}
 use mathlib.Core.List.{List}
-use mathlib.Core.Logic.{_⊎_, inl, inr, ⊎-elim}
-use mathlib.Core.Path.{_≡_, refl, sym, ap, subst, _∙_}
+use mathlib.Core.Logic.{_⊎_, ⊎-elim}
+use mathlib.Core.Path.{_≡_, refl, sym, subst, _∙_}
 use lib.Dec.{ltb}
-use lib.ListN.{length, getD, set, replicate, length-set, length-replicate}
+use lib.ListN.{length, set, replicate, length-set, length-replicate}
 use lib.Seq.{getD-set-same, getD-set-other}
 use borrow.Author.Tests.{ltb-true, ltb-false}
 use native.Mathlib.Decide.{ℕ-discrete}
@@ -14,7 +14,7 @@ use native.Mathlib.Nat.{le-refl, le-trans}
 use native.Mathlib.Omega.{arith}
 use Rattle.lists.specs.Lists.{_∈_}
 use Rattle.lists.proofs.Tests.{by-test}
-use Rattle.wire.specs.Layout.{items, end, Sound}
+use Rattle.wire.specs.Layout.{items, Sound}
 use Rattle.wire.proofs.Parts.{∈-items, sound-at}
 use Rattle.rules.specs.Graph.{Graph, Target, Hyper, Cover, Closed}
 use Rattle.rules.specs.Walks.{CoverCycle}

@@ -3,10 +3,9 @@
 -- Here a are the arguments, r is the result, and s is what stands in each argument at the end, in the order of the parameters. Assumes nothing.
 use Prim.Native.Nat.{ℕ, _*_, _<_}
 use mathlib.Core.List.{List}
-use mathlib.Core.Path.{_≡_, refl, sym, ap, _∙_}
+use mathlib.Core.Path.{_≡_, refl, sym, _∙_}
 use denote.Ref.{now}
 use lib.ListN.{length, drop}
-use Rattle.value.specs.Value.{fin, inf}
 use Rattle.value.specs.Stored.{meaning}
 use Rattle.value.proofs.Stored.{by-meaning}
 use Rattle.wire.specs.Bytes.{number}

@@ -1,10 +1,9 @@
 -- The two contracts together: of what the writer writes the checker says yes. Assumes nothing.
 use Prim.Native.Nat.{ℕ, _+_, _*_, _≤_, _<_}
-use mathlib.Core.Bool.{true}
 use mathlib.Core.List.{List, [], _∷_, List·Memᴰ·head, List·Memᴰ·tail}
 use mathlib.Core.Logic.{inl}
 use mathlib.Core.Path.{_≡_, refl, sym, ap, ap₂, subst, _∙_}
-use lib.ListN.{length, getD, take}
+use lib.ListN.{length, take}
 use lib.Seq.{length-take-le, getD-take}
 use native.Mathlib.Decide.{decLt}
 use native.Mathlib.Omega.{arith}
@@ -22,7 +21,7 @@ use Rattle.rules.proofs.Order.{round-agree}
 use Rattle.graph.specs.Stored.{StoredGraph, ruled}
 use Rattle.graph.specs.Message.{readGraph}
 use Rattle.graph.proofs.Exact.{accepted-written}
-use Rattle.claims.specs.Claims.{rankAt, claimWidth, claimedValue, claimedRank, Support, by-hyper, by-cover, Accepts, AcceptsClaims}
+use Rattle.claims.specs.Claims.{rankAt, claimWidth, Support, by-hyper, by-cover, Accepts, AcceptsClaims}
 use Rattle.claims.specs.declared.Judged.{Judged}
 use Rattle.claims.specs.declared.Judged.the-variants as Judged
 use Rattle.claims.specs.declared.Written.the-variants as Written

@@ -1,21 +1,20 @@
 -- `claims::accepts` meets its contract: an edge breaks, or all are fair; then a finite node is unmarked, or none is.
-use Prim.Native.Nat.{ℕ, _≤_}
-use mathlib.Core.Bool.{true, false, true≢false}
+use Prim.Native.Nat.{ℕ}
+use mathlib.Core.Bool.{true≢false}
 use mathlib.Core.Path.{_≡_, sym, subst, _∙_}
 use mathlib.Core.List.{List}
 use denote.Ref.{now}
-use lib.ListN.{length, replicate, length-replicate}
+use lib.ListN.{replicate, length-replicate}
 use native.Mathlib.Omega.{arith}
 use borrow.Author.Needs.{needs}
 use Rattle.wire.specs.Bytes.{Bytes}
-use Rattle.wire.specs.Layout.{items, end, Sound}
-use Rattle.rules.specs.Graph.{Hyper, Cover}
+use Rattle.wire.specs.Layout.{end}
 use Rattle.graph.specs.Format.{graphHeader}
 use Rattle.graph.specs.Layouts.{hyperLayout, coverLayout, decoded}
 use Rattle.claims.specs.Claims.{claimedValue, claimedRank}
-use Rattle.claims.specs.Scans.{HyperFair, HyperBacks, CoverFair, CoverBacks, Marked, Scanned}
+use Rattle.claims.specs.Scans.{HyperFair, HyperBacks, CoverFair, CoverBacks, Scanned}
 use Rattle.claims.specs.declared.Scan.{Scan}
-use Rattle.claims.specs.declared.Scan.the-variants.{Broken, Past}
+use Rattle.claims.specs.declared.Scan.the-variants.{Past}
 use Rattle.claims.proofs.Checking.{message-light, unmarked-none, hyper-broken, cover-broken, unmarked, all-marked}
 use Rattle.claims.proofs.accepts.Statement.{statement}
 use Rattle.claims.proofs.accepts.Tie as tie

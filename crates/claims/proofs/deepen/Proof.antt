@@ -1,17 +1,12 @@
 -- `claims::deepen` meets its contract: a pass over the hyperedges, and one over the cover edges.
-use Prim.Native.Nat.{ℕ, _+_, _≤_}
-use mathlib.Core.List.{List}
-use mathlib.Core.Bool.{Bool}
-use mathlib.Core.Path.{_≡_, refl, sym, ap, subst, _∙_}
+use Prim.Native.Nat.{ℕ, _+_}
+use mathlib.Core.Path.{subst, _∙_}
 use denote.Ref.{now}
-use lib.ListN.{length}
-use native.Mathlib.Omega.{arith}
 use borrow.Author.Needs.{needs}
-use Rattle.wire.specs.Layout.{items, end, Sound}
-use Rattle.rules.specs.Graph.{Cover}
+use Rattle.wire.specs.Layout.{items, end}
 use Rattle.graph.specs.Format.{graphHeader}
 use Rattle.graph.specs.Layouts.{hyperLayout, coverLayout, decoded}
-use Rattle.claims.specs.Labels.{Within, HyperFalls, CoverFalls, Deeper}
+use Rattle.claims.specs.Labels.{Within, CoverFalls, Deeper}
 use Rattle.claims.proofs.Labels.{pass-along, pass-over, hypers-within}
 use Rattle.claims.proofs.deepen.Statement.{statement}
 use Rattle.claims.proofs.deepen.Tie as tie

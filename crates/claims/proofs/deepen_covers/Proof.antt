@@ -1,13 +1,11 @@
 -- `claims::deepen_covers` meets its contract: the cover edges passed lead less deep, and no label is deeper than it has to be.
 use Prim.Native.Nat.{ℕ, _+_, _<_, _≤_}
-use mathlib.Core.Path.{_≡_, ap, _∙_}
 use denote.Ref.{now}
-use lib.ListN.{length, getD, set}
+use lib.ListN.{length}
 use native.Mathlib.Omega.{arith}
 use borrow.Author.Needs.{needs}
 use Rattle.wire.specs.Bytes.{number}
 use Rattle.wire.specs.Layout.{items}
-use Rattle.rules.specs.Graph.{Cover}
 use Rattle.graph.specs.Format.{coverTargetAt}
 use Rattle.graph.specs.Layouts.{coverLayout, CoverOk}
 use Rattle.claims.specs.Labels.{label, Within, CoverFalls}

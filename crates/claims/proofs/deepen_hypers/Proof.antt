@@ -8,7 +8,7 @@ use native.Mathlib.Omega.{arith}
 use borrow.Author.Needs.{needs}
 use Rattle.lists.specs.Lists.{_∈_}
 use Rattle.wire.specs.Bytes.{number}
-use Rattle.wire.specs.Layout.{items, Sound}
+use Rattle.wire.specs.Layout.{items}
 use Rattle.rules.specs.Graph.{Target}
 use Rattle.graph.specs.Format.{graphHeader, targetCountAt, hyperWidth}
 use Rattle.graph.specs.Layouts.{targetLayout, hyperLayout, HyperOk}

@@ -1,5 +1,4 @@
 -- `claims::fill` meets its contract: the rounds settle, the claims are begun from them and ranked, and the words are cleared.
-use Prim.Native.Nat.{ℕ, _+_, _*_, _≤_}
 use denote.Ref.{now}
 use native.Mathlib.Omega.{arith}
 use borrow.Author.Needs.{needs}

@@ -1,8 +1,7 @@
 -- `claims::has_cycle` meets its contract: labels that no pass raises leave no cycle through a cover edge, and labels that pass n raises show one.
-use Prim.Native.Nat.{ℕ, suc, _+_, _-_, _*_, _<_, _≤_}
-use mathlib.Core.Bool.{true, false, true≢false}
+use Prim.Native.Nat.{suc, _+_, _-_, _≤_}
+use mathlib.Core.Bool.{true≢false}
 use mathlib.Core.Path.{_≡_, sym}
-use denote.Ref.{now}
 use native.Mathlib.Omega.{arith}
 use borrow.Author.Tests.{not-true}
 use Rattle.graph.specs.Layouts.{decoded}

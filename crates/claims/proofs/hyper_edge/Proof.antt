@@ -1,5 +1,5 @@
 -- `claims::hyper_edge` meets its contract.
-use Prim.Native.Nat.{ℕ, _+_, _*_, _<_, _≤_}
+use Prim.Native.Nat.{ℕ, _+_, _*_, _<_}
 use mathlib.Core.Path.{_≡_, sym, ap, subst, _∙_}
 use denote.Ref.{now}
 use native.Mathlib.Omega.{arith}

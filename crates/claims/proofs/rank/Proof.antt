@@ -1,18 +1,17 @@
 -- `claims::rank` meets its contract: the passes stand, until one gives no rank or n ranks are given.
-use Prim.Native.Nat.{ℕ, _+_, _-_, _*_, _<_, _≤_}
-use mathlib.Core.List.{List}
-use mathlib.Core.Path.{_≡_, refl, sym, ap, subst, _∙_}
+use Prim.Native.Nat.{ℕ, _-_, _*_, _≤_}
+use mathlib.Core.Path.{subst}
 use denote.Ref.{now}
 use lib.ListN.{length}
 use native.Mathlib.Omega.{arith}
 use Rattle.wire.specs.Layout.{items, end}
 use Rattle.wire.proofs.Layouts.{items-length}
-use Rattle.rules.specs.Graph.{Hyper, Cover}
+use Rattle.rules.specs.Graph.{Cover}
 use Rattle.graph.specs.Format.{graphHeader}
 use Rattle.graph.specs.Layouts.{hyperLayout, coverLayout, decoded}
 use Rattle.claims.specs.Claims.{claimWidth, claimedValue, claimedRank}
 use Rattle.claims.specs.Scans.{CoverBacks}
-use Rattle.claims.specs.Ranking.{Kept, RankedBy}
+use Rattle.claims.specs.Ranking.{RankedBy}
 use Rattle.claims.proofs.Giving.{ranked-few, steps-grow}
 use Rattle.claims.proofs.Standing.{Standing, standing-none, standing-hypers, standing-covers, all-ranked, none-ranked}
 use Rattle.claims.proofs.rank.Statement.{statement}

@@ -8,12 +8,10 @@ use native.Mathlib.Omega.{arith}
 use borrow.Author.Needs.{needs}
 use Rattle.wire.specs.Bytes.{number, put}
 use Rattle.wire.specs.Field.{longWidth}
-use Rattle.rules.specs.Graph.{Cover}
 use Rattle.graph.specs.Layouts.{coverLayout, CoverOk}
 use Rattle.claims.specs.declared.Edge.{Edge}
 use Rattle.claims.specs.Claims.{rankAt, claimWidth, claimedValue, claimedRank}
 use Rattle.claims.specs.Scans.{CoverFair, CoverBacks, Found}
-use Rattle.claims.specs.Ranking.{unranked}
 use Rattle.claims.proofs.Passing.{passing-here}
 use Rattle.claims.proofs.Giving.{Given, given-none, given-rank, given-idle, given-had, given-end}
 use Rattle.claims.proofs.rank_covers.Statement.{statement}

@@ -14,7 +14,6 @@ use Rattle.graph.specs.Layouts.{hyperLayout, HyperOk}
 use Rattle.claims.specs.declared.Edge.{Edge}
 use Rattle.claims.specs.Claims.{rankAt, claimWidth, claimedValue, claimedRank}
 use Rattle.claims.specs.Scans.{HyperFair, HyperBacks, Found}
-use Rattle.claims.specs.Ranking.{unranked}
 use Rattle.claims.proofs.Passing.{passing-here}
 use Rattle.claims.proofs.Giving.{Given, given-none, given-rank, given-idle, given-had, given-end}
 use Rattle.claims.proofs.rank_hypers.Statement.{statement}

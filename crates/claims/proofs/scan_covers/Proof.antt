@@ -1,13 +1,10 @@
 -- `claims::scan_covers` meets its contract: the cover edges passed are fair, and the sources of those that back them are marked.
-use Prim.Native.Nat.{ℕ, _+_, _<_, _≤_}
+use Prim.Native.Nat.{_<_}
 use mathlib.Core.Path.{_≡_, subst}
-use mathlib.Core.List.{List}
-use lib.ListN.{length}
 use denote.Ref.{now}
 use native.Mathlib.Omega.{arith}
 use borrow.Author.Needs.{needs}
 use Rattle.wire.specs.Layout.{items}
-use Rattle.rules.specs.Graph.{Cover}
 use Rattle.graph.specs.Layouts.{coverLayout, CoverOk}
 use Rattle.claims.specs.declared.Edge.{Edge}
 use Rattle.claims.specs.Claims.{claimedValue, claimedRank}

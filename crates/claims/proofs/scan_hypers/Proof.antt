@@ -1,14 +1,12 @@
 -- `claims::scan_hypers` meets its contract: the hyperedges passed are fair, and the sources of those that back them are marked.
-use Prim.Native.Nat.{ℕ, _+_, _*_, _<_, _≤_}
+use Prim.Native.Nat.{_+_, _*_, _<_}
 use mathlib.Core.Path.{_≡_, subst}
-use mathlib.Core.List.{List}
-use lib.ListN.{length}
 use denote.Ref.{now}
 use native.Mathlib.Omega.{arith}
 use borrow.Author.Needs.{needs}
 use Rattle.wire.specs.Layout.{items}
 use Rattle.wire.specs.Bytes.{number}
-use Rattle.graph.specs.Format.{graphHeader, targetCountAt, hyperWidth, targetWidth}
+use Rattle.graph.specs.Format.{graphHeader, targetCountAt}
 use Rattle.graph.specs.Layouts.{hyperLayout, HyperOk}
 use Rattle.claims.specs.declared.Edge.{Edge}
 use Rattle.claims.specs.Claims.{claimedValue, claimedRank}
