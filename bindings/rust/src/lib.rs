@@ -971,7 +971,7 @@ impl Tally {
         // SAFETY: the tally is lent to this function alone. The function is proved to read and write only it.
         match unsafe { foreign::otzarvim_tally_enter(self, number, verdict, rounds) } {
             0 => Ok(()),
-            number => Err(Refusal::of(number)),
+            number => Err(Fault::of(number, 0).refusal),
         }
     }
 }
