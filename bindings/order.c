@@ -144,6 +144,33 @@ static void claims(size_t room, size_t lent)
     printf("claims checked: %u at %zu, verdict %u\n", number, offset, verdict);
 }
 
+static void enter(otzarvim_tally *tally, uint8_t first, uint8_t second, uint32_t rounds)
+{
+    unsigned number = otzarvim_tally_enter(tally, first, second, rounds);
+    lend();
+    unsigned written = otzarvim_tally_report(tally, bytes, 200, &length);
+    printf("entered %u %u %" PRIu32 ": %u, report %u, length %zu:", first, second, rounds, number, written, length);
+    for (size_t i = 0; i < length; i++)
+        putchar(bytes[i] == '\n' ? ' ' : bytes[i]);
+    sums();
+}
+
+/* Every number has a field of its own; then a tally at its end, and a room that is too small. */
+static void tallies(void)
+{
+    otzarvim_tally tally = {0};
+    enter(&tally, 0, 1, 5), enter(&tally, 0, 2, 3), enter(&tally, 0, 2, 4), enter(&tally, 1, 0, 9);
+    for (uint8_t i = 2; i <= 12; i++)
+        enter(&tally, i, 0, 1000);
+    enter(&tally, 0, 0, 6), enter(&tally, 0, 3, 7), enter(&tally, 2, 1, 8);
+    otzarvim_tally last = {4294967280, 5, {1, 2, 0, 0, 0, 0, 0, 0, 0, 0, 6}, UINT64_MAX - 8, 3};
+    enter(&last, 0, 1, 9), enter(&last, 0, 1, 8), enter(&last, 0, 2, 0), enter(&last, 12, 0, 0);
+    lend();
+    unsigned number = otzarvim_tally_report(&last, bytes, 57, &length);
+    printf("report in 57 bytes: %u, length %zu,", number, length);
+    sums();
+}
+
 int main(void)
 {
     checks();
@@ -153,6 +180,7 @@ int main(void)
     text(), build();
     decide(0, 9), decide(2, 9), decide(1, 2), decide(2, 1), decide(9, 4);
     settle(9), settle(2);
+    tallies();
 
     /* A wrong field of each message: a name of each graph, the last row's zero, and then the third transition's start. */
     graph[sizeof graph - 1] = 3, plain[23] = 3, formula[26] = 1;

@@ -11,11 +11,11 @@
  * length is 0, its pointer is not used and may be null.
  *
  * Every function returns one of the numbers below. Any number but OTZARVIM_OK is a refusal. A refusal
- * leaves rooms, counts, rows and states as they came; only OTZARVIM_BUDGET writes, and only the rooms.
+ * leaves rooms, counts, rows, states and tallies as they came; only OTZARVIM_BUDGET writes, and only the rooms.
  * The count, the length, the verdict and the offset are part of the answer and are always written: with a
  * refusal the first three are 0, 0 and OTZARVIM_NONE, but for the count and the length of OTZARVIM_BUDGET.
  *
- * The offset, the last parameter of every function, gets where the first byte of the field stands that was
+ * The offset, the last parameter of every function that is handed a message, gets where the first byte of the field stands that was
  * found wrong, counted from the start of the message at fault. It is 0 where no field is: with OK, BUDGET,
  * LENGTH, SIZE, ROOM and PROFILE, for a number handed in beside a message (p, the state, the root), and with
  * FORM where a row is not used exactly once. No field that can be found wrong stands at 0. Of two messages
@@ -264,6 +264,47 @@ uint8_t otzarvim_graph(const uint8_t *model, size_t model_length, const uint8_t 
 uint8_t otzarvim_settle(const uint8_t *model, size_t model_length, const uint8_t *formula, size_t formula_length,
                         uint32_t budget, uint8_t *bytes, size_t bytes_length, uint64_t *values, size_t values_length,
                         uint32_t *count, size_t *length, uint32_t states[2], size_t *offset);
+
+/*
+ * The nightly sheet: one running tally that each verdict is entered into. It starts with all numbers 0. It may
+ * also hold any other numbers: each is safe, and one at its end refuses more with LIMIT.
+ */
+typedef struct {
+    uint64_t yes;         /* how many were yes */
+    uint64_t no;          /* how many were no */
+    uint64_t refused[11]; /* how many had each refusal number: BUDGET in refused[0], .., PROFILE in refused[10] */
+    uint64_t sum;         /* of the rounds, exactly */
+    uint64_t largest;     /* of the rounds */
+} otzarvim_tally;
+
+/* The report of a tally has at most so many bytes: 15 * (20 + 1). */
+#define OTZARVIM_MOST_REPORT 315
+
+/*
+ * Enters what a call returned into a tally.
+ *
+ *   tally                     the tally; NAME and LIMIT leave it as it came
+ *   number                    the number that the call returned
+ *   verdict                   its verdict: OTZARVIM_YES or OTZARVIM_NO with OK, OTZARVIM_NONE with a refusal
+ *   rounds                    its count of rounds; a refusal but BUDGET counts as 0, whatever is handed in
+ *
+ * Returns OK; NAME where that is no entry (OK with no verdict, a refusal with one, or a number that the table
+ * above doesn't have); else LIMIT after 4,294,967,295 accepted, or where the sum would pass 64 bits, to which a
+ * tally that began at 0 never comes.
+ */
+uint8_t otzarvim_tally_enter(otzarvim_tally *tally, uint8_t number, uint8_t verdict, uint32_t rounds);
+
+/*
+ * Writes the report of a tally: its numbers in decimal, each ended by a line feed, in the order in which they
+ * stand above; no words.
+ *
+ *   tally                     the tally; only read
+ *   room, room_length         so many bytes; OTZARVIM_MOST_REPORT always suffice; no 0 is added at the end
+ *   length                    gets how many bytes were written
+ *
+ * Returns OK or ROOM.
+ */
+uint8_t otzarvim_tally_report(const otzarvim_tally *tally, uint8_t *room, size_t room_length, size_t *length);
 
 #ifdef __cplusplus
 }

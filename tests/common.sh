@@ -5,7 +5,7 @@ here=$(cd "$(dirname "$0")" && pwd -P)
 root=$(dirname "$here")
 
 # The calls that `trials` knows.
-letters=GMFTRVSCW
+letters=GMFTRVSCWN
 
 die() {
     printf '%s: %s\n' "$(basename "$0")" "$*" >&2

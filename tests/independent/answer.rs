@@ -5,6 +5,7 @@ use crate::claims;
 use crate::message;
 use crate::refusal::{Fault, Number, CALL};
 use crate::search;
+use crate::tally::{self, Entry, Tally};
 use crate::verdict::{self, Question};
 
 /// A call: a letter, its numbers and its messages.
@@ -15,7 +16,7 @@ pub struct Call {
     pub messages: Vec<Vec<u8>>,
 }
 
-pub const LETTERS: &str = "GMFTRVSCW";
+pub const LETTERS: &str = "GMFTRVSCWN";
 
 /// "a message of at most 65,536 bytes, byte rooms of at most 65,536, value rooms of at most
 /// 32,768 numbers, word rooms of at most 262,144 words"
@@ -26,7 +27,7 @@ pub const MOST_WORDS: usize = 262_144;
 /// How many numbers and messages follow a letter.
 fn shape(letter: u8) -> Option<(usize, usize)> {
     match letter {
-        b'G' | b'M' => Some((0, 1)),
+        b'G' | b'M' | b'N' => Some((0, 1)),
         b'F' => Some((1, 1)),
         b'T' | b'R' | b'S' | b'W' => Some((2, 1)),
         b'C' => Some((0, 2)),
@@ -87,6 +88,12 @@ impl Call {
         Call::new(b'W', &[room as u32, words as u32], &[message])
     }
 
+    pub fn entries(entries: &[Entry]) -> Call {
+        let mut message = vec![];
+        entries.iter().for_each(|entry| entry.write(&mut message));
+        Call::new(b'N', &[], &[&message])
+    }
+
     /// "A call is a letter (1 byte), the size of what follows (4 bytes), and that many bytes: first
     /// the call's numbers, 4 bytes each, then its messages, each a 4-byte length and the bytes."
     pub fn write(&self, out: &mut Vec<u8>) {
@@ -128,11 +135,13 @@ impl Call {
     }
 
     pub fn within_limits(&self) -> bool {
+        let readable = self.letter != b'N' || tally::entries(&self.messages[0]).is_some();
         let short = self
             .messages
             .iter()
             .all(|message| message.len() <= MOST_BYTES);
-        short
+        readable
+            && short
             && self.byte_room() <= MOST_BYTES
             && self.value_room() <= MOST_VALUES
             && self.word_room() <= MOST_WORDS
@@ -234,6 +243,7 @@ pub fn answer(call: &Call) -> Expected {
         b'S' => answer_search(call),
         b'C' => answer_claims(call),
         b'W' => answer_writer(call),
+        b'N' => answer_entries(call),
         _ => answer_verdict(call),
     };
     Expected {
@@ -363,6 +373,24 @@ fn answer_writer(call: &Call) -> Line {
         ),
         fault,
     )
+}
+
+/// "how many were accepted, answers, and then the report's numbers in its order". The rule is the
+/// first that refused an entry.
+fn answer_entries(call: &Call) -> Line {
+    let mut tally = Tally::default();
+    let entries = tally::entries(&call.messages[0]).expect("a call within its limits");
+    let refused: Vec<Option<Fault>> = entries
+        .into_iter()
+        .map(|entry| tally.enter(entry).err())
+        .collect();
+    let answers: Vec<u8> = refused
+        .iter()
+        .map(|fault| fault.map_or(Number::Ok, |fault| fault.number) as u8)
+        .collect();
+    let mut fields = vec![tally.accepted().to_string(), sum(&answers)];
+    fields.extend(tally.report().iter().map(u128::to_string));
+    (fields.join(" "), refused.into_iter().flatten().next())
 }
 
 fn spent(number: Number) -> Option<Fault> {

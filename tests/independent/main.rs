@@ -1,5 +1,5 @@
 //! The independent test program. It is written from document 01 and the requests of document 02 that
-//! have landed (requests 1, 2, 4 and 6), and shares nothing with the crates: it makes batches of calls for
+//! have landed (requests 1, 2, 4, 6 and 8), and shares nothing with the crates: it makes batches of calls for
 //! the program `trials` and inputs for the program `otzarvim`, and says what each must answer.
 
 mod answer;
@@ -17,6 +17,7 @@ mod rounds;
 mod sat;
 mod search;
 mod selftest;
+mod tally;
 mod text;
 mod verdict;
 
@@ -26,7 +27,7 @@ use std::process::ExitCode;
 const USAGE: &str = "usage:
   independent make SEED CALLS OUT_STDIN OUT_STDOUT [LETTERS]
       writes a batch of CALLS calls and the lines that `trials` must answer. LETTERS are those of
-      the calls to use, GMFTRVSCW unless given; with a `?` among them, a call that ends the run is last
+      the calls to use, GMFTRVSCWN unless given; with a `?` among them, a call that ends the run is last
   independent ends FOLDER
       writes batches that end in a call which is none, as N.stdin and N.stdout with N from 1
   independent program SEED CASES FOLDER

@@ -49,6 +49,7 @@ pub const MODEL: Judge = Judge::of("model");
 pub const FORMULA: Judge = Judge::of("formula");
 pub const CALL: Judge = Judge::of("call");
 pub const PROGRAM: Judge = Judge::of("program");
+pub const ENTRY: Judge = Judge::of("entry");
 
 impl Judge {
     /// Request 4: "The offset is 0 for OK, BUDGET, LENGTH, SIZE, ROOM, PROFILE, .., for a number
@@ -153,6 +154,8 @@ pub const RULES: &[(&str, &str, &str)] = &[
     ("call", "cycle through a cover edge", "W"),
     ("call", "claims room", "W"),
     ("call", "writer's words", "W"),
+    ("entry", "refusal number", "N"),
+    ("entry", "entries accepted", ""),
     ("program", "longer input", "P"),
     ("program", "end of the model", "P"),
 ];

@@ -14,6 +14,7 @@ use crate::refusal::{Fault, Number, RULES};
 use crate::rounds::{self, Value};
 use crate::sat;
 use crate::search;
+use crate::tally::{Entry, Outcome, Tally};
 use crate::text;
 use crate::verdict::{self, Question};
 use std::collections::BTreeSet;
@@ -23,6 +24,7 @@ pub fn run(seed: u64) {
     known_questions();
     sums();
     report("offsets by hand", offsets::run());
+    sheets();
     long_messages();
     large_graphs();
     let mut random = Random::new(seed);
@@ -114,6 +116,48 @@ fn known_questions() {
 fn sums() {
     assert_eq!(sum(b"Wikipedia"), "11e60398");
     assert_eq!(sum(b""), "00000001");
+}
+
+/// Request 8: each sentence on a history that is worked out by hand.
+fn sheets() {
+    let mut tally = Tally::default();
+    let mut entered = vec![];
+    let history = [
+        (Outcome::Yes, 4),
+        (Outcome::No, 9),
+        (Outcome::Refusal(1), u32::MAX),
+        (Outcome::Refusal(7), 100),
+        (Outcome::Refusal(0), 1),
+        (Outcome::Refusal(12), 1),
+        (Outcome::Refusal(11), 3),
+        (Outcome::Yes, 0),
+    ];
+    for (outcome, rounds) in history {
+        let fault = tally.enter(Entry { outcome, rounds }).err();
+        entered.push(fault.map_or(Number::Ok, |fault| fault.number) as u8);
+    }
+    assert_eq!(entered, [0, 0, 0, 0, 6, 6, 0, 0]);
+    assert_eq!(tally.accepted(), 6);
+    assert_eq!(
+        tally.report(),
+        [
+            2,
+            1,
+            1,
+            0,
+            0,
+            0,
+            0,
+            0,
+            1,
+            0,
+            0,
+            0,
+            1,
+            4_294_967_308,
+            4_294_967_295
+        ]
+    );
 }
 
 // ---- limits that the messages of `trials` are too short for
@@ -490,7 +534,8 @@ fn has_no_offset(fault: &Fault) -> bool {
     ];
     let handed_in = ["asked state", "root", "p handed in"];
     let used_once = ["row never used", "row used twice"];
-    numbers.contains(&fault.number)
+    fault.subject == "entry"
+        || numbers.contains(&fault.number)
         || handed_in.contains(&fault.place)
         || used_once.contains(&fault.place)
 }

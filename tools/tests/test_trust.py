@@ -22,6 +22,7 @@ ENTRIES = {
     "rounds": ("solve",),
     "claims": ("check", "write"),
     "text": ("text",),
+    "tally": ("report",),
     "build": (),
     "verdict": ("decide", "settle", "graph", "nodes"),
     "report": ("report", "program"),

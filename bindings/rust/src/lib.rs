@@ -107,6 +107,8 @@ mod foreign {
             states: *mut u32,
             offset: *mut usize,
         ) -> u8;
+        pub fn otzarvim_tally_enter(tally: *mut super::Tally, number: u8, verdict: u8, rounds: u32) -> u8;
+        pub fn otzarvim_tally_report(tally: *const super::Tally, room: *mut u8, room_length: usize, length: *mut usize) -> u8;
     }
 }
 
@@ -864,4 +866,123 @@ pub fn satisfying(model: &[u8], formula: &[u8]) -> Result<Vec<bool>, Fault> {
 /// Rooms that always suffice.
 fn rooms() -> (Vec<u8>, Vec<u64>) {
     (vec![0; MOST_GRAPH], vec![0; MOST_VALUES])
+}
+
+/// What is entered into a [`Tally`]: how a question ended, and its count of rounds.
+///
+/// ```
+/// use otzarvim::{Answer, Entry, Refusal, Verdict};
+///
+/// assert_eq!(Entry::from(Answer::Decided { verdict: Verdict::Yes, count: 4, length: 140 }), Entry::Yes { rounds: 4 });
+/// assert_eq!(Entry::from(Answer::Spent { count: 3, length: 140 }), Entry::Refused { number: 1, rounds: 3 });
+/// assert_eq!(Entry::from(Refusal::Order), Entry::Refused { number: 5, rounds: 0 });
+/// ```
+#[derive(Clone, Copy, Debug, PartialEq, Eq, Hash)]
+pub enum Entry {
+    /// The state satisfies the formula.
+    Yes {
+        /// The count of rounds.
+        rounds: u32,
+    },
+    /// It doesn't.
+    No {
+        /// The count of rounds.
+        rounds: u32,
+    },
+    /// There is no verdict.
+    Refused {
+        /// The refusal's number, 1 for a spent budget.
+        number: u8,
+        /// The count of rounds; only a spent budget's counts.
+        rounds: u32,
+    },
+}
+
+impl From<Answer> for Entry {
+    fn from(answer: Answer) -> Entry {
+        match answer {
+            Answer::Decided { verdict: Verdict::Yes, count, .. } => Entry::Yes { rounds: count },
+            Answer::Decided { verdict: Verdict::No, count, .. } => Entry::No { rounds: count },
+            Answer::Spent { count, .. } => Entry::Refused { number: 1, rounds: count },
+        }
+    }
+}
+
+impl From<Refusal> for Entry {
+    fn from(refusal: Refusal) -> Entry {
+        Entry::Refused { number: refusal.number(), rounds: 0 }
+    }
+}
+
+/// The nightly sheet: one running tally that each verdict is entered into. It starts with all numbers 0, and any numbers are safe.
+/// Shown, it is its report: the numbers below in their order, one on a line.
+///
+/// ```
+/// use otzarvim::{Entry, Refusal, Tally};
+///
+/// let mut tally = Tally::default();
+/// assert_eq!(tally.enter(Entry::Yes { rounds: 4 }), Ok(()));
+/// assert_eq!(tally.enter(Entry::Refused { number: 1, rounds: 9 }), Ok(()));
+/// assert_eq!(tally.enter(Entry::Refused { number: 7, rounds: 100 }), Ok(()));
+/// assert_eq!(tally.enter(Entry::Refused { number: 0, rounds: 1 }), Err(Refusal::Name));
+/// assert_eq!(tally.enter(Entry::Refused { number: 12, rounds: 1 }), Err(Refusal::Name));
+/// assert_eq!(tally.to_string(), "1\n0\n1\n0\n0\n0\n0\n0\n1\n0\n0\n0\n0\n13\n9\n");
+///
+/// // At its end: 4,294,967,295 are accepted and no more.
+/// let mut tally = Tally { no: 4_294_967_294, ..Tally::default() };
+/// assert_eq!(tally.enter(Entry::No { rounds: u32::MAX }), Ok(()));
+/// assert_eq!(tally.enter(Entry::No { rounds: 0 }), Err(Refusal::Limit));
+/// assert_eq!(tally.enter(Entry::Refused { number: 0, rounds: 0 }), Err(Refusal::Name));
+/// assert_eq!((tally.no, tally.sum, tally.largest), (4_294_967_295, 4_294_967_295, 4_294_967_295));
+///
+/// // A sum that didn't begin at 0 can be at its end too.
+/// let mut tally = Tally { sum: u64::MAX - 2, ..Tally::default() };
+/// assert_eq!(tally.enter(Entry::Yes { rounds: 3 }), Err(Refusal::Limit));
+/// assert_eq!(tally.enter(Entry::Yes { rounds: 2 }), Ok(()));
+/// assert_eq!(tally.sum, u64::MAX);
+/// ```
+#[repr(C)]
+#[derive(Clone, Copy, Debug, Default, PartialEq, Eq, Hash)]
+pub struct Tally {
+    /// How many were yes.
+    pub yes: u64,
+    /// How many were no.
+    pub no: u64,
+    /// How many had each refusal number, number 1 first.
+    pub refused: [u64; 11],
+    /// The exact sum of the rounds.
+    pub sum: u64,
+    /// The largest of the rounds.
+    pub largest: u64,
+}
+
+/// So many bytes hold the report of any tally.
+pub const MOST_REPORT: usize = 15 * 21;
+
+impl Tally {
+    /// Enters how a question ended. Refused are a number that the table of refusals doesn't have ([`Refusal::Name`]), and any entry
+    /// after 4,294,967,295 accepted, or one with which the sum would pass 64 bits ([`Refusal::Limit`]); both change nothing.
+    pub fn enter(&mut self, entry: Entry) -> Result<(), Refusal> {
+        let (number, verdict, rounds) = match entry {
+            Entry::Yes { rounds } => (0, 1, rounds),
+            Entry::No { rounds } => (0, 2, rounds),
+            Entry::Refused { number, rounds } => (number, 0, rounds),
+        };
+        // SAFETY: the tally is lent to this function alone. The function is proved to read and write only it.
+        match unsafe { foreign::otzarvim_tally_enter(self, number, verdict, rounds) } {
+            0 => Ok(()),
+            number => Err(Fault::of(number, 0).refusal),
+        }
+    }
+}
+
+impl fmt::Display for Tally {
+    fn fmt(&self, f: &mut fmt::Formatter) -> fmt::Result {
+        let (mut room, mut length) = ([0; MOST_REPORT], 0);
+        // SAFETY: the tally is only read, the room and the length are this function's own. The function is proved to read and write
+        // only these.
+        let number = unsafe { foreign::otzarvim_tally_report(self, room.as_mut_ptr(), room.len(), &mut length) };
+        assert_eq!(number, 0, "the room holds any report");
+        f.write_str(std::str::from_utf8(&room[..length]).expect("digits and line feeds"))
+    }
 }

@@ -6,6 +6,10 @@ use Rattle.graph.specs.Message.{readGraph}
 use Rattle.claims.specs.Answers.{judgedNumber, judgedOffset, writtenNumber, writtenOffset, readClaims}
 use Rattle.claims.proofs.One.{judges-one, SameClaims, writes-one}
 use Rattle.export.specs.Claimed.{judgedVerdict}
+use Prim.Native.Nat.{ℕ}
+use Rattle.tally.specs.declared.Entry.{Entry}
+use Rattle.tally.specs.declared.Tally.{Tally}
+use Rattle.export.specs.Sheet.{EnteredInto}
 use Rattle.export.proofs.otzarvim_graph_check.Reads as graph-check
 use Rattle.export.proofs.otzarvim_model_check.Reads as model-check
 use Rattle.export.proofs.otzarvim_formula_check.Reads as formula-check
@@ -14,6 +18,7 @@ use Rattle.export.proofs.otzarvim_search.Reads as search
 use Rattle.export.proofs.otzarvim_claims_check.Reads as claims-check
 use Rattle.export.proofs.otzarvim_claims_write.Reads as claims-write
 use Rattle.export.proofs.otzarvim_formula_text.Reads as formula-text
+use Rattle.export.proofs.otzarvim_tally_report.Reads as tally-report
 use Rattle.export.proofs.otzarvim_verdict.Reads as verdict
 use Rattle.export.proofs.otzarvim_graph.Reads as graph
 use Rattle.export.proofs.otzarvim_settle.Reads as settle
@@ -76,3 +81,13 @@ one-graph κs a r r′ s s′ p q = (p .0 ∙ sym (q .0), p .1 .0 ∙ sym (q .1 
 pub one-settle : (κs : _) (a : _) (r r′ : _) (s s′ : _) → settle.Post κs a r s → settle.Post κs a r′ s′
     → (r ≡ r′) × (now (s .1 .1 .1 .0) ≡ now (s′ .1 .1 .1 .0)) × (now (s .1 .1 .1 .1 .0) ≡ now (s′ .1 .1 .1 .1 .0)) × (now (s .1 .1 .1 .1 .1 .0) ≡ now (s′ .1 .1 .1 .1 .1 .0)) × (now (s .1 .1 .1 .1 .1 .1 .0) ≡ now (s′ .1 .1 .1 .1 .1 .1 .0)) × (now (s .1 .1 .1 .1 .1 .1 .1 .0) ≡ now (s′ .1 .1 .1 .1 .1 .1 .1 .0)) × (now (s .1 .1 .1 .1 .1 .1 .1 .1 .0) ≡ now (s′ .1 .1 .1 .1 .1 .1 .1 .1 .0))
 one-settle κs a r r′ s s′ p q = (p .0 ∙ sym (q .0), p .1 .0 ∙ sym (q .1 .0), p .1 .1 .0 ∙ sym (q .1 .1 .0), p .1 .1 .1 .0 ∙ sym (q .1 .1 .1 .0), p .1 .1 .1 .1 .0 ∙ sym (q .1 .1 .1 .1 .0), p .1 .1 .1 .1 .1 .0 ∙ sym (q .1 .1 .1 .1 .1 .0), p .1 .1 .1 .1 .1 .1 .0 ∙ sym (q .1 .1 .1 .1 .1 .1 .0))
+
+-- `export::otzarvim_tally_enter`: the answer and the tally, by what its contract says of them
+pub one-tally-enter : {came : Tally} {e : Entry} {r r′ : ℕ} {left left′ : Tally} → EnteredInto came e r left → EnteredInto came e r′ left′
+    → (r ≡ r′) × (left ≡ left′)
+one-tally-enter p q = (p .number-is ∙ sym (q .number-is), p .tally-is ∙ sym (q .tally-is))
+
+-- `export::otzarvim_tally_report`: the answer, the room and the length
+pub one-tally-report : (κs : _) (a : _) (r r′ : _) (s s′ : _) → tally-report.Post κs a r s → tally-report.Post κs a r′ s′
+    → (r ≡ r′) × (now (s .1 .0) ≡ now (s′ .1 .0)) × (now (s .1 .1 .0) ≡ now (s′ .1 .1 .0))
+one-tally-report κs a r r′ s s′ p q = (p .0 ∙ sym (q .0), p .1 .0 ∙ sym (q .1 .0), p .1 .1 ∙ sym (q .1 .1))

@@ -19,6 +19,11 @@ ghost use Rattle.search.specs.Promise as found;
 ghost use Rattle.export.specs.Results.{graphCounts, modelCounts, formulaCount, verdictNumber, foundNumber, searched, askedOne, askedAll, statesLent};
 ghost use Rattle.export.specs.Claimed.{judgedVerdict, JudgedBy, WrittenBy};
 use claims::Judged;
+ghost use Rattle.tally.specs.Entered as t;
+ghost use Rattle.tally.specs.Report as report;
+ghost use Rattle.export.specs.Sheet.{entryOf, notedOf, EnteredInto};
+use tally::Entry;
+use tally::Tally;
 use verdict::AllStates;
 use verdict::Verdict;
 
@@ -326,4 +331,72 @@ pub extern "C" fn otzarvim_settle(
         AllStates::Spent(_, _) => number,
         AllStates::Refused(_) => number,
     }
+}
+
+// The entry of what a call returned: yes or no where it returned OK, else its refusal. What no call returns is an entry that the table
+// doesn't have.
+fn entry(number: u8, verdict: u8, rounds: u32) -> Entry
+    ensures { λ r. ⌜ r ≡ entryOf number verdict rounds ⌝ }
+{
+    if verdict == 0 {
+        return Entry::Refused(number, rounds);
+    }
+    if number != 0 {
+        return Entry::Refused(0, rounds);
+    }
+    match verdict {
+        1 => Entry::Yes(rounds),
+        2 => Entry::No(rounds),
+        _ => Entry::Refused(0, rounds),
+    }
+}
+
+// The tally after an entry, and the number of the answer.
+pub struct Noted {
+    pub tally: Tally,
+    pub number: u8,
+}
+
+// Enters what a call returned into a tally by value.
+fn note(tally: Tally, number: u8, verdict: u8, rounds: u32) -> Noted
+    ensures { λ r. ⌜ r ≡ notedOf (t.enterOf tally (entryOf number verdict rounds)) ⌝ }
+{
+    let entered = tally.enter(entry(number, verdict, rounds));
+    let answer = entered.answer;
+    let next = entered.tally;
+    Noted {
+        tally: next,
+        number: answer.number(),
+    }
+}
+
+// Enters what a call returned into the tally that is lent: the one function that is lent a struct.
+#[no_mangle]
+pub extern "C" fn otzarvim_tally_enter(
+    tally: &mut Tally,
+    number: u8,
+    verdict: u8,
+    rounds: u32,
+) -> u8
+    ensures { λ r. ⌜ EnteredInto (now (tally .entry)) (entryOf number verdict rounds) r (now (tally .exit)) ⌝ }
+{
+    let noted = note(*tally, number, verdict, rounds);
+    *tally = noted.tally;
+    noted.number
+}
+
+// Writes the report of a tally, which is its numbers as they lie in memory; gives its length.
+#[no_mangle]
+pub extern "C" fn otzarvim_tally_report(
+    numbers: &[u64; 15],
+    room: &mut [u8],
+    length: &mut usize,
+) -> u8
+    ensures { λ r. ⌜ r ≡ report.reportedNumber (report.reportedOf (now (numbers .entry)) (now (room .entry))) ⌝ }
+    ensures { λ _. ⌜ now (room .exit) ≡ report.reportRoom (now (numbers .entry)) (now (room .entry)) ⌝ }
+    ensures { λ _. ⌜ now (length .exit) ≡ report.reportedLength (report.reportedOf (now (numbers .entry)) (now (room .entry))) ⌝ }
+{
+    let reported = tally::report(numbers, room);
+    *length = reported.length();
+    reported.number()
 }

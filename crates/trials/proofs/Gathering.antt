@@ -1,4 +1,4 @@
--- A text of at most 64 bytes with more behind it. Assumes nothing.
+-- A text of at most 256 bytes with more behind it. Assumes nothing.
 use mathlib.Core.Path.{_≡_, refl, sym, ap, _∙_}
 use mathlib.Core.List.{List, [], _∷_, _++_, append-assoc, append-nil}
 use mathlib.Core.Logic.{⊎-elim}
@@ -21,26 +21,26 @@ cut-once (suc n) (x ∷ l) s = ap (λ (r : List ℕ). x ∷ r) (cut-once n l s)
 
 pub more-more : (t a b : List ℕ) → more (more t a) b ≡ more t (a ++ b)
 unfolding more
-more-more t a b = cut-once 64 (t ++ a) b ∙ ap (take 64) (append-assoc t a b)
+more-more t a b = cut-once 256 (t ++ a) b ∙ ap (take 256) (append-assoc t a b)
 
--- the text of a line is within its 64 bytes
-pub short : {l : Line} → Sound l → length (textOf l) ≤ 64
+-- the text of a line is within its 256 bytes
+pub short : {l : Line} → Sound l → length (textOf l) ≤ 256
 short {l} h = let a = h .within in simp length-take (omega arith)
 
-pub more-none : (t : List ℕ) → length t ≤ 64 → t ≡ more t []
+pub more-none : (t : List ℕ) → length t ≤ 256 → t ≡ more t []
 unfolding more
-more-none t h = sym (take-all 64 (t ++ []) (simp length-append (omega arith)) ∙ append-nil t)
+more-none t h = sym (take-all 256 (t ++ []) (simp length-append (omega arith)) ∙ append-nil t)
 
 -- a byte stored behind the text of a line that is not full
-pub stored : (bytes : List ℕ) (len b : ℕ) → length bytes ≡ 64 → len < 64 → take (len + 1) (set bytes len b) ≡ more (take len bytes) (b ∷ [])
+pub stored : (bytes : List ℕ) (len b : ℕ) → length bytes ≡ 256 → len < 256 → take (len + 1) (set bytes len b) ≡ more (take len bytes) (b ∷ [])
 unfolding more
 stored bytes len b size room =
-    rw (add-one, take-suc-set bytes len b (omega arith)) (sym (take-all 64 (take len bytes ++ (b ∷ [])) (simp (length-append, length-take) (omega arith))))
+    rw (add-one, take-suc-set bytes len b (omega arith)) (sym (take-all 256 (take len bytes ++ (b ∷ [])) (simp (length-append, length-take) (omega arith))))
 
 -- nothing more fits a line that is full
-pub full : (bytes : List ℕ) (len : ℕ) (s : List ℕ) → length bytes ≡ 64 → 64 ≤ len → take len bytes ≡ more (take len bytes) s
+pub full : (bytes : List ℕ) (len : ℕ) (s : List ℕ) → length bytes ≡ 256 → 256 ≤ len → take len bytes ≡ more (take len bytes) s
 unfolding more
-full bytes len s size h = rw (take-all len bytes (omega arith)) (sym (take-at bytes s 64 size))
+full bytes len s size h = rw (take-all len bytes (omega arith)) (sym (take-at bytes s 256 size))
 
 -- one byte more of a text
 pub more-next : (t s : List ℕ) (i : ℕ) → i < length s → more (more t (take i s)) (getD s i 0 ∷ []) ≡ more t (take (i + 1) s)

@@ -5,6 +5,7 @@ ghost use lib.ListN.{length};
 ghost use Rattle.trials.specs.Lines.{Sound};
 use crate::line::Line;
 use crate::rooms;
+use crate::sheet;
 use crate::sums;
 use claims::Judged;
 use rounds::Outcome;
@@ -404,4 +405,18 @@ fn certified_line(message: &[u8], claimed: &[u8], rest: u32, lent: u32) -> Line
         .sum(values)
         .sum(rest)
         .sum(lent)
+}
+
+// `N`: entries, into one tally that starts at zero.
+pub fn entries(body: &[u8]) -> Line
+    ensures { λ r. ⌜ Sound r ⌝ }
+{
+    if body.len() < 4 {
+        return Line::new();
+    }
+    let message = &body[4..];
+    if !is_message(wire::number_at(body, 0, Width::Four), message) {
+        return Line::new();
+    }
+    sheet::line(message)
 }

@@ -7,7 +7,7 @@ use libc::STDOUT_FILENO;
 
 // The first len bytes are the line's; what would run past the end is dropped.
 pub struct Line {
-    pub bytes: [u8; 64],
+    pub bytes: [u8; 256],
     pub len: usize,
 }
 
@@ -18,7 +18,7 @@ impl Line {
         ensures { λ r. ⌜ textOf r ≡ [] ⌝ }
     {
         Line {
-            bytes: [0; 64],
+            bytes: [0; 256],
             len: 0,
         }
     }
@@ -30,7 +30,7 @@ impl Line {
         ensures { λ r. ⌜ textOf r ≡ more (textOf self) (b ∷ []) ⌝ }
     {
         let at = self.len;
-        if at < 64 {
+        if at < 256 {
             self.bytes[at] = b;
             self.len = at + 1;
         }

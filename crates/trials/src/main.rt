@@ -2,6 +2,7 @@
 mod answers;
 mod line;
 mod rooms;
+mod sheet;
 mod sums;
 
 ghost use Rattle.trials.specs.Lines.{Sound};
@@ -23,6 +24,7 @@ fn answer(letter: u8, body: &[u8], bytes: &mut [u8], values: &mut [u64], words: 
         b'S' => answers::search(body, words),
         b'C' => answers::claims(body),
         b'W' => answers::certify(body, bytes, values),
+        b'N' => answers::entries(body),
         _ => Line::new(),
     }
 }

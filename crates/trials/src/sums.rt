@@ -4,7 +4,7 @@ ghost use Rattle.wire.specs.Bytes.{bytes};
 ghost use Rattle.trials.specs.Sums.{after, afterAll, adler, wide, claimedValues};
 
 // A sum with one byte more.
-fn add(sum: u32, x: u8) -> u32
+pub fn add(sum: u32, x: u8) -> u32
     ensures { λ r. ⌜ r ≡ after sum x ⌝ }
 {
     let a = (sum % 65536 + x as u32) % 65521;

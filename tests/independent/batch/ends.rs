@@ -1,6 +1,7 @@
 //! Calls that are none and end the run.
 
 use crate::answer::{answer_batch, Call, MOST_BYTES, MOST_VALUES, MOST_WORDS};
+use crate::tally::{Entry, Outcome};
 use crate::verdict::Question;
 
 /// Bytes that are no call: "a call past these [limits], with an unknown letter, cut short, or with
@@ -18,6 +19,7 @@ fn whole_no_calls() -> Vec<Vec<u8>> {
         vec![b'V', 128, 0, 0, 0],
     ];
     all.extend(calls_past_limits().iter().map(written));
+    all.extend(no_entries());
     for call in &small_calls() {
         all.extend(cut_bodies(call));
         all.extend(wrong_lengths(call));
@@ -53,7 +55,15 @@ fn small_calls() -> Vec<Call> {
         Call::search(7, 5, &[1, 2, 3]),
         Call::claims(&[1, 2, 3], &[4, 5]),
         Call::certify(6, 5, &[1, 2, 3]),
+        Call::entries(&[one_entry()]),
     ]
+}
+
+fn one_entry() -> Entry {
+    Entry {
+        outcome: Outcome::Refusal(2),
+        rounds: 9,
+    }
 }
 
 fn verdict_on(model: &[u8], formula: &[u8], graph_room: usize, value_room: usize) -> Call {
@@ -97,7 +107,30 @@ fn calls_past_limits() -> Vec<Call> {
         Call::certify(most, 1, &[]),
         Call::certify(1, MOST_VALUES + 1, &[]),
         Call::certify(1, most, &[]),
+        Call::entries(&vec![one_entry(); MOST_BYTES / 6 + 1]),
     ]
+}
+
+/// Messages of a sheet with bytes that are no entry, and with a kind that is none, first and last.
+fn no_entries() -> Vec<Vec<u8>> {
+    let mut all = vec![];
+    for length in [1, 2, 5, 7, 11] {
+        all.push(written_message(&vec![0; length]));
+    }
+    for kind in [3, 128, 255] {
+        for at in [0, 6, 12] {
+            let mut message = vec![0; 18];
+            message[at] = kind;
+            all.push(written_message(&message));
+        }
+    }
+    all
+}
+
+/// A call of N with any message.
+fn written_message(message: &[u8]) -> Vec<u8> {
+    let length = (message.len() as u32).to_be_bytes();
+    sized(b'N', &[&length[..], message].concat())
 }
 
 /// The letter, a size, and a body.

@@ -3,6 +3,7 @@
 pub mod claims;
 mod damage;
 pub mod ends;
+pub mod entries;
 mod formulas;
 pub mod generate;
 mod graphs;
@@ -29,6 +30,7 @@ pub fn systematic() -> Vec<Call> {
         searches::calls(),
         offsets::calls(),
         claims::calls(),
+        entries::calls(),
     ];
     let mut calls: Vec<Call> = parts.into_iter().flatten().collect();
     let mut seen = BTreeSet::new();

@@ -3,7 +3,7 @@
 
 use super::damage::{self, MENDS};
 use super::generate::{self, EXTREMES};
-use super::{claims as around, graphs, searches, verdicts};
+use super::{claims as around, entries, graphs, searches, verdicts};
 use crate::answer::{Call, MOST_BYTES, MOST_VALUES, MOST_WORDS};
 use crate::bytes;
 use crate::claims::{self, Claims};
@@ -14,7 +14,7 @@ use crate::verdict::Question;
 
 /// A call with one of the letters, and none where no letter is known.
 pub fn call(random: &mut Random, letters: &str) -> Option<Call> {
-    let weighted = "GGMMFFTTTRRRRRVVVVVVVSSSSSSCCCCWWW".bytes();
+    let weighted = "GGMMFFTTTRRRRRVVVVVVVSSSSSSCCCCWWWNN".bytes();
     let usable: Vec<u8> = weighted
         .filter(|letter| letters.contains(*letter as char))
         .collect();
@@ -30,6 +30,7 @@ pub fn call(random: &mut Random, letters: &str) -> Option<Call> {
         b'S' => search_call(random),
         b'C' => claims_call(random),
         b'W' => writer_call(random),
+        b'N' => entries_call(random),
         _ => verdict_call(random),
     })
 }
@@ -311,4 +312,11 @@ fn budget(random: &mut Random, count: u32) -> u32 {
         4..=5 => count,
         _ => u32::MAX,
     }
+}
+
+/// A history, now and then a long one.
+fn entries_call(random: &mut Random) -> Call {
+    let most = if large(random) { MOST_BYTES / 6 } else { 40 };
+    let length = random.between(0, most);
+    Call::entries(&entries::history(random, length))
 }
