@@ -20,10 +20,11 @@ triple=x86_64-unknown-linux-gnu
 # Runs a command as root: the installation of a Debian package.
 as_root() { if [ "$(id -u)" = 0 ]; then "$@"; else sudo "$@"; fi; }
 
-# Installs Debian's packages where a command is missing.
+# Installs Debian's packages, and does so where a command is missing.
 installed() { # COMMAND PACKAGE..
-    command -v "$1" >/dev/null && return
-    shift
+    command -v "$1" >/dev/null || install_packages "${@:2}"
+}
+install_packages() { # PACKAGE..
     say "installing $*"
     as_root apt-get install -y -qq --no-install-recommends "$@" >/dev/null 2>&1 ||
         { as_root apt-get update -qq >/dev/null && as_root apt-get install -y -qq --no-install-recommends "$@" >/dev/null; } ||
