@@ -147,8 +147,8 @@ def hostile(page):
     for text in (HOSTILE, f"state a: {HOSTILE}", "a -> b 1\n" * 3 + "__proto__ -> constructor 1\nconstructor -> __proto__ 2\ntoString: hasOwnProperty, valueOf"):
         page.put("model", text)
         page.put("formula", "true")
-        page.until(lambda: page.text("#mistakes") or page.text("#verdict").endswith("yes"), "an end")
-        page.until(lambda: page.text("#mistakes") == "" or "HTML" not in page.text("#mistakes"), "an end")
+        said = "toString: hasOwn" if "proto" in text else "<img src=x"
+        page.until(lambda: page.text("#mistakes").count(said) or page.text("#verdict") == "a: yes", "an end")
         equal(page.count("img, script"), before, f"no markup comes of {text[:40]!r}")
     page.until(lambda: page.text("#verdict") == "a: yes", "names of the script's own objects")
     equal(list(page.states()), ["a", "b", "__proto__", "constructor", "toString"], "names of the script's own objects are names")

@@ -9,6 +9,7 @@ const EXAMPLES = [
 ];
 const PAUSE = 120; // milliseconds after the last key
 const LONGEST_ADDRESS = 60000;
+const LONGEST_WORDS = 400; // of a mistake, which may repeat a line of the text
 const MEANING = { SIZE: "the graph to be built would pass a limit on its nodes, hyperedges, cover edges or targets" };
 
 const $ = (id) => document.getElementById(id);
@@ -68,6 +69,15 @@ function ask([model, formula], propositions) {
     return { answers, rounds: settled.count, text: text.replace(/p([0-9]+)/g, (_, number) => propositions[number]) };
 }
 
+/** The same; a module that could not end its call is told, and never taken for an answer. */
+function attempt(messages, propositions) {
+    try {
+        return ask(messages, propositions);
+    } catch (error) {
+        return { refused: `No answer: the library could not end its call (${error.message}). Load the page again.` };
+    }
+}
+
 /** Underlines a mistake: the word at its column, or its whole line. */
 function underline({ path, line, column, words }) {
     if (line === null) return;
@@ -76,15 +86,17 @@ function underline({ path, line, column, words }) {
     let from = column === null ? content.search(/\S/) : column - 1;
     let to = column === null ? content.trimEnd().length : from + (/^(\w+|<=|.)/u.exec(content.slice(from))?.[0].length ?? 0);
     if (from >= content.length) [from, to] = [Math.max(0, content.length - 1), content.length]; // the text ends too early
-    lines.markText({ line: line - 1, ch: Math.max(0, from) }, { line: line - 1, ch: to }, { className: "wrong", attributes: { title: words } });
+    lines.markText({ line: line - 1, ch: Math.max(0, from) }, { line: line - 1, ch: to }, { className: "wrong", attributes: { title: shortened(words) } });
 }
+
+const shortened = (words) => (words.length > LONGEST_WORDS ? `${words.slice(0, LONGEST_WORDS)} …` : words);
 
 function showMistakes(mistakes) {
     for (const { doc } of Object.values(editors)) doc.getAllMarks().forEach((marked) => marked.clear());
     mistakes.forEach(underline);
     $("mistakes").replaceChildren(...mistakes.map(({ path, line, column, words }) => {
         const place = [path, line === null ? "" : `line ${line}`, column === null ? "" : `column ${column}`].filter(Boolean).join(", ");
-        return element("li", `${place}: ${words}`);
+        return element("li", `${place}: ${shortened(words)}`);
     }));
 }
 
@@ -94,7 +106,7 @@ function showPicture(model, answers, state) {
     if (why || !model) {
         if (why) $("figure").replaceChildren();
         if (why) drawn = { key: "", svg: null };
-        if (drawn.svg) mark(drawn.svg, null, -1);
+        if (drawn.svg) mark(drawn.svg, null, -1, true);
         return;
     }
     const narrow = $("figure").parentElement.clientWidth < 640;
@@ -155,7 +167,7 @@ function showVerdict(model, found, state) {
 /** Reads, asks and shows. */
 function answer() {
     const { model, messages, mistakes, propositions } = compileQuestion(text("model"), text("formula"));
-    const found = messages ? ask(messages, propositions) : null;
+    const found = messages ? attempt(messages, propositions) : null;
     const state = model ? Math.max(0, model.states.indexOf(asked)) : -1;
     showMistakes(mistakes);
     showVerdict(model, found, state);

@@ -46,6 +46,15 @@ function through(points) {
     return points.length === 2 ? `${path} L ${at(points[1])}` : path;
 }
 
+/** A loop from a box to itself, whose farthest point is where its weight stands. */
+function loop({ points, x, y }) {
+    const [a, b] = [points[0], points.at(-1)];
+    const out = { x: (4 * (x - (a.x + b.x) / 2)) / 3, y: (4 * (y - (a.y + b.y) / 2)) / 3 };
+    const at = (point, by) => `${(point.x + by.x).toFixed(1)} ${(point.y + by.y).toFixed(1)}`;
+    const none = { x: 0, y: 0 };
+    return `M ${at(a, none)} C ${at(a, out)} ${at(b, out)} ${at(b, none)}`;
+}
+
 function laidOut(model, arrows, narrow) {
     const graph = new globalThis.dagre.graphlib.Graph({ multigraph: false });
     graph.setGraph({ rankdir: narrow ? "TB" : "LR", nodesep: 28, ranksep: 34, edgesep: 16, marginx: 12, marginy: 12 });
@@ -86,15 +95,15 @@ export function draw(model, narrow, choose) {
     const weights = element("g");
     for (const name of graph.edges()) {
         const arrow = graph.edge(name);
-        svg.append(element("path", { class: "arrow", d: through(arrow.points), "marker-end": "url(#head)" }));
+        svg.append(element("path", { class: "arrow", d: arrow.source === arrow.target ? loop(arrow) : through(arrow.points), "marker-end": "url(#head)" }));
         weights.append(element("text", { class: "weight", x: arrow.x, y: arrow.y }, element("title", {}, arrow.whole), arrow.label));
     }
     svg.append(weights, ...model.states.map((_, i) => drawnState(graph.node(String(i)), i, choose)));
     return svg;
 }
 
-/** Marks each state by its answer (true, false, or null for none), and puts the asked one in front. */
-export function mark(svg, answers, asked) {
+/** Marks each state by its answer, or takes all marks away, and puts the asked one in front; stale: of a model that is no longer there. */
+export function mark(svg, answers, asked, stale = false) {
     for (const group of [...svg.querySelectorAll(".state")]) {
         const i = Number(group.dataset.state);
         const answer = answers?.[i] ?? null;
@@ -104,5 +113,5 @@ export function mark(svg, answers, asked) {
         group.querySelector(".mark").textContent = answer === null ? "" : answer ? "yes" : "no";
         if (i === asked) svg.append(group);
     }
-    svg.classList.toggle("stale", answers === null);
+    svg.classList.toggle("stale", stale);
 }
