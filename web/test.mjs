@@ -62,6 +62,9 @@ const LETTERS = {
     }],
     S: [2, 1, ([root, length], [message]) => {
         const found = library.otzarvim_search({ message, root, words: wordRoom(length) });
+        const roomy = library.otzarvim_search({ message, root }); // a room that is left out suffices
+        assert.deepEqual(roomy.name, found.name === "ROOM" ? "OK" : found.name);
+        if (found.name === "OK") assert.deepEqual([roomy.verdict, roomy.count], [found.verdict, found.count]);
         return [...start(found), found.verdict, found.count, adler(found.words)];
     }],
     C: [0, 2, (_, [message, claims]) => {

@@ -65,7 +65,7 @@ const FUNCTIONS = {
     otzarvim_settle: [...question, number("budget", 32), ...rooms, count, size("length"),
         back("states", Uint32Array, 2, ([first, states]) => ({ first, count: states }), true), offset],
     otzarvim_claims_check: [message("message"), message("claims"), verdict, offset],
-    otzarvim_claims_write: [message("message"), bytes8("claims", 16 * MOST.NODES), words64("words", 4 * MOST.VALUES), offset],
+    otzarvim_claims_write: [message("message"), bytes8("claims", 16 * MOST.NODES), words64("words", 8 * MOST.NODES), offset],
     otzarvim_tally_enter: [record("tally", BigUint64Array, 15, true), number("number", 8), number("verdict", 8), number("rounds", 32)],
     otzarvim_tally_report: [record("tally", BigUint64Array, 15, false), bytes8("room", MOST.REPORT), size("length")],
 };

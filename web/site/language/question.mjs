@@ -62,26 +62,34 @@ function* limits(model, own, rows) {
     yield* outside("formula", "rows", rows.length);
 }
 
-/** Bytes from numbers of 1, 2 or 4 bytes, most significant first. */
-function packed(sizes, numbers) {
-    return sizes.flatMap((size, i) => Array.from({ length: size }, (_, at) => (numbers[i] >>> (8 * (size - 1 - at))) & 255));
+/** A message of so many bytes, whose fields of 1, 2 or 4 bytes come one after another, most significant byte first. */
+class Message {
+    constructor(length) {
+        this.bytes = new Uint8Array(length);
+        this.at = 0;
+    }
+
+    put(sizes, numbers) {
+        sizes.forEach((size, i) => {
+            for (let shift = 8 * (size - 1); shift >= 0; shift -= 8) this.bytes[this.at++] = numbers[i] >>> shift;
+        });
+    }
 }
 
 function modelMessage({ states, propositions, labels, transitions }) {
+    const message = new Message(13 + 4 * states.length + 8 * transitions.length);
+    message.put([4, 1, 1, 2, 1, 4], [message.bytes.length, 1, 2, states.length, propositions.length, transitions.length]);
+    for (const label of labels) message.put([4], [[...label].reduce((bits, i) => bits | (1 << i), 0)]);
     const sorted = [...transitions].sort((a, b) => a.source - b.source); // keeps the file's order within a state
-    const length = 13 + 4 * states.length + 8 * transitions.length;
-    return Uint8Array.from([
-        ...packed([4, 1, 1, 2, 1, 4], [length, 1, 2, states.length, propositions.length, transitions.length]),
-        ...labels.flatMap((label) => packed([4], [[...label].reduce((bits, i) => bits | (1 << i), 0)])),
-        ...sorted.flatMap(({ source, weight, target }) => packed([2, 4, 2], [source, weight, target])),
-    ]);
+    for (const { source, weight, target } of sorted) message.put([2, 4, 2], [source, weight, target]);
+    return message.bytes;
 }
 
 function formulaMessage(rows) {
-    return Uint8Array.from([
-        ...packed([4, 1, 1, 1], [7 + 8 * rows.length, 1, 3, rows.length]),
-        ...rows.flatMap(({ operator, left, right, bound }) => packed([1, 1, 1, 1, 4], [operator, left, right, 0, bound])),
-    ]);
+    const message = new Message(7 + 8 * rows.length);
+    message.put([4, 1, 1, 1], [message.bytes.length, 1, 3, rows.length]);
+    for (const { operator, left, right, bound } of rows) message.put([1, 1, 1, 1, 4], [operator, left, right, 0, bound]);
+    return message.bytes;
 }
 
 /**
