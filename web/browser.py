@@ -124,6 +124,8 @@ def damage(page):
 def keyboard(page):
     page.focus("formula").send_keys(Keys.TAB)
     equal(page.browser.execute_script("return document.activeElement.closest('.CodeMirror') === null"), True, "Tab leaves the text")
+    page.browser.find_element(By.CSS_SELECTOR, "label[for=model]").click()
+    equal(page.browser.execute_script("return document.activeElement.closest('.of-model') !== null"), True, "a label leads to its text")
     row = page.browser.find_element(By.CSS_SELECTOR, "#states input:checked")
     row.send_keys(Keys.ARROW_DOWN)
     page.until(lambda: page.text("#verdict") == "interpreted: yes", "the next state by the arrow key")

@@ -45,6 +45,7 @@ function editor(id, said, name) {
     });
     made.getWrapperElement().classList.add(`of-${id}`);
     made.getInputField().setAttribute("aria-label", said);
+    document.querySelector(`label[for=${id}]`).addEventListener("click", () => made.focus()); // it names a field that is hidden now
     return made;
 }
 
