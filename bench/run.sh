@@ -5,42 +5,24 @@
 set -euo pipefail
 root=$(cd "$(dirname "$0")/.." && pwd -P)
 . "$root/bindings/common.sh"
+. "$root/bindings/module.sh"
 
 out=$target/bench
 mkdir -p "$out"
 c_tools
 rust_tools || die "no Rust compiler for x86-64"
 
-# The kit's compiler, beside gcc: the one that compiles the library. It comes without headers, and these files ask for none.
-kit_clang=$tools/bin/clang
-
-# The Rattle library and the program; elsewhere than on x86-64 also the same LLVM modules for this machine, caught on their way to the
-# kit's compiler.
-caught() { # NAME RT-WORDS
-    local name=$1
-    shift
-    rm -f "$out/module.bc"
-    (cd "$root" && RATTLE_HOME=$mirror rt "$@") >"$out/log" 2>&1 || { cat "$out/log"; die "$name is not proved"; }
-    "$kit_clang" --target=x86_64-unknown-linux-gnu -S -emit-llvm -Xclang -disable-llvm-passes -x ir "$out/module.bc" -o "$out/$name.ll"
-    sed -i -e "s/^target triple.*/target triple = \"$machine-unknown-linux-gnu\"/" -e '/^target datalayout/d' \
-        -e 's/"target-cpu"="x86-64"//' -e 's/"probe-stack"="inline-asm"//' "$out/$name.ll"
-    "$kit_clang" --target="$machine-unknown-linux-gnu" -O3 -fPIC -c -x ir "$out/$name.ll" -o "$out/$name-here.o"
+# The Rattle library and the program; elsewhere than on x86-64 also the same LLVM modules for this machine.
+here() { # NAME RT-WORDS
+    caught "$out" "$@"
+    "$kit_clang" --target="$machine-unknown-linux-gnu" -Wno-override-module -O3 -fPIC -c -x ir "$out/$1.ll" -o "$out/$1-here.o"
 }
 
 archive
 if [ "$machine" != x86_64 ]; then
-    mirror=$out/kit
-    rm -rf "$mirror"
-    mkdir -p "$mirror/on/$machine/toolchain/bin"
-    for f in "$kit"/*; do [ "$(basename "$f")" = on ] || ln -s "$f" "$mirror/"; done
-    for f in "$kit/on/$machine"/*; do [ "$(basename "$f")" = toolchain ] || ln -s "$f" "$mirror/on/$machine/"; done
-    ln -s "$tools/lib" "$mirror/on/$machine/toolchain/lib"
-    cp "$tools/bin/llvm-ar" "$tools/bin/ld.lld" "$tools/bin/qemu-x86_64" "$mirror/on/$machine/toolchain/bin/"
-    printf '#!/bin/sh\n[ ! -e module.bc ] || cp module.bc "%s/module.bc"\nexec "%s" "$@"\n' "$out" "$kit_clang" >"$mirror/on/$machine/toolchain/bin/clang"
-    chmod +x "$mirror/on/$machine/toolchain/bin/clang"
-    caught library staticlib export
+    here library staticlib export
     rm -f "$target/stamp/otzarvim" # or it would not be compiled again
-    caught program check otzarvim
+    here program check otzarvim
 else
     (cd "$root" && rt check otzarvim) >"$out/log" 2>&1 || { cat "$out/log"; die "the program is not proved"; }
 fi

@@ -20,6 +20,17 @@ triple=x86_64-unknown-linux-gnu
 # Runs a command as root: the installation of a Debian package.
 as_root() { if [ "$(id -u)" = 0 ]; then "$@"; else sudo "$@"; fi; }
 
+# Installs Debian's packages, and does so where a command is missing.
+installed() { # COMMAND PACKAGE..
+    command -v "$1" >/dev/null || install_packages "${@:2}"
+}
+install_packages() { # PACKAGE..
+    say "installing $*"
+    as_root apt-get install -y -qq --no-install-recommends "$@" >/dev/null 2>&1 ||
+        { as_root apt-get update -qq >/dev/null && as_root apt-get install -y -qq --no-install-recommends "$@" >/dev/null; } ||
+        die "apt-get install $* failed"
+}
+
 # Sets `gcc`, `nm` and `run`: a command for x86-64 each; and `emulated`: how programs run.
 c_tools() {
     if [ "$machine" = x86_64 ]; then
@@ -31,11 +42,7 @@ c_tools() {
         return
     fi
     gcc=x86_64-linux-gnu-gcc
-    if ! command -v $gcc >/dev/null; then
-        say "installing gcc-x86-64-linux-gnu"
-        as_root apt-get install -y -qq gcc-x86-64-linux-gnu >/dev/null 2>&1 || { as_root apt-get update -qq >/dev/null && as_root apt-get install -y -qq gcc-x86-64-linux-gnu >/dev/null; } ||
-            die "no C compiler for x86-64: apt-get install gcc-x86-64-linux-gnu failed"
-    fi
+    installed $gcc gcc-x86-64-linux-gnu libc6-dev-amd64-cross
     nm=x86_64-linux-gnu-nm
     sysroot=/usr/x86_64-linux-gnu
     [ -x "$tools/bin/qemu-x86_64" ] || die "the kit has no emulator at $tools/bin/qemu-x86_64"

@@ -1,0 +1,134 @@
+// The text of models, read: states, propositions, labels and transitions by number, with their names.
+import { BLANK, Mistake, hint, strip, words, wrongNumber, wrongPropositionName, wrongStateName } from "./names.mjs";
+
+const LARGEST_WEIGHT = 4294967295;
+const STATE = new RegExp(`^(?:state[${BLANK}]+)?([^${BLANK}:]+)[${BLANK}]*(?::([^\\n]*))?$`);
+
+class Reader {
+    constructor(path) {
+        this.path = path;
+        this.states = [];
+        this.propositions = [];
+        this.labels = []; // a set for each state
+        this.transitions = []; // { source, weight, target, line }
+        this.numbers = new Map(); // of the states
+        this.known = new Map(); // of the propositions
+        this.declared = false; // a propositions line stood above
+        this.labelled = new Map(); // the line of each state's own line
+        this.labelLines = [];
+    }
+
+    fail(line, said) {
+        throw new Mistake(this.path, line, null, said);
+    }
+
+    /** The number of a state, which is new at its first mention. */
+    state(name, line) {
+        const wrong = wrongStateName(name);
+        if (wrong) this.fail(line, wrong);
+        if (!this.numbers.has(name)) {
+            this.numbers.set(name, this.states.length);
+            this.states.push(name);
+            this.labels.push(new Set());
+        }
+        return this.numbers.get(name);
+    }
+
+    addProposition(name, line) {
+        const number = this.propositions.length;
+        const wrong = wrongPropositionName(name, number);
+        if (wrong) this.fail(line, wrong);
+        this.propositions.push(name);
+        this.known.set(name, number);
+        return number;
+    }
+
+    /** The names of a comma-separated list, each once. */
+    listOf(text, line) {
+        if (!text) this.fail(line, "the list is empty");
+        const seen = new Set();
+        for (const name of text.split(",").map(strip)) {
+            if (!name) this.fail(line, "a name is missing beside a comma");
+            if (seen.has(name)) this.fail(line, `${name} stands twice`);
+            seen.add(name);
+        }
+        return [...seen];
+    }
+
+    propositionsLine(text, line) {
+        if (this.labelled.size) this.fail(line, "propositions are listed before the first state's line");
+        this.declared = true;
+        for (const name of this.listOf(text, line)) {
+            if (this.known.has(name)) this.fail(line, `${name} stands twice`);
+            this.addProposition(name, line);
+        }
+    }
+
+    stateLine(text, line) {
+        const found = STATE.exec(text);
+        if (!found) this.fail(line, `not a state's line: '${text}' (as: state cold: idle, safe)`);
+        const [name, labels] = [found[1], strip(found[2] ?? "")];
+        const state = this.state(name, line);
+        if (this.labelled.has(name)) this.fail(line, `state ${name} has its line already, line ${this.labelled.get(name)}`);
+        this.labelled.set(name, line);
+        for (const label of labels ? this.listOf(labels, line) : []) {
+            const number = this.label(label, line);
+            this.labelLines.push([state, number, line]);
+            this.labels[state].add(number);
+        }
+    }
+
+    /** The number of a proposition, which is new at its first mention unless all are listed. */
+    label(name, line) {
+        if (this.known.has(name)) return this.known.get(name);
+        if (this.declared) this.fail(line, `${name} isn't among the propositions listed above${hint(name, this.propositions, this.propositions)}`);
+        return this.addProposition(name, line);
+    }
+
+    transitionLine(text, line) {
+        const at = text.indexOf("->");
+        const left = strip(text.slice(0, at));
+        const right = words(text.slice(at + 2));
+        if (!left || right.length !== 2) {
+            this.fail(line, `not a transition: '${text}'${left && right.length === 1 ? " (its weight is missing)" : ""} (as: cold -> hot 12)`);
+        }
+        const source = this.state(left, line);
+        const target = this.state(right[0], line);
+        const wrong = wrongNumber(right[1], "weight", LARGEST_WEIGHT);
+        if (wrong) this.fail(line, wrong);
+        this.transitions.push({ source, weight: Number(right[1]), target });
+    }
+
+    line(text, line) {
+        const first = words(text)[0];
+        if (text.includes("->")) this.transitionLine(text, line);
+        else if (first.replace(/:+$/, "") === "propositions") this.propositionsLine(text.slice("propositions".length).replace(/^[ \t:]+/, ""), line);
+        else if (first === "state" || text.includes(":")) this.stateLine(text, line);
+        else this.fail(line, `not a line of a model: '${text}' (as: state cold: idle, or: cold -> hot 12)`);
+    }
+
+    /** A state's name holds in that state alone, so labels that say otherwise are mistakes. */
+    end() {
+        const { states, propositions, labels, transitions } = this;
+        for (const [state, number, line] of this.labelLines) {
+            const name = propositions[number];
+            if (this.numbers.has(name) && name !== states[state]) {
+                this.fail(line, `${name} is a state, and its name holds in that state alone; ${states[state]} can't have it as a proposition`);
+            }
+        }
+        propositions.forEach((name, number) => {
+            if (this.numbers.has(name)) labels[this.numbers.get(name)].add(number);
+        });
+        return { states, propositions, labels, transitions };
+    }
+}
+
+/** Reads the text of a model; the first mistake is thrown with its line. */
+export function readModel(text, path) {
+    const reader = new Reader(path);
+    text.split("\n").forEach((whole, i) => {
+        const content = strip(whole.split("#", 1)[0]);
+        if (content) reader.line(content, i + 1);
+    });
+    return reader.end();
+}
