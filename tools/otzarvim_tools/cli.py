@@ -62,6 +62,13 @@ def _write_bytes(path: str, data: bytes) -> None:
         raise Mistake(Place(path), error.strerror or "can't be written") from None
 
 
+def _write_drawing(path: str, text: str) -> None:
+    if path == "-":
+        sys.stdout.write(text)
+    else:
+        _write_bytes(path, drawn(text, path))
+
+
 def _sheet(path: str) -> Sheet:
     return read_sheet(_read_text(path), _called(path))
 
@@ -120,6 +127,8 @@ def check(words: argparse.Namespace) -> int:
     for path in words.files:
         try:
             sheet = _sheet(path)
+            if not sheet.expectations:
+                raise Mistake(Place(sheet.model.path), "nothing is expected here (as: expect cold: EX idle)")
             sheets.append((release.Report(path), sheet, release.read_questions(sheet)))
         except (Mistake, Complaints) as mistake:
             sheets.append((release.Report(path, mistake=str(mistake)), None, {}))
@@ -173,13 +182,13 @@ def why_command(words: argparse.Namespace) -> int:
         sys.stdout.write(why.render(explainer, state, steps, None if words.all else STEPS))
     if words.draw:
         run = next((step.run for step in steps if step.run), None)
-        _write_bytes(words.draw, drawn(draw(sheet.model, run), words.draw))
+        _write_drawing(words.draw, draw(sheet.model, run))
     return ANSWERED
 
 
 def draw_command(words: argparse.Namespace) -> int:
     """Writes a model as DOT text, or as a picture."""
-    _write_bytes(words.output, drawn(draw(_model(words.model)), words.output))
+    _write_drawing(words.output, draw(_model(words.model)))
     return ANSWERED
 
 

@@ -107,8 +107,6 @@ def render(report: Report) -> str:
             lines += [f"       {line}" for line in result.failure.splitlines()]
     if report.mistake:
         lines += [f"  {line}" for line in report.mistake.splitlines()]
-    if not report.results and not report.mistake:
-        lines.append("  nothing is expected here (as: expect cold: EX idle)")
     return "".join(line + "\n" for line in lines)
 
 

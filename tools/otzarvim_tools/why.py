@@ -113,7 +113,9 @@ class Explainer:
         return fails if run.again is not None or self.values.holds(left, last) else [*fails, (left, last)]
 
     def _comes(self, row: int, run: Run, words: str) -> Step:
-        return Step((row, run.start), words, run, f"{self.text(self.values.operands(row)[1])} holds there, at a cost of {run.cost}", self._along(row, run, True))
+        """`words` has a place for right's text."""
+        right = self.text(self.values.operands(row)[1])
+        return Step((row, run.start), words.replace("*", right), run, f"{right} holds in {self.names[run.states[-1]]}, at a cost of {run.cost}", self._along(row, run, True))
 
     def _exists(self, row: int, state: int) -> Step:
         """Of E until: the cheapest run to right, which shows it, or shows that it costs too much; else the states that are reached."""
@@ -126,9 +128,9 @@ class Explainer:
         runs.check_reaches(run, cost)
         if self.values.holds(row, state):
             self._within(part.bound is None or cost <= part.bound)
-            return self._comes(row, run, "this run shows it")
+            return self._comes(row, run, "this run comes to *" if part.bound is None else f"this run comes to * at a cost of at most {part.bound}")
         self._within(part.bound is not None and cost > part.bound)
-        return self._comes(row, run, f"even the cheapest run costs more than {part.bound}")
+        return self._comes(row, run, f"even the cheapest run to * costs more than {part.bound}")
 
     def _unreached(self, row: int, state: int) -> Step:
         left, right = self.values.operands(row)
@@ -153,9 +155,9 @@ class Explainer:
             runs.check_reaches(run, cost)
             if self.values.holds(row, state):
                 self._within(part.bound is None or cost <= part.bound)
-                return self._comes(row, run, "every run comes there, and none costs more than this one")
+                return self._comes(row, run, "every run comes to *, and none at a greater cost than this one")
             self._within(part.bound is not None and cost > part.bound)
-            step = self._comes(row, run, f"this run comes there at a cost of more than {part.bound}")
+            step = self._comes(row, run, f"this run comes to * only at a cost of more than {part.bound}")
             step.needs = [(self.values.operands(row)[1], at) for at in run.states[:-1]]
             return step
         run = runs.failing(state)

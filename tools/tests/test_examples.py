@@ -8,10 +8,11 @@ import subprocess
 from unittest import mock
 
 from otzarvim_tools import checks
+from otzarvim_tools.library import VARIABLE as LIBRARY_VARIABLE
 from otzarvim_tools.model_text import read_model
 from otzarvim_tools.running import VARIABLE
 
-from .common import FAKE, ROOT, Case, program
+from .common import FAKE, ROOT, Case, program, the_library
 from .meaning import a_until, e_until
 
 LIFE = ROOT / "examples" / "formula_life.otz"
@@ -104,7 +105,7 @@ class Pages(Case):
             shown = 0
             for block in re.findall(r"^```\n(\$ .*?)^```$", text, re.M | re.S):
                 for command, output in re.findall(r"^\$ ([^\n]*)\n((?:(?!\$ ).*\n)*)", block, re.M):
-                    self.assertEqual(self.written(command), output, f"{page}: {command}")
+                    self.assertEqual(timeless(self.written(command)), timeless(output), f"{page}: {command}")
                     shown += 1
             self.assertGreaterEqual(shown, least, page)
 
@@ -126,13 +127,18 @@ class Pages(Case):
 
     def written(self, command):
         """What a command writes. Pipelines go to a shell; the others run here, which is faster."""
-        with mock.patch.dict(os.environ, {VARIABLE: program()}), in_folder(ROOT):
+        with mock.patch.dict(os.environ, {VARIABLE: program(), LIBRARY_VARIABLE: the_library()}), in_folder(ROOT):
             if "|" in command.split("'")[-1]:
                 return subprocess.run(["sh", "-c", command], stdout=subprocess.PIPE, stderr=subprocess.STDOUT, text=True).stdout
             name, *words = shlex.split(command)
             self.assertEqual(name, "tools/otz")
             _, out, err = self.otz(*words)
             return out + err
+
+
+def timeless(text):
+    """Without what differs from time to time."""
+    return re.sub(r" *\d+ ms", " 0 ms", text)
 
 
 @contextlib.contextmanager
