@@ -3,6 +3,7 @@
 import random
 from dataclasses import replace
 
+from otzarvim_tools.formula import Formula
 from otzarvim_tools.mistakes import Mistake, Place
 from otzarvim_tools.model import Transition
 from otzarvim_tools.names import Names
@@ -24,16 +25,24 @@ def values_of(question):
     return Values(question, quick_library().settle(compile_model(question.model), compile_formula(question.formula)))
 
 
+def far(chance):
+    """A model with few goals, and an until whose bound is often too small."""
+    over = random_model(chance)
+    over.labels[:] = [frozenset({0} if chance.random() < 0.2 else ()) for _ in over.states]
+    operator = chance.choice(UNTILS)
+    return over, Formula(operator, (Formula(Operator.TRUE), Formula(Operator.PROPOSITION)), bound=chance.randint(0, 4))
+
+
 def explained(seed, many):
-    """Questions, each with an until at its root more often than by chance, and their explainers."""
+    """Questions, more of them with an until at the root than by chance, and their explainers."""
     chance = random.Random(seed)
     for number in range(many):
-        over = random_model(chance)
-        formula = random_formula(chance, len(over.propositions))
-        while number % 3 and formula.operator not in UNTILS:
+        over, formula = far(chance)
+        if number % 3 < 2:
+            over = random_model(chance)
             formula = random_formula(chance, len(over.propositions))
-        if number % 3 == 2:
-            formula = replace(formula, bound=chance.randint(0, 9))  # too little, often
+        while number % 3 == 1 and formula.operator not in UNTILS:
+            formula = random_formula(chance, len(over.propositions))
         question = Question(Names(over), formula, Place("formula"))
         yield question, Explainer(values_of(question))
 
@@ -85,7 +94,7 @@ class Reasons(Case):
         return self.saw(kind + ", ends")
 
     def test_against_brute_force(self):
-        for question, explainer in explained(21, 600):
+        for question, explainer in explained(21, 900):
             leads, labels = leads_of(question.model), question.model.labels
             satisfied = [satisfying(leads, labels, part) for part in explainer.values.parts]
             for state in leads:
@@ -104,7 +113,7 @@ class Reasons(Case):
                     for need in step.needs:
                         self.assertTrue(need in claims or explainer.values.parts[need[0]].operator <= Operator.NOT_PROPOSITION)
         for kind in ("E_UNTIL yes, cost", "E_UNTIL no, cost", "E_UNTIL no, states", "A_UNTIL yes, cost", "A_UNTIL no, cost", "A_UNTIL no, endless", "A_UNTIL no, left", "A_UNTIL no, ends"):
-            self.assertGreater(self.kinds.get(kind, 0), 50, kind)
+            self.assertGreater(self.kinds.get(kind, 0), 25, kind)
 
     def decided(self, explainer, step, satisfied, leads):
         """Of and, or, EX, AX: what a step rests on decides it."""
