@@ -81,7 +81,7 @@ class Asking(Case):
     def test_without_words_all_commands_are_told(self):
         status, out, err = self.otz()
         self.assertEqual((status, out), (2, ""))
-        for command in ("ask", "draw", "compile", "show"):
+        for command in ("ask", "check", "least", "why", "draw", "compile", "show"):
             self.assertRegex(err, rf"(?m)^ +{command} ")
 
     def test_stopped_by_the_keyboard(self):
