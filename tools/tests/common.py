@@ -1,6 +1,7 @@
 """What the tests share."""
 
 import contextlib
+import functools
 import io
 import os
 import stat
@@ -62,10 +63,16 @@ def the_library():
     return str(Path(given).resolve() if given else FAKE_LIBRARY)
 
 
+@functools.lru_cache(maxsize=None)
+def opened(path):
+    """A library, opened once for all tests."""
+    return library.open_library(path)
+
+
 def quick_library(option=None):
     """Opens a library, but the stand-in within this process, which is also there where none is named."""
     given = option or the_library()
-    return QuickLibrary() if given == str(FAKE_LIBRARY) else library.open_library(given)
+    return QuickLibrary() if given == str(FAKE_LIBRARY) else opened(given)
 
 
 class Case(unittest.TestCase):
