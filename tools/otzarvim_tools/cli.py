@@ -17,7 +17,7 @@ from .drawing import draw, drawn
 from .library import VARIABLE as LIBRARY_VARIABLE
 from .mistakes import Mistake, Place
 from .model import Model
-from .model_text import Sheet, read_sheet, write_model
+from .model_text import Sheet, Written, read_sheet, write_model
 from .names import hint
 from .progress import Progress
 from .question import Question, read_question
@@ -123,7 +123,7 @@ def ask(words: argparse.Namespace) -> int:
 
 def check(words: argparse.Namespace) -> int:
     """Asks the questions of files, and compares the answers with what is expected."""
-    sheets: List[Tuple[release.Report, Optional[Sheet], Dict]] = []
+    sheets: List[Tuple[release.Report, Optional[Sheet], Dict[Written, Question]]] = []
     for path in words.files:
         try:
             sheet = _sheet(path)
@@ -176,7 +176,7 @@ def why_command(words: argparse.Namespace) -> int:
     sheet = _sheet(words.model)
     question = _question(sheet, words.formula)
     state = _state(sheet.model, words.state)
-    explainer = why.Explainer(Values(question, _asker(words).settle(question)))
+    explainer = why.Explainer(Values(question, Asker(library=words.library).settle(question)))
     steps = explainer.steps(state)
     if words.draw != "-":
         sys.stdout.write(why.render(explainer, state, steps, None if words.all else STEPS))
@@ -241,11 +241,14 @@ def _parser() -> argparse.ArgumentParser:
         command.set_defaults(act=act)
         return command
 
-    def add_asking(name: str, does: str, act: object, by: Tuple[str, ...] = (PROGRAM, LIBRARY)) -> argparse.ArgumentParser:
-        command = add(name, does, act)
+    def add_asking(name: str, does: str, act: object) -> argparse.ArgumentParser:
+        command = add_library(add(name, does, act))
         command.add_argument("--program", metavar="PATH", help=f"ask this program (else the variable {VARIABLE} names it, else it is target/bin/otzarvim, built if it is missing)")
+        command.add_argument("--by", choices=(PROGRAM, LIBRARY), help="who is to answer (else the program, and the library what the program has no room for)")
+        return command
+
+    def add_library(command: argparse.ArgumentParser) -> argparse.ArgumentParser:
         command.add_argument("--library", metavar="PATH", help=f"ask this library, a shared object or a bridge (else the variable {LIBRARY_VARIABLE} names it, else it is built from the archive)")
-        command.add_argument("--by", choices=by, help="who is to answer (else the program, and the library what the program has no room for)")
         return command
 
     def add_question(command: argparse.ArgumentParser, formula: str) -> None:
@@ -267,7 +270,7 @@ def _parser() -> argparse.ArgumentParser:
     add_question(leasts, given + ", with ? in place of one bound")
     leasts.add_argument("--state", metavar="NAME", help="for this state alone")
 
-    whys = add_asking("why", "say why a state satisfies a formula, or doesn't", why_command, (LIBRARY,))
+    whys = add_library(add("why", "say why a state satisfies a formula, or doesn't", why_command))
     add_question(whys, given)
     whys.add_argument("--state", metavar="NAME", required=True, help="the state")
     whys.add_argument("--all", action="store_true", help=f"show all steps of the reason, not {STEPS} at most")

@@ -70,9 +70,11 @@ def read_written(model: Model, written: Written, unknowns: int = 0) -> Question:
 
 
 def read_questions(sheet: Sheet) -> Dict[Written, Question]:
-    """Every formula of a file, so that a mistake in one is told before the first is asked."""
+    """Every formula of a file, so that a mistake in one is told before the first is asked. A question of which nothing is expected may
+    have a ?, for `otz least`."""
+    expected = {each.formula for each in sheet.expectations}
     written = [*sheet.questions.values(), *(each.formula for each in sheet.expectations)]
-    return {each: read_written(sheet.model, each) for each in dict.fromkeys(written)}
+    return {each: read_written(sheet.model, each, 0 if each in expected else 1) for each in dict.fromkeys(written)}
 
 
 def run_sheet(sheet: Sheet, questions: Dict[Written, Question], asker: Asker, progress: Progress) -> Report:

@@ -77,7 +77,7 @@ class Runs:
         """Where every run comes to right: the one that comes there at the greatest cost. Such runs meet no state twice."""
         steps: List[Transition] = []
         state = start
-        while not self._right(state) and len(steps) <= len(self.model.states):
+        while not self._right(state) and self.leads[state] and len(steps) <= len(self.model.states):
             step = max(self.leads[state], key=lambda step: step.weight + (self.values.cost(self.row, step.target) or 0))
             steps.append(step)
             state = step.target

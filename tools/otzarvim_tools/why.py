@@ -77,6 +77,7 @@ class Explainer:
         fitting = [operand for operand in operands if self.values.holds(operand, state) == holds]
         enough = holds == (self.values.parts[row].operator is Operator.OR)
         shown = fitting[:1] if enough else operands
+        self._insist(len(fitting) >= (1 if enough else 2), f"{self.text(row)} is otherwise in {self.names[state]} than its parts")
         what = " and ".join(self.text(operand) for operand in shown)
         verb = ("holds" if len(shown) == 1 else "hold") if holds else ("doesn't hold" if len(shown) == 1 else "don't hold")
         return Step((row, state), f"{what} {verb} here", needs=[(operand, state) for operand in shown])
@@ -88,14 +89,18 @@ class Explainer:
         within = [step for step in self.leads[state] if part.bound is None or step.weight <= part.bound]
         limit = "" if part.bound is None else f" of weight at most {part.bound}"
         if not within:
+            self._insist(holds == (part.operator is Operator.AX), f"{self.text(row)} is otherwise in {name}, which has no transition for it")
             return Step((row, state), f"{name} has no transition{limit}")
         is_one = holds == (part.operator is Operator.EX)  # one transition decides
         if is_one:
-            step = next(step for step in within if self.values.holds(operand, step.target) == holds)
+            step = next((step for step in within if self.values.holds(operand, step.target) == holds), None)
+            self._insist(step is not None, f"a transition from {name} decides {self.text(row)}, and none does")
+            assert step is not None
             run = Run(state, (step,))
             self._check_step(run)
             return Step((row, state), f"this transition leads to where {inner} {'holds' if holds else 'does not hold'}", run, needs=[(operand, step.target)])
         targets = list(dict.fromkeys(step.target for step in within))
+        self._insist(all(self.values.holds(operand, target) == holds for target in targets), f"all transitions from {name} decide {self.text(row)}, and one doesn't")
         words = f"{'each' if holds else 'no'} transition from {name}{limit} leads to where {inner} holds: {', '.join(self.names[target] for target in targets)}"
         return Step((row, state), words, needs=[(operand, target) for target in targets])
 
@@ -172,10 +177,14 @@ class Explainer:
             ending = f"nothing follows {last}, and {right} has not held"
         return Step((row, state), "this run breaks it", run, ending, self._along(row, run, False))
 
+    def _within(self, fine: bool) -> None:
+        self._insist(fine, "an until is otherwise than its helper")
+
     @staticmethod
-    def _within(fine: bool) -> None:
+    def _insist(fine: bool, said: str) -> None:
+        """A reason is given only where what the library says fits together."""
         if not fine:
-            raise Mistake(Place("otzarvim"), "the values of the until and of its helper contradict each other")
+            raise Mistake(Place("the library"), f"its values contradict each other: they say that {said}")
 
 
 def table(run: Run, names: List[str]) -> List[str]:

@@ -111,6 +111,10 @@ class Checking(Case):
         path = self.write("m.otz", M + "question soon: E[p0 U<=2 p1]\nquestion much: E[p0 U<=? p1]\nquestion wrong: EX (p0\n")
         self.assertEqual(self.otz("ask", path, "soon", "--program", FAKE)[1].splitlines()[0], "formula  E[p0 U<=2 p1]")
         self.assertEqual(self.otz("least", path, "much", "--state", "zero", "--program", FAKE)[1].splitlines()[-1], "zero  2")
+        unused = self.write("unused.otz", M + "question much: E[p0 U<=? p1]\nexpect one: p1\n")
+        self.assertEqual(self.check(unused)[0], 0)
+        used = self.write("used.otz", M + "question much: E[p0 U<=? p1]\nexpect one: much\n")
+        self.assertIn(f"{used}:8:25: a ? in place of a bound is found by 'otz least'", self.check(used)[1])
         self.assertEqual(self.otz("why", path, "soon", "--state", "zero")[0], 0)
         self.assertIn(f"{path}:10:23: ", self.otz("ask", path, "wrong", "--program", FAKE)[2])
 
