@@ -7,13 +7,13 @@ import time
 
 
 class Progress:
-    """Says nothing in the first second; then a line that is written over on a terminal, and elsewhere one every ten seconds."""
+    """On a terminal, after a second, a line that is written over; elsewhere a line every ten seconds."""
 
     def __init__(self, what: str, total: int) -> None:
         self.what = what
         self.total = total
         self.done = 0
-        self.next = time.monotonic() + 1
+        self.next = time.monotonic() + (1 if sys.stderr.isatty() else 10)
         self.width = 0
 
     def step(self, about: str = "") -> None:

@@ -114,7 +114,7 @@ class Checking(Case):
         unused = self.write("unused.otz", M + "question much: E[p0 U<=? p1]\nexpect one: p1\n")
         self.assertEqual(self.check(unused)[0], 0)
         used = self.write("used.otz", M + "question much: E[p0 U<=? p1]\nexpect one: much\n")
-        self.assertIn(f"{used}:8:25: a ? in place of a bound is found by 'otz least'", self.check(used)[1])
+        self.assertIn(f"{used}:8:24: a ? in place of a bound is found by 'otz least'", self.check(used)[1])
         self.assertEqual(self.otz("why", path, "soon", "--state", "zero")[0], 0)
         self.assertIn(f"{path}:10:23: ", self.otz("ask", path, "wrong", "--program", FAKE)[2])
 
@@ -127,10 +127,10 @@ class Checking(Case):
 
 class Long(Case):
     def test_a_line_on_a_terminal_and_elsewhere(self):
-        for terminal, said in ((True, "\r2 of 3 states: b\r3 of 3 states: c\r                \r"), (False, "2 of 3 states: b\n")):
+        for terminal, said in ((True, "\r2 of 3 states: b\r3 of 3 states: c\r                \r"), (False, "3 of 3 states: c\n")):
             err = io.StringIO()
             err.isatty = lambda: terminal
-            with mock.patch.object(sys, "stderr", err), mock.patch("time.monotonic", side_effect=[0.0, 0.5, 2.0, 3.0]):
+            with mock.patch.object(sys, "stderr", err), mock.patch("time.monotonic", side_effect=[0.0, 0.5, 2.0, 12.0]):
                 progress = Progress("states", 3)
                 for about in "abc":
                     progress.step(about)
