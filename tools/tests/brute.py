@@ -1,5 +1,5 @@
-"""Formulas by brute force over runs: every run is walked until it meets a state again. No graph, no rounds, no values; only the tree
-of a formula is the package's.
+"""Formulas by brute force over runs: every run is walked until it meets a state again. For models that are too large for that, the
+shortest and the longest paths. No graph, no rounds, no values; only the tree of a formula is the package's.
 
 A model is a dict from a state to its (weight, next state) pairs. A cost of None: never.
 """
@@ -25,6 +25,28 @@ def costliest(leads, left, right, state, seen=()):
         return None
     costs = [(weight, costliest(leads, left, right, after, (*seen, state))) for weight, after in leads[state]]
     return None if any(cost is None for _, cost in costs) else max(weight + cost for weight, cost in costs)
+
+
+def shortest_paths(leads, left, right):
+    """The same as cheapest for every state, edge by edge as often as there are states (Bellman and Ford)."""
+    far = {state: 0 if state in right else None for state in leads}
+    for _ in leads:
+        for state in left - right:
+            for weight, after in leads[state]:
+                if far[after] is not None and (far[state] is None or weight + far[after] < far[state]):
+                    far[state] = weight + far[after]
+    return far
+
+
+def longest_paths(leads, left, right):
+    """The same as costliest for every state: backwards from right, a state as soon as all that follows it is known."""
+    far = {state: 0 for state in right}
+    while True:
+        more = [state for state in left if state not in far and leads[state] and all(after in far for _, after in leads[state])]
+        if not more:
+            return {state: far.get(state) for state in leads}
+        for state in more:
+            far[state] = max(weight + far[after] for weight, after in leads[state])
 
 
 def until(formula):

@@ -6,12 +6,14 @@ from unittest import mock
 
 from otzarvim_tools import asking, least
 from otzarvim_tools.asking import LIBRARY, Asker
+from otzarvim_tools.formula import Formula
 from otzarvim_tools.mistakes import Mistake, Place
 from otzarvim_tools.names import Names
-from otzarvim_tools.paper import BOUNDED, LARGEST_BOUND, UNTILS
+from otzarvim_tools.model import Model, Transition
+from otzarvim_tools.paper import BOUNDED, LARGEST_BOUND, UNTILS, Operator
 from otzarvim_tools.question import Question
 
-from .brute import leads_of, satisfying, until
+from .brute import leads_of, longest_paths, satisfying, shortest_paths, until
 from .common import FAKE, M, ROOT, Case, quick_library
 from .test_messages import random_formula, random_model
 
@@ -86,6 +88,26 @@ class Searching(Case):
                     self.assertEqual(answer.bound, min(fitting, default=None), (question.model, question.text(), state))
                 found["none" if answer.bound is None else "greatest" if search.falls else "least"] += 1
         self.assertGreater(min(found.values()), 100)
+
+    def test_larger_models_against_paths(self):
+        chance, seen = random.Random(13), {True: 0, False: 0}
+        for number in range(24):
+            size = chance.randint(20, 60)
+            # rising, or mostly so: otherwise hardly any A until holds
+            steps = [Transition(a, chance.choice((0, chance.randint(0, 9), 4294967295)), min(size - 1, a + chance.randint(1 - number % 4 // 3, 9))) for a in range(size - 1) for _ in range(chance.randint(1, 4))]
+            over = Model([f"s{a}" for a in range(size)], ["p0", "p1"], [frozenset({0} if chance.random() < 0.97 else ()) | ({1} if a == size - 1 else frozenset()) for a in range(size)], steps)
+            leads = leads_of(over)
+            left, right = ({a for a in leads if p in over.labels[a]} for p in (0, 1))
+            for operator, paths in ((Operator.E_UNTIL, shortest_paths), (Operator.A_UNTIL, longest_paths)):
+                formula = Formula(operator, (Formula(Operator.PROPOSITION, proposition=0), Formula(Operator.PROPOSITION, proposition=1)), unknown=True)
+                search = self.search(Question(Names(over), formula, Place("formula")))
+                expected = paths(leads, left, right)
+                for state in chance.sample(range(size), 5):
+                    answer = search.find(state)
+                    said = answer.bound if answer.bound is not None else answer.cost
+                    self.assertEqual(said, expected[state], (over, operator, state))
+                    seen[said is None] += 1
+        self.assertGreater(min(seen.values()), 30)
 
     def test_beyond_what_a_bound_can_say(self):
         far = self.write("far.otz", "a -> b 4294967295\nb -> c 4294967295\nc: goal")
