@@ -5,7 +5,7 @@ from __future__ import annotations
 import argparse
 import os
 import sys
-from typing import Dict, List, Optional, Tuple
+from typing import Callable, Dict, List, Optional, Tuple
 
 from . import checks, least, release, why
 from .answers import Answer, render_answer
@@ -228,6 +228,76 @@ def show(words: argparse.Namespace) -> int:
     return ANSWERED
 
 
+Add = Callable[[str, str, object], argparse.ArgumentParser]  # a command's name, what it does, and its function
+
+_RAW = "check no limits: the program is to refuse what it must"
+_GIVEN = "the formula's text, @FILE, or the name of a question in MODEL"
+
+
+def _add_model(command: argparse.ArgumentParser) -> None:
+    command.add_argument("model", metavar="MODEL", help="a model's text; - for standard input")
+
+
+def _add_question(command: argparse.ArgumentParser, formula: str = _GIVEN) -> None:
+    _add_model(command)
+    command.add_argument("formula", metavar="FORMULA", help=formula)
+
+
+def _add_library(command: argparse.ArgumentParser) -> None:
+    command.add_argument("--library", metavar="PATH", help=f"ask this library, a shared object or a bridge (else the variable {LIBRARY_VARIABLE} names it, else it is built from the archive)")
+
+
+def _add_asked(command: argparse.ArgumentParser) -> None:
+    command.add_argument("--program", metavar="PATH", help=f"ask this program (else the variable {VARIABLE} names it, else it is target/bin/otzarvim, built if it is missing)")
+    _add_library(command)
+    command.add_argument("--by", choices=(PROGRAM, LIBRARY), help="who is to answer (else the program, and the library what the program has no room for)")
+
+
+def _add_asking(add: Add) -> None:
+    """The commands that ask."""
+    asks = add("ask", "ask the checker, and say its answer in names", ask)
+    _add_question(asks)
+    asks.add_argument("--state", metavar="NAME", help="say the verdict of this state alone")
+    _add_asked(asks)
+    asks.add_argument("--raw", action="store_true", help=_RAW)
+
+    checking = add("check", "ask the questions of files, and compare the answers with what they expect", check)
+    checking.add_argument("files", metavar="FILE", nargs="+", help="a model's text with lines as: expect cold: EX idle")
+    checking.add_argument("--junit", metavar="FILE", help="write the results as JUnit's XML too")
+    _add_asked(checking)
+
+    leasts = add("least", "find the least bound with which a formula holds", least_command)
+    _add_question(leasts, _GIVEN + ", with ? in place of one bound")
+    leasts.add_argument("--state", metavar="NAME", help="for this state alone")
+    _add_asked(leasts)
+
+    whys = add("why", "say why a state satisfies a formula, or doesn't", why_command)
+    _add_question(whys)
+    whys.add_argument("--state", metavar="NAME", required=True, help="the state")
+    whys.add_argument("--all", action="store_true", help=f"show all steps of the reason, not {STEPS} at most")
+    whys.add_argument("--draw", metavar="FILE", help="write the model with the run in bold: a picture if it ends in .svg, else DOT text; - for standard output, and then nothing else")
+    _add_library(whys)
+
+
+def _add_files(add: Add) -> None:
+    """The commands that make one file of another."""
+    draws = add("draw", "write a model as Graphviz DOT text, or as a picture", draw_command)
+    _add_model(draws)
+    draws.add_argument("-o", dest="output", metavar="FILE", default="-", help="where it goes: a picture if it ends in .svg (Graphviz draws it), else DOT text")
+
+    compiles = add("compile", "write the message bytes of a model and a formula", compile_command)
+    _add_model(compiles)
+    compiles.add_argument("formula", metavar="FORMULA", nargs="?", help=_GIVEN)
+    compiles.add_argument("-o", dest="output", metavar="FILE", required=True, help="where the bytes go; - for standard output")
+    compiles.add_argument("--raw", action="store_true", help=_RAW)
+
+    shows = add("show", "write messages as text again", show)
+    shows.add_argument("file", metavar="FILE", help="a model, a formula, or a model followed by a formula; - for standard input")
+    shows.add_argument("--only", choices=("model", "formula"), help="write this part alone")
+    shows.add_argument("--names", metavar="MODEL", help="tell a fault in the names of this model's text")
+    shows.add_argument("--raw", action="store_true", help="check no limits")
+
+
 def _parser() -> argparse.ArgumentParser:
     parser = argparse.ArgumentParser(
         prog="otz",
@@ -241,56 +311,8 @@ def _parser() -> argparse.ArgumentParser:
         command.set_defaults(act=act)
         return command
 
-    def add_asking(name: str, does: str, act: object) -> argparse.ArgumentParser:
-        command = add_library(add(name, does, act))
-        command.add_argument("--program", metavar="PATH", help=f"ask this program (else the variable {VARIABLE} names it, else it is target/bin/otzarvim, built if it is missing)")
-        command.add_argument("--by", choices=(PROGRAM, LIBRARY), help="who is to answer (else the program, and the library what the program has no room for)")
-        return command
-
-    def add_library(command: argparse.ArgumentParser) -> argparse.ArgumentParser:
-        command.add_argument("--library", metavar="PATH", help=f"ask this library, a shared object or a bridge (else the variable {LIBRARY_VARIABLE} names it, else it is built from the archive)")
-        return command
-
-    def add_question(command: argparse.ArgumentParser, formula: str) -> None:
-        command.add_argument("model", metavar="MODEL", help="a model's text; - for standard input")
-        command.add_argument("formula", metavar="FORMULA", help=formula)
-
-    raw = "check no limits: the program is to refuse what it must"
-    given = "the formula's text, @FILE, or the name of a question in MODEL"
-    asks = add_asking("ask", "ask the checker, and say its answer in names", ask)
-    add_question(asks, given)
-    asks.add_argument("--state", metavar="NAME", help="say the verdict of this state alone")
-    asks.add_argument("--raw", action="store_true", help=raw)
-
-    checking = add_asking("check", "ask the questions of files, and compare the answers with what they expect", check)
-    checking.add_argument("files", metavar="FILE", nargs="+", help="a model's text with lines as: expect cold: EX idle")
-    checking.add_argument("--junit", metavar="FILE", help="write the results as JUnit's XML too")
-
-    leasts = add_asking("least", "find the least bound with which a formula holds", least_command)
-    add_question(leasts, given + ", with ? in place of one bound")
-    leasts.add_argument("--state", metavar="NAME", help="for this state alone")
-
-    whys = add_library(add("why", "say why a state satisfies a formula, or doesn't", why_command))
-    add_question(whys, given)
-    whys.add_argument("--state", metavar="NAME", required=True, help="the state")
-    whys.add_argument("--all", action="store_true", help=f"show all steps of the reason, not {STEPS} at most")
-    whys.add_argument("--draw", metavar="FILE", help="write the model with the run in bold: a picture if it ends in .svg, else DOT text; - for standard output, and then nothing else")
-
-    draws = add("draw", "write a model as Graphviz DOT text, or as a picture", draw_command)
-    draws.add_argument("model", metavar="MODEL", help="a model's text; - for standard input")
-    draws.add_argument("-o", dest="output", metavar="FILE", default="-", help="where it goes: a picture if it ends in .svg (Graphviz draws it), else DOT text")
-
-    compiles = add("compile", "write the message bytes of a model and a formula", compile_command)
-    compiles.add_argument("model", metavar="MODEL", help="a model's text; - for standard input")
-    compiles.add_argument("formula", metavar="FORMULA", nargs="?", help=given)
-    compiles.add_argument("-o", dest="output", metavar="FILE", required=True, help="where the bytes go; - for standard output")
-    compiles.add_argument("--raw", action="store_true", help=raw)
-
-    shows = add("show", "write messages as text again", show)
-    shows.add_argument("file", metavar="FILE", help="a model, a formula, or a model followed by a formula; - for standard input")
-    shows.add_argument("--only", choices=("model", "formula"), help="write this part alone")
-    shows.add_argument("--names", metavar="MODEL", help="tell a fault in the names of this model's text")
-    shows.add_argument("--raw", action="store_true", help="check no limits")
+    _add_asking(add)
+    _add_files(add)
     return parser
 
 

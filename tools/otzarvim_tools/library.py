@@ -17,7 +17,7 @@ from typing import List, Optional, Union
 
 from .answers import Answer, Refused
 from .mistakes import Mistake, Place
-from .paper import GRAPH_NODES, INFINITE, MOST_GRAPH, MOST_TEXT, OK
+from .paper import GRAPH_NODES, MOST_GRAPH, MOST_TEXT, OK
 from .running import ROOT, build, command, environment, kit_tools
 
 VARIABLE = "OTZARVIM_LIBRARY"
@@ -196,7 +196,3 @@ def _tool(words: List[object]) -> None:
     done = subprocess.run([str(word) for word in words], capture_output=True, text=True, errors="replace")
     if done.returncode != 0:
         raise Mistake(Place(str(words[0])), f"ended with status {done.returncode}: {done.stderr.strip()}")
-
-
-def is_infinite(value: int) -> bool:
-    return value == INFINITE

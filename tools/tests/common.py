@@ -16,6 +16,7 @@ from otzarvim_tools.answers import Refused
 from otzarvim_tools.formula import Formula
 from otzarvim_tools.mistakes import Mistake
 from otzarvim_tools.model_text import read_model
+from otzarvim_tools.paper import INFINITE
 from otzarvim_tools.question import read_question
 from otzarvim_tools.running import VARIABLE, run
 
@@ -54,7 +55,7 @@ class QuickLibrary(library.Library):
         if len(settled) == 2:
             return Refused(*settled)
         text, rounds, values, first, states, _ = settled
-        return library.Settled(text, rounds, [library.INFINITE if value == fake_otzarvim.INFINITY else value for value in values], first, states)
+        return library.Settled(text, rounds, [INFINITE if value == fake_otzarvim.INFINITY else value for value in values], first, states)
 
 
 def the_library():
