@@ -113,7 +113,8 @@ def damage(page):
     page.focus("model").send_keys(Keys.CONTROL, Keys.END)
     page.focus("model").send_keys(Keys.ENTER, "hot -> retired")
     page.until(lambda: page.text("#mistakes"), "a mistake in the model")
-    equal(page.text("#mistakes"), "model, line 27: not a transition: 'hot -> retired' (its weight is missing) (as: cold -> hot 12)", "a damaged model is told")
+    behind = len((SITE / "examples" / "formula_life.otz").read_text().splitlines()) + 1
+    equal(page.text("#mistakes"), f"model, line {behind}: not a transition: 'hot -> retired' (its weight is missing) (as: cold -> hot 12)", "a damaged model is told")
     equal(page.text(".of-model .wrong"), "hot -> retired", "and underlined")
     page.picture("model-mistake")
     page.focus("model").send_keys(" 5")

@@ -45,20 +45,26 @@ def read_answer(output: str, states: int) -> Union[Answer, Refused]:
     raise Mistake(Place("otzarvim"), f"the program wrote what isn't an answer:\n{output}")
 
 
-def render_answer(answer: Answer, question: Question, state: Optional[int] = None) -> str:
-    """The answer in names, for one state or for all.
+def understood(answer: Answer, question: Question) -> str:
+    """The text of what was answered, in names, once it is what was asked."""
+    formula = read_formula(answer.text, "the program's text", plain_number)
+    if formula != question.formula:
+        raise Mistake(Place("otzarvim"), f"the program answered another formula: {answer.text}")
+    return formula.text(question.names.name)
+
+
+def render_answer(answer: Answer, question: Question, by: str, state: Optional[int] = None) -> str:
+    """The answer in names, for one state or for all, and who gave it.
 
     The formula is put into names from the program's own text, so that a person sees what was answered.
     """
-    understood = read_formula(answer.text, "the program's text", plain_number)
-    if understood != question.formula:
-        raise Mistake(Place("otzarvim"), f"the program answered another formula: {answer.text}")
     states = range(len(answer.verdicts)) if state is None else [state]
     width = max(len(question.model.states[i]) for i in states)
     lines = [
-        f"formula  {understood.text(question.names.name)}",
+        f"formula  {understood(answer, question)}",
         f"message  {answer.text}",
         f"rounds   {answer.rounds}",
+        f"by       the {by}",
         "",
     ]
     lines += [f"{question.model.states[i]:{width}}  {'yes' if answer.verdicts[i] else 'no'}" for i in states]

@@ -2,7 +2,7 @@
 
 from __future__ import annotations
 
-from dataclasses import dataclass
+from dataclasses import dataclass, replace
 from typing import Callable, List, NamedTuple, Optional, Tuple
 
 from .names import plain_name
@@ -20,17 +20,18 @@ class Row(NamedTuple):
 
 @dataclass(frozen=True)
 class Formula:
-    """An operator over its operands. `bound` none means no bound."""
+    """An operator over its operands. `bound` none means no bound. `unknown`: a ? stands in the bound's place."""
 
     operator: Operator
     operands: Tuple["Formula", ...] = ()
     proposition: int = 0
     bound: Optional[int] = None
+    unknown: bool = False
 
     def text(self, name: Callable[[int], str] = plain_name) -> str:
         """Document 01's text, with the propositions as `name` gives them."""
         inner = [operand.text(name) for operand in self.operands]
-        bound = "" if self.bound is None else f"<={self.bound}"
+        bound = "<=?" if self.unknown else "" if self.bound is None else f"<={self.bound}"
         operator = self.operator
         if operator is Operator.TRUE:
             return "true"
@@ -48,6 +49,16 @@ class Formula:
             return f"{operator.name}{bound} {inner[0]}"
         quantifier = "E" if operator is Operator.E_UNTIL else "A"
         return f"{quantifier}[{inner[0]} U{bound} {inner[1]}]"
+
+    def parts(self) -> List["Formula"]:
+        """The formula of each row, in the order of the rows."""
+        return [part for operand in self.operands for part in operand.parts()] + [self]
+
+    def at(self, bound: Optional[int]) -> "Formula":
+        """The formula with a bound, or none, in place of each ?."""
+        if self.unknown:
+            return replace(self, bound=bound, unknown=False, operands=tuple(operand.at(bound) for operand in self.operands))
+        return replace(self, operands=tuple(operand.at(bound) for operand in self.operands))
 
     def rows(self) -> List[Row]:
         """The rows, operands before what uses them, each but the last an operand exactly once."""

@@ -6,14 +6,14 @@
 from __future__ import annotations
 
 import re
-from typing import Callable, List, NamedTuple, Optional
+from typing import Callable, List, NamedTuple, Optional, Tuple
 
 from .formula import Formula
 from .mistakes import Mistake, Place
 from .names import FORMULA_WORDS, read_number
 from .paper import LARGEST_BOUND, Operator
 
-_TOKEN = re.compile(r"[0-9]+|[A-Za-z_][A-Za-z0-9_]*|<=|[()\[\]&|!]", re.ASCII)
+_TOKEN = re.compile(r"[0-9]+|[A-Za-z_][A-Za-z0-9_]*|<=|[()\[\]&|!?]", re.ASCII)
 # Signs from elsewhere, and how they are written here.
 _SIGNS = {
     **dict.fromkeys("<>=≤", "a bound is written <=3"),
@@ -22,6 +22,7 @@ _SIGNS = {
     "∨": "written (x | y)",
     **dict.fromkeys(("->", "→", "⇒"), "x -> y is written (!x | y), where x is a proposition"),
 }
+_UNKNOWN = -1
 _DEEPEST = 255  # a row's number is one byte, so nothing deeper can be written
 
 NumberOf = Callable[[str, Place, Optional[str]], int]
@@ -59,10 +60,12 @@ def _tokens(text: str, path: str) -> List[_Token]:
 
 
 class _Parser:
-    def __init__(self, tokens: List[_Token], number_of: NumberOf) -> None:
+    def __init__(self, tokens: List[_Token], number_of: NumberOf, unknowns: int = 0) -> None:
         self.tokens = tokens
         self.at = 0
         self.number_of = number_of
+        self.unknowns = unknowns  # how many more ? may stand in place of a bound
+        self.unknown_seen = False
 
     def next(self) -> _Token:
         token = self.tokens[self.at]
@@ -83,10 +86,16 @@ class _Parser:
             raise self.fail(token, f"'{word}' is expected after {after}, {_found(token)}")
 
     def bound(self) -> Optional[int]:
+        """A bound; none where none is written, and _UNKNOWN for a ?."""
         if self.peek() != "<=":
             return None
         self.next()
         token = self.next()
+        if token.word == "?":
+            if self.unknowns == 0:
+                raise self.fail(token, "one bound at most can be asked for by ?" if self.unknown_seen else "a ? in place of a bound is found by 'otz least'; here a number is expected")
+            self.unknowns, self.unknown_seen = self.unknowns - 1, True
+            return _UNKNOWN
         try:
             return read_number(token.word, "bound", LARGEST_BOUND, token.place)
         except Mistake as mistake:
@@ -110,7 +119,7 @@ class _Parser:
             return self.both(depth)
         if word in ("EX", "AX"):
             bound = self.bound()
-            return Formula(Operator[word], (self.formula(depth + 1),), bound=bound)
+            return _bounded(Operator[word], (self.formula(depth + 1),), bound)
         if word in ("E", "A"):
             return self.until(word, depth)
         if word and (word[0].isalpha() or word[0] == "_") and word != "U":
@@ -144,7 +153,11 @@ class _Parser:
         right = self.formula(depth + 1)
         self.expect("]", f"{quantifier}[x U y")
         operator = Operator.E_UNTIL if quantifier == "E" else Operator.A_UNTIL
-        return Formula(operator, (left, right), bound=bound)
+        return _bounded(operator, (left, right), bound)
+
+
+def _bounded(operator: Operator, operands: Tuple[Formula, ...], bound: Optional[int]) -> Formula:
+    return Formula(operator, operands, bound=None if bound == _UNKNOWN else bound, unknown=bound == _UNKNOWN)
 
 
 def _brackets(sign: str) -> str:
@@ -155,12 +168,12 @@ def _found(token: _Token) -> str:
     return f"not '{token.word}'" if token.word else "and the text ends"
 
 
-def read_formula(text: str, path: str, number_of: NumberOf) -> Formula:
-    """Reads a formula; `number_of` gives the proposition that a word means.
+def read_formula(text: str, path: str, number_of: NumberOf, unknowns: int = 0) -> Formula:
+    """Reads a formula; `number_of` gives the proposition that a word means. So many ? may stand for bounds.
 
     Lines that start with # are comments. The first mistake is raised with its line and column.
     """
-    parser = _Parser(_tokens(text, path), number_of)
+    parser = _Parser(_tokens(text, path), number_of, unknowns)
     formula = parser.formula()
     token = parser.next()
     if token.word in ("&", "|"):

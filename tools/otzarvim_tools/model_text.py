@@ -3,19 +3,58 @@
     propositions idle, safe      # optional; if it stands, it lists them all
     state cold: idle, safe       # or: cold: idle, safe
     cold -> hot 12               # from, to, weight
+    question soon: E[true U<=12 safe]
+    expect cold: soon            # or a formula; expect not hot: ..; expect cold, hot: ..; expect *: ..
 """
 
 from __future__ import annotations
 
 import re
-from typing import Dict, List, Tuple
+from dataclasses import dataclass, field
+from typing import Dict, List, Optional, Tuple
 
 from .mistakes import Mistake, Place
 from .model import Model, Transition
-from .names import check_proposition_name, check_state_name, hint, read_number
+from .names import check_name, check_proposition_name, check_state_name, hint, read_number
 from .paper import LARGEST_WEIGHT
 
+# A name of its own is expected behind the word, so that a state may be called expect or question.
+_ASKED = re.compile(r"(question|expect)\s+(?!->)([^:]*?)\s*:(.*)", re.S)
+_EVERY = "*"
 _STATE = re.compile(r"(?:state\s+)?([^\s:]+)\s*(?::(.*))?")
+
+
+@dataclass(frozen=True)
+class Written:
+    """A formula as it stands in a model's file: its text, its line, and in which column it starts."""
+
+    text: str
+    line: int
+    column: int
+    whole: str  # the line that it stands on
+
+    def in_place(self) -> str:
+        """The text behind so many lines and blanks that each place in it is that in the file."""
+        return "\n" * (self.line - 1) + " " * (self.column - 1) + self.text
+
+
+@dataclass(frozen=True)
+class Expectation:
+    """That a state satisfies a formula, or doesn't; with the name of the question, if it has one."""
+
+    state: int
+    holds: bool
+    formula: Written
+    name: Optional[str] = None
+
+
+@dataclass
+class Sheet:
+    """All that a model's file has: the model, its questions by name, and what is expected."""
+
+    model: Model
+    questions: Dict[str, Written] = field(default_factory=dict)
+    expectations: List[Expectation] = field(default_factory=list)
 
 
 class _Reader:
@@ -27,6 +66,8 @@ class _Reader:
         self.declared = False  # a propositions line stood above
         self.labelled: Dict[str, int] = {}  # the line of each state's own line
         self.label_lines: List[Tuple[int, int, int]] = []  # state, proposition, line
+        self.questions: Dict[str, Written] = {}
+        self.expected: List[Tuple[str, Written]] = []  # the words before the colon, and those behind it
 
     def place(self, line: int) -> Place:
         return Place(self.model.path, line)
@@ -101,9 +142,50 @@ class _Reader:
         weight = read_number(words[1], "weight", LARGEST_WEIGHT, self.place(line))
         self.model.transitions.append(Transition(source, weight, target))
 
-    def line(self, text: str, line: int) -> None:
+    def asked_line(self, kind: str, named: str, formula: Written) -> None:
+        """A question or an expectation. What it names may stand below it, so it is looked at in the end."""
+        place = self.place(formula.line)
+        if not formula.text:
+            raise Mistake(place, f"a formula is missing behind the colon (as: {kind} cold: EX idle)")
+        if kind == "expect":
+            self.expected.append((named, formula))
+            return
+        check_name(named, "a question", place)
+        if named in self.questions:
+            raise Mistake(place, f"question {named} stands already, line {self.questions[named].line}")
+        self.questions[named] = formula
+
+    def expectations(self, named: str, formula: Written) -> List[Expectation]:
+        """One for each state that is named before the colon; behind it stands a question's name or a formula."""
+        place, states = self.place(formula.line), self.model.states
+        first, _, rest = named.partition(" ")
+        holds = first != "not" or not rest.strip()
+        names = self.list_of(named if holds else rest.strip(), formula.line)
+        asked = self.questions.get(formula.text, formula)
+        found = []
+        for name in states if names == [_EVERY] else names:
+            if name not in self.numbers:
+                raise Mistake(place, f"there is no state {name}{hint(name, states, states)}")
+            found.append(Expectation(self.numbers[name], holds, asked, formula.text if formula.text in self.questions else None))
+        return found
+
+    def sheet(self) -> Sheet:
+        """The model with its questions and all that is expected."""
+        model = self.end()
+        for name, question in self.questions.items():
+            if name in self.numbers or name in model.propositions:
+                raise Mistake(self.place(question.line), f"{name} is a {'state' if name in self.numbers else 'proposition'}, and no question can have its name")
+        return Sheet(model, self.questions, [each for named, formula in self.expected for each in self.expectations(named, formula)])
+
+    def line(self, text: str, line: int, whole: str) -> None:
         words = text.split(None, 1)
-        if "->" in text:
+        asked = _ASKED.fullmatch(text)
+        if asked:
+            column = whole.index(":") + 2 + len(asked.group(3)) - len(asked.group(3).lstrip())
+            self.asked_line(asked.group(1), asked.group(2), Written(asked.group(3).strip(), line, column, whole))
+        elif words[0] in ("expect", "question") and len(words) > 1 and "->" not in text and not words[1].startswith(":"):
+            raise Mistake(self.place(line), f"'{text}' has no colon (as: {words[0]} cold: EX idle)")
+        elif "->" in text:
             self.transition_line(text, line)
         elif words[0].rstrip(":") == "propositions":
             self.propositions_line(text[len("propositions"):].lstrip(" \t:"), line)
@@ -125,14 +207,19 @@ class _Reader:
         return model
 
 
-def read_model(text: str, path: str) -> Model:
-    """Reads the text of a model; the first mistake is raised with its line."""
+def read_sheet(text: str, path: str) -> Sheet:
+    """Reads a model's file; the first mistake is raised with its line. Formulas are left as text."""
     reader = _Reader(path)
     for line, whole in enumerate(text.split("\n"), 1):
         content = whole.partition("#")[0].strip()
         if content:
-            reader.line(content, line)
-    return reader.end()
+            reader.line(content, line, whole)
+    return reader.sheet()
+
+
+def read_model(text: str, path: str) -> Model:
+    """Reads the model of a file alone."""
+    return read_sheet(text, path).model
 
 
 def write_model(model: Model) -> str:

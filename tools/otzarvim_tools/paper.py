@@ -42,6 +42,11 @@ GRAPH_COVERS = 4_096
 PROGRAM_INPUT = 8_192
 PROGRAM_GRAPH_ROOM = 65_536
 
+# What the library is lent: a graph and a text of any size; and how it stores infinity.
+MOST_GRAPH = 14 + 4 * GRAPH_HYPEREDGES + 6 * GRAPH_TARGETS + 8 * GRAPH_COVERS
+MOST_TEXT = 2_048
+INFINITE = 18_446_744_073_709_551_615
+
 
 class Operator(IntEnum):
     """A row's operator byte."""
@@ -86,7 +91,7 @@ class Refusal(NamedTuple):
     meaning: str
 
 
-BUDGET, LENGTH, VERSION_FAULT, LIMIT, ORDER, NAME, DEAD, SIZE, ROOM, FORM = range(1, 11)
+OK, BUDGET, LENGTH, VERSION_FAULT, LIMIT, ORDER, NAME, DEAD, SIZE, ROOM, FORM = range(11)
 
 REFUSALS: Dict[int, Refusal] = {
     row.number: row

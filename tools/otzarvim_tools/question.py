@@ -2,7 +2,8 @@
 
 from __future__ import annotations
 
-from dataclasses import dataclass
+from dataclasses import dataclass, replace
+from typing import Optional
 
 from .formula import Formula
 from .formula_text import read_formula
@@ -23,8 +24,15 @@ class Question:
     def model(self) -> Model:
         return self.names.model
 
+    def at(self, bound: Optional[int]) -> "Question":
+        """The question with a bound, or none, in place of the ?."""
+        return replace(self, formula=self.formula.at(bound))
 
-def read_question(model: Model, text: str, path: str, raw: bool = False) -> Question:
+    def text(self) -> str:
+        return self.formula.text(self.names.name)
+
+
+def read_question(model: Model, text: str, path: str, raw: bool = False, unknowns: int = 0) -> Question:
     """Reads the text of a formula over a model's names. Raw: the program is to find what is wrong."""
     names = Names(model, raw)
-    return Question(names, read_formula(text, path, names.number), Place(path))
+    return Question(names, read_formula(text, path, names.number, unknowns), Place(path))

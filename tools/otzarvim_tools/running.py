@@ -26,22 +26,23 @@ def find_program(option: Optional[str] = None, root: Path = ROOT) -> Path:
         return Path(given)
     program = root / "target" / "bin" / NAME
     if not program.is_file():
-        build(root)
+        build(root, ["check", NAME], "The checker")
     if not program.is_file():
         raise Mistake(Place(str(program)), f"'rt check {NAME}' left no program here")
     return program
 
 
-def build(root: Path) -> None:
-    """Proves and builds the program, and says how far it has come. All else that `rt` says is shown only
+def build(root: Path, words: List[str], what: str) -> None:
+    """Proves and builds a crate, the last of rt's words, and says how far it has come. All else that `rt` says is shown only
     if it fails, without what it said of crates that it proved."""
+    said, crate = " ".join(["rt", *words]), words[-1]
     if shutil.which("rt") is None:
-        raise Mistake(Place(NAME), f"the program isn't built, and there is no 'rt' on the path to build it with ('rt check {NAME}'): install the Rattle kit, README.md says which")
-    print(f"The checker isn't built yet. It is proved and built now, once; that takes some minutes (rt check {NAME}).", file=sys.stderr, flush=True)
-    total, proved = _crates(root), 0
+        raise Mistake(Place(NAME), f"{what.lower()} isn't built, and there is no 'rt' on the path to build it with ('{said}'): install the Rattle kit, README.md says which")
+    print(f"{what} isn't built yet. It is proved and built now, once; that takes some minutes ({said}).", file=sys.stderr, flush=True)
+    total, proved = _crates(root, crate), 0
     block: List[str] = []  # what it said since its last line of its own, which starts with rt:
     shown: List[str] = []
-    with subprocess.Popen(["rt", "check", NAME], cwd=root, stdout=subprocess.PIPE, stderr=subprocess.STDOUT, text=True, errors="replace") as rt:
+    with subprocess.Popen(["rt", *words], cwd=root, stdout=subprocess.PIPE, stderr=subprocess.STDOUT, text=True, errors="replace") as rt:
         for line in rt.stdout or ():
             block.append(line)
             if not line.startswith("rt: "):
@@ -55,17 +56,17 @@ def build(root: Path) -> None:
             block = []
     if rt.returncode != 0:
         sys.stderr.write("".join(shown + block))
-        raise Mistake(Place(NAME), f"'rt check {NAME}' failed with status {rt.returncode}; what it said is above, and in target/log")
+        raise Mistake(Place(NAME), f"'{said}' failed with status {rt.returncode}; what it said is above, and in target/log")
 
 
-def _crates(root: Path) -> Optional[int]:
-    """How many crates are proved for the program, by crates.txt: itself and what it uses of the repository."""
+def _crates(root: Path, crate: str) -> Optional[int]:
+    """How many crates are proved for one, by crates.txt: itself and what it uses of the repository."""
     try:
         lines = [line.split(":") for line in (root / "crates.txt").read_text().splitlines() if ":" in line and not line.startswith("#")]
     except OSError:
         return None
     uses = {name.strip(): set(used.split()) for name, used in lines}
-    return 1 + len(uses[NAME] & set(uses)) if NAME in uses else None
+    return 1 + len(uses[crate] & set(uses)) if crate in uses else None
 
 
 def kit_tools() -> Optional[Path]:

@@ -138,30 +138,39 @@ def next_round(hypers, covers, values):
     return result
 
 
-def answer(data):
-    end = number(data, 0, 4)
-    if not 4 <= len(data) <= 8192 or end > len(data):
-        return "refused 2\n"
-    fault = fault_of_model(data[:end]) or fault_of_formula(data[end:], data[8])
+def settle(model, formula):
+    """What the library gives: a refusal's number and offset, or the text, the count, the values, and the place of the verdicts."""
+    fault = fault_of_model(model) or fault_of_formula(formula, model[8])
     if fault:
-        return "refused %d at %d\n" % fault if fault[1] else "refused %d\n" % fault[0]
-    labels, leads, rows = read(data)
+        return fault
+    labels, leads, rows = read(model + formula)
     hypers, covers = graph(labels, leads, rows)
-    if len(hypers) > 4096:
-        return "refused 8\n"
-    # the length of the graph's message against the room that the program lends
-    targets = sum(len(edge) for edges in hypers for edge in edges)
-    if 14 + 4 * sum(map(len, hypers)) + 6 * targets + 8 * sum(map(bool, covers)) > 65536:
-        return "refused 9\n"
+    widths = [len(edge) for edges in hypers for edge in edges]
+    if len(hypers) > 4096 or len(widths) > 65535 or sum(widths) > 262144 or max(widths, default=0) > 65535:
+        return 8, 0
     values, count = [INFINITY] * len(hypers), 0
     while True:
         after = next_round(hypers, covers, values)
         if after == values:
             break
         values, count = after, count + 1
-    root = len(labels) * (len(rows) - 1)
-    verdicts = ["%d %s\n" % (a, "yes" if values[root + a] == 0 else "no") for a in range(len(labels))]
-    return "%s\nrounds %d\n%s" % (text(rows, len(rows) - 1), count, "".join(verdicts))
+    # the length of the graph's message comes last
+    return text(rows, len(rows) - 1), count, values, len(labels) * (len(rows) - 1), len(labels), 14 + 4 * len(widths) + 6 * sum(widths) + 8 * sum(map(bool, covers))
+
+
+def answer(data):
+    end = number(data, 0, 4)
+    if not 4 <= len(data) <= 8192 or end > len(data):
+        return "refused 2\n"
+    settled = settle(data[:end], data[end:])
+    if len(settled) == 2:
+        return "refused %d at %d\n" % settled if settled[1] else "refused %d\n" % settled[0]
+    words, count, values, root, states, length = settled
+    # the room that the program lends
+    if length > 65536:
+        return "refused 9\n"
+    verdicts = ["%d %s\n" % (a, "yes" if values[root + a] == 0 else "no") for a in range(states)]
+    return "%s\nrounds %d\n%s" % (words, count, "".join(verdicts))
 
 
 if __name__ == "__main__":

@@ -34,17 +34,17 @@ class Asking(Case):
     def test_document_01s_questions(self):
         for formula, rounds, zero, one in (("E[p0 U<=2 p1]", 4, "yes", "yes"), ("E[p0 U<=1 p1]", 3, "no", "yes"), ("A[p0 U p1]", 3, "no", "yes")):
             status, out, _ = self.otz("ask", self.model, formula, "--program", FAKE)
-            self.assertEqual((status, out), (0, f"formula  {formula}\nmessage  {formula}\nrounds   {rounds}\n\nzero  {zero}\none   {one}\n"))
+            self.assertEqual((status, out), (0, f"formula  {formula}\nmessage  {formula}\nrounds   {rounds}\nby       the program\n\nzero  {zero}\none   {one}\n"))
 
     def test_the_command_and_a_program_as_processes(self):
         words = [sys.executable, ROOT / "tools" / "otz", "ask", self.model, "E[zero U<=2 p1]", "--program", FAKE]
         done = subprocess.run([str(word) for word in words], stdout=subprocess.PIPE, text=True)
-        self.assertEqual((done.returncode, done.stdout), (0, "formula  E[zero U<=2 p1]\nmessage  E[p2 U<=2 p1]\nrounds   4\n\nzero  yes\none   yes\n"))
+        self.assertEqual((done.returncode, done.stdout), (0, "formula  E[zero U<=2 p1]\nmessage  E[p2 U<=2 p1]\nrounds   4\nby       the program\n\nzero  yes\none   yes\n"))
 
     def test_names_and_one_state(self):
         canned = self.says("AX<=3 p2\\nrounds 7\\n0 no\\n1 yes\\n")
         status, out, _ = self.otz("ask", self.model, "AX<=3 one", "--state", "one", "--program", canned)
-        self.assertEqual((status, out), (0, "formula  AX<=3 one\nmessage  AX<=3 p2\nrounds   7\n\none  yes\n"))
+        self.assertEqual((status, out), (0, "formula  AX<=3 one\nmessage  AX<=3 p2\nrounds   7\nby       the program\n\none  yes\n"))
 
     def test_another_formula_is_no_answer(self):
         canned = self.says("AX p0\\nrounds 7\\n0 no\\n1 yes\\n")
@@ -81,11 +81,11 @@ class Asking(Case):
     def test_without_words_all_commands_are_told(self):
         status, out, err = self.otz()
         self.assertEqual((status, out), (2, ""))
-        for command in ("ask", "draw", "compile", "show"):
+        for command in ("ask", "check", "least", "why", "draw", "compile", "show"):
             self.assertRegex(err, rf"(?m)^ +{command} ")
 
     def test_stopped_by_the_keyboard(self):
-        with mock.patch("otzarvim_tools.cli.find_program", side_effect=KeyboardInterrupt):
+        with mock.patch("otzarvim_tools.asking.find_program", side_effect=KeyboardInterrupt):
             self.assertEqual(self.otz("ask", self.model, "p0"), (130, "", "stopped\n"))
 
     def test_refusals_in_words(self):

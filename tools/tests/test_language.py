@@ -3,7 +3,7 @@
 import json
 
 from otzarvim_tools import checks
-from otzarvim_tools.cli import _complaints
+from otzarvim_tools.asking import complaints as of_question
 from otzarvim_tools.compiler import compile_formula, compile_model
 from otzarvim_tools.mistakes import Mistake
 from otzarvim_tools.model_text import read_model
@@ -18,7 +18,7 @@ def told(model, formula):
     """The two messages of a question, in hex, or all mistakes with their places."""
     try:
         question = read_question(read_model(model, "model"), formula, "formula")
-        checks.insist(_complaints(question))
+        checks.insist(of_question(question))
         messages = compile_model(question.model), compile_formula(question.formula)
         return {"messages": [message.hex() for message in messages]}
     except Mistake as mistake:

@@ -1,8 +1,11 @@
 // The text of models, read: states, propositions, labels and transitions by number, with their names.
-import { BLANK, Mistake, hint, strip, words, wrongNumber, wrongPropositionName, wrongStateName } from "./names.mjs";
+import { BLANK, Mistake, hint, strip, words, wrongName, wrongNumber, wrongPropositionName, wrongStateName } from "./names.mjs";
 
 const LARGEST_WEIGHT = 4294967295;
 const STATE = new RegExp(`^(?:state[${BLANK}]+)?([^${BLANK}:]+)[${BLANK}]*(?::([^\\n]*))?$`);
+
+// A name of its own is expected behind the word, so that a state may be called expect or question.
+const ASKED = new RegExp(`^(question|expect)[${BLANK}]+(?!->)([^:]*?)[${BLANK}]*:([^\\n]*)$`);
 
 class Reader {
     constructor(path) {
@@ -16,6 +19,8 @@ class Reader {
         this.declared = false; // a propositions line stood above
         this.labelled = new Map(); // the line of each state's own line
         this.labelLines = [];
+        this.questions = new Map(); // the line of each question, by its name
+        this.expected = []; // the words before the colon, and the line
     }
 
     fail(line, said) {
@@ -99,9 +104,37 @@ class Reader {
         this.transitions.push({ source, weight: Number(right[1]), target });
     }
 
+    /** A question or an expectation, for `otz check`. What it names may stand below it, so it is looked at in the end. */
+    askedLine(kind, named, formula, line) {
+        if (!formula) this.fail(line, `a formula is missing behind the colon (as: ${kind} cold: EX idle)`);
+        if (kind === "expect") {
+            this.expected.push([named, line]);
+            return;
+        }
+        const wrong = wrongName(named, "a question");
+        if (wrong) this.fail(line, wrong);
+        if (this.questions.has(named)) this.fail(line, `question ${named} stands already, line ${this.questions.get(named)}`);
+        this.questions.set(named, line);
+    }
+
+    /** The states that are named before an expectation's colon exist. */
+    expectation(named, line) {
+        const first = named.split(" ", 1)[0];
+        const rest = strip(named.slice(first.length + 1));
+        const names = this.listOf(first === "not" && rest ? rest : named, line);
+        if (names.length === 1 && names[0] === "*") return;
+        for (const name of names) {
+            if (!this.numbers.has(name)) this.fail(line, `there is no state ${name}${hint(name, this.states, this.states)}`);
+        }
+    }
+
     line(text, line) {
-        const first = words(text)[0];
-        if (text.includes("->")) this.transitionLine(text, line);
+        const [first, second] = words(text);
+        const asked = ASKED.exec(text);
+        if (asked) this.askedLine(asked[1], asked[2], strip(asked[3]), line);
+        else if ((first === "expect" || first === "question") && second !== undefined && !text.includes("->") && !second.startsWith(":")) {
+            this.fail(line, `'${text}' has no colon (as: ${first} cold: EX idle)`);
+        } else if (text.includes("->")) this.transitionLine(text, line);
         else if (first.replace(/:+$/, "") === "propositions") this.propositionsLine(text.slice("propositions".length).replace(/^[ \t:]+/, ""), line);
         else if (first === "state" || text.includes(":")) this.stateLine(text, line);
         else this.fail(line, `not a line of a model: '${text}' (as: state cold: idle, or: cold -> hot 12)`);
@@ -119,6 +152,12 @@ class Reader {
         propositions.forEach((name, number) => {
             if (this.numbers.has(name)) labels[this.numbers.get(name)].add(number);
         });
+        for (const [name, line] of this.questions) {
+            if (this.numbers.has(name) || this.known.has(name)) {
+                this.fail(line, `${name} is a ${this.numbers.has(name) ? "state" : "proposition"}, and no question can have its name`);
+            }
+        }
+        for (const [named, line] of this.expected) this.expectation(named, line);
         return { states, propositions, labels, transitions };
     }
 }

@@ -24,7 +24,7 @@ const RESERVED = [...FORMULA_WORDS, "state", "propositions"];
 const LISTED = 12; // so many names are listed where none is near
 
 /** What is wrong with a name, or null. */
-function wrongName(word, what) {
+export function wrongName(word, what) {
     if (!WORD.test(word)) {
         const several = what === "a proposition" && word && words(word).every((part) => WORD.test(part));
         return `'${word}' can't name ${what}: a name has letters, digits and _, and starts with no digit${several ? " (several have commas between them)" : ""}`;
