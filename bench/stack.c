@@ -33,15 +33,18 @@ static size_t touched(void (*f)(void))
     return STACK - low;
 }
 
-static uint8_t graph[1 << 20], plain[1 << 20], model[1 << 20], formula[1024], asked[1024], text[4096], built[OTZARVIM_MOST_GRAPH];
-static size_t graph_length, plain_length, model_length, formula_length, asked_length, length, offset;
-static uint64_t room[OTZARVIM_MOST_VALUES], taken;
+static uint8_t graph[1 << 20], plain[1 << 20], deep[1 << 20], model[1 << 20], formula[1024], asked[1024], text[4096];
+static uint8_t built[OTZARVIM_MOST_GRAPH], claims[OTZARVIM_CLAIM * OTZARVIM_MOST_NODES];
+static size_t graph_length, plain_length, deep_length, model_length, formula_length, asked_length, length, offset;
+static uint64_t room[8 * OTZARVIM_MOST_NODES], taken;
+static otzarvim_tally tally, longest;
 static uint32_t words[1 << 17];
 static uint32_t counts[3], count, states[2];
 static uint8_t number, verdict;
 
-/* A chain of nodes with cover edges, one for the search that ends, a model with every count at its limit, 64 rows, each an operand of the next, with bounds of ten
- * digits, and a formula with untils within an until, EX and AX, whose graph is large. */
+/* A chain of nodes with cover edges, one for the search that ends, one whose cover edges lie on no cycle, a model with every count at
+ * its limit, 64 rows, each an operand of the next, with bounds of ten digits, and a formula with untils within an until, EX and AX, whose
+ * graph is large; and a tally whose report is the longest. */
 static void inputs(void)
 {
     start(graph, 1);
@@ -57,6 +60,14 @@ static void inputs(void)
         put(i, 2), put(1, 2), put(0, 4), put(i + 1, 2);
     put(4095, 2), put(0, 2);
     plain_length = finish(plain);
+    start(deep, 1);
+    put(4096, 2), put(4096, 4), put(4095, 2);
+    for (uint32_t i = 0; i < 4095; i++)
+        put(i, 2), put(1, 2), put(i, 4), put(i + 1, 2);
+    put(4095, 2), put(0, 2);
+    for (uint32_t i = 0; i < 4095; i++)
+        put(i, 2), put(i, 4), put(i + 1, 2);
+    deep_length = finish(deep);
     start(model, 2);
     put(256, 2), put(32, 1), put(65535, 4);
     for (uint32_t i = 0; i < 256; i++)
@@ -75,6 +86,7 @@ static void inputs(void)
     row(2, 0, 0, 0), row(7, 0, 0, UINT32_MAX), row(2, 1, 0, 0), row(6, 2, 0, 200), row(5, 1, 3, 0), row(3, 2, 0, 0);
     row(9, 4, 5, 1000), row(2, 3, 0, 0), row(9, 6, 7, UINT32_MAX);
     asked_length = finish(asked);
+    memset(&longest, 0xff, sizeof longest);
 }
 
 static void nothing(void)
@@ -104,6 +116,28 @@ static void rounds_solve(void)
 static void search(void)
 {
     number = otzarvim_search(plain, plain_length, 0, words, sizeof words / sizeof *words, &verdict, &taken, &offset);
+}
+
+static void claims_write(void)
+{
+    number = otzarvim_claims_write(deep, deep_length, claims, sizeof claims, room, sizeof room / sizeof *room, &offset);
+}
+
+/* Of the claims that were just written. */
+static void claims_check(void)
+{
+    number = otzarvim_claims_check(deep, deep_length, claims, sizeof claims, &verdict, &offset);
+}
+
+static void tally_enter(void)
+{
+    number = otzarvim_tally_enter(&tally, OTZARVIM_OK, OTZARVIM_YES, UINT32_MAX);
+}
+
+/* All numbers at their end: the longest report. */
+static void tally_report(void)
+{
+    number = otzarvim_tally_report(&longest, text, sizeof text, &length);
 }
 
 static void formula_text(void)
@@ -137,10 +171,14 @@ static const struct {
     {"otzarvim_formula_check", formula_check},
     {"otzarvim_rounds_solve", rounds_solve},
     {"otzarvim_search", search},
+    {"otzarvim_claims_write", claims_write},
+    {"otzarvim_claims_check", claims_check},
     {"otzarvim_formula_text", formula_text},
     {"otzarvim_verdict", decide},
     {"otzarvim_graph", build},
     {"otzarvim_settle", settle},
+    {"otzarvim_tally_enter", tally_enter},
+    {"otzarvim_tally_report", tally_report},
 };
 
 int main(void)

@@ -39,6 +39,17 @@ def _read_bytes(path: str) -> bytes:
         raise Mistake(Place(path), error.strerror or "can't be read") from None
 
 
+def _write_bytes(path: str, data: bytes) -> None:
+    if path == "-":
+        sys.stdout.buffer.write(data)
+        return
+    try:
+        with open(path, "wb") as file:
+            file.write(data)
+    except OSError as error:
+        raise Mistake(Place(path), error.strerror or "can't be written") from None
+
+
 def _read_text(path: str) -> str:
     try:
         return _read_bytes(path).decode("utf-8").replace("\r\n", "\n")
@@ -226,7 +237,7 @@ def certify(words: argparse.Namespace) -> int:
         print(f"not accepted: {number} {word}", file=sys.stderr)
         return REFUSED
     _write_bytes(words.output, claimed)
-    print(f"accepted: {len(claimed):,} bytes for {words.graph.nodes:,} nodes")
+    print(f"accepted: {len(claimed):,} bytes for {words.graph.nodes:,} nodes", file=sys.stderr if words.output == "-" else sys.stdout)
     return ANSWERED
 
 
@@ -323,14 +334,14 @@ def _add_files(add: Add) -> None:
     compiles.add_argument("-o", dest="output", metavar="FILE", required=True, help="where the bytes go; - for standard output")
     compiles.add_argument("--raw", action="store_true", help=_RAW)
 
-    trials = "the program trials to ask (else target/bin/trials)"
+    trials = f"the program trials to ask (else the variable {claims.VARIABLE}, else target/bin/{claims.TRIALS})"
     certifies = add("certify", "write claims about a question's graph that the checker accepts: a value and a rank for each node", certify)
     verifies = add("verify", "ask the checker whether it accepts such claims", verify)
     for command in (certifies, verifies):
         _add_question(command)
         command.add_argument("--program", metavar="PATH", help=trials)
-    certifies.add_argument("-o", dest="output", metavar="FILE", required=True, help="where the claims go")
-    verifies.add_argument("claims", metavar="CLAIMS", help="the file with the claims")
+    certifies.add_argument("-o", dest="output", metavar="FILE", required=True, help="where the claims go; - for standard output")
+    verifies.add_argument("claims", metavar="CLAIMS", help="the file with the claims; - for standard input")
 
     shows = add("show", "write messages as text again", show)
     shows.add_argument("file", metavar="FILE", help="a model, a formula, or a model followed by a formula; - for standard input")

@@ -10,6 +10,7 @@ import unittest
 from pathlib import Path
 from unittest import mock
 
+from otzarvim_tools import claims
 from otzarvim_tools.cli import main
 from otzarvim_tools import library
 from otzarvim_tools.answers import Refused
@@ -25,6 +26,7 @@ from . import fake_otzarvim
 ROOT = Path(__file__).resolve().parents[2]
 FAKE = Path(__file__).resolve().parent / "fake_otzarvim.py"
 FAKE_LIBRARY = FAKE.with_name("fake_library.py")
+FAKE_TRIALS = FAKE.with_name("fake_trials.py")
 
 M = """
 propositions p0, p1
@@ -40,6 +42,12 @@ def program():
     """The program that OTZARVIM names, or else the stand-in."""
     given = os.environ.get(VARIABLE)
     return str(Path(given).resolve() if given else FAKE)
+
+
+def trials():
+    """The program that TRIALS names, or else its stand-in."""
+    given = os.environ.get(claims.VARIABLE)
+    return str(Path(given).resolve() if given else FAKE_TRIALS)
 
 
 def quick_run(path, data):

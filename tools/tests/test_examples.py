@@ -8,14 +8,14 @@ import subprocess
 import sys
 from unittest import mock
 
-from otzarvim_tools import checks
+from otzarvim_tools import checks, claims
 from otzarvim_tools.compiler import compile_model
 from otzarvim_tools.library import VARIABLE as LIBRARY_VARIABLE
 from otzarvim_tools.model_text import read_model
 from otzarvim_tools.running import VARIABLE
 
 from .brute import leads_of
-from .common import FAKE, ROOT, Case, program, the_library
+from .common import FAKE, ROOT, Case, program, the_library, trials
 from .meaning import a_until, e_until
 
 LIFE = ROOT / "examples" / "formula_life.otz"
@@ -129,7 +129,7 @@ class Pages(Case):
     """Each command on a page is run, and what the page shows below it is what it writes."""
 
     def test_pages(self):
-        for page, least in (("tools/README.md", 9), ("examples/README.md", 20)):
+        for page, least in (("tools/README.md", 10), ("examples/README.md", 20)):
             text = (ROOT / page).read_text()
             shown = 0
             for block in re.findall(r"^```\n(\$ .*?)^```$", text, re.M | re.S):
@@ -156,8 +156,8 @@ class Pages(Case):
 
     def written(self, command):
         """What a command writes. Pipelines go to a shell; the others run here, which is faster."""
-        with mock.patch.dict(os.environ, {VARIABLE: program(), LIBRARY_VARIABLE: the_library()}), in_folder(ROOT):
-            if "|" in command.split("'")[-1]:
+        with mock.patch.dict(os.environ, {VARIABLE: program(), LIBRARY_VARIABLE: the_library(), claims.VARIABLE: trials()}), in_folder(ROOT):
+            if "|" in shlex.split(command):
                 return subprocess.run(["sh", "-c", command], stdout=subprocess.PIPE, stderr=subprocess.STDOUT, text=True).stdout
             name, *words = shlex.split(command)
             self.assertEqual(name, "tools/otz")
