@@ -297,6 +297,6 @@ int main(int argc, char **argv)
             fflush(stdout);
         }
     }
-    printf("\nAll versions accepted the claims that the writer wrote, and none of %llu damaged ones.\n", (unsigned long long)refused);
+    printf("\nAll versions accepted the claims that the writer wrote, and said no of %llu damaged ones.\n", (unsigned long long)refused);
     return 0;
 }

@@ -42,6 +42,9 @@ build() { # NAME GCC TRIPLE RUSTC LIBRARY
     $2 -std=gnu17 -O3 -Wall -Wextra -Werror -DP=gcc_ -c "$root/bench/search.c" -o "$dir/search-gcc.o"
     "$kit_clang" --target="$3" -std=gnu17 -O3 -Wall -Wextra -Werror -DP=clang_ -c "$root/bench/search.c" -o "$dir/search-clang.o"
     $2 -std=gnu17 -O2 -Wall -Wextra -Werror -I"$root/include" "$root/bench/searches.c" "$dir"/search-{gcc,clang}.o "$5" -o "$dir/searches"
+    $2 -std=gnu17 -O3 -Wall -Wextra -Werror -DP=gcc_ -c "$root/bench/claim.c" -o "$dir/claim-gcc.o"
+    "$kit_clang" --target="$3" -std=gnu17 -O3 -Wall -Wextra -Werror -DP=clang_ -c "$root/bench/claim.c" -o "$dir/claim-clang.o"
+    $2 -std=gnu17 -O2 -Wall -Wextra -Werror -I"$root/include" "$root/bench/claims.c" "$dir"/claim-{gcc,clang}.o "$dir"/{gcc,clang}_.o "$5" -o "$dir/claims"
     for version in gcc_ clang_ rust_ dgcc_ dclang_; do
         $2 -std=gnu17 -O3 -Wall -Wextra -Werror -DP=$version "$root/bench/program.c" "$dir/$version.o" -o "$dir/program-$version"
     done
@@ -52,6 +55,14 @@ searches() { # TURN TURNS ONLY RUN-WORDS
     local turn=$1 turns=$2 only=$3
     shift 3
     printf '\nThe search from one node, beside the same algorithm in C with allocated arrays (b), and beside the rounds of the library:\n\n'
+    "$@" "$turn" "$turns" "$only"
+}
+
+# Measures the checker and the writer of claims; the words are the same.
+claims() { # TURN TURNS ONLY RUN-WORDS
+    local turn=$1 turns=$2 only=$3
+    shift 3
+    printf '\nClaims: the checker beside the same in C, which checks no graph (b), and beside the rounds of the library; and the writer:\n\n'
     "$@" "$turn" "$turns" "$only"
 }
 
@@ -94,6 +105,7 @@ END
     fi
     $run "$out/x86_64/harness" "${1:-$turn}" "${2:-$turns}" "${3:-}"
     searches "${1:-$turn}" "${2:-$turns}" "${3:-}" $run "$out/x86_64/searches"
+    claims "${1:-$turn}" "${2:-$turns}" "${3:-}" $run "$out/x86_64/claims"
     printf '\nPrograms, with their start and end:\n\n'
     # shellcheck disable=SC2086
     programs $((10 * ${2:-$turns})) "${3:-}" x86_64 "$target/bin/otzarvim" $run
@@ -101,6 +113,7 @@ END
         printf '\n## %s, without an emulator: the LLVM modules of the library and the program compiled for this machine\n\n' "$machine"
         "$out/here/harness" "${1:-0.02}" "${2:-7}" "${3:-}"
         searches "${1:-0.02}" "${2:-7}" "${3:-}" "$out/here/searches"
+        claims "${1:-0.02}" "${2:-7}" "${3:-}" "$out/here/claims"
         printf '\nPrograms, with their start and end:\n\n'
         programs $((40 * ${2:-7})) "${3:-}" here "$out/here/otzarvim"
     fi

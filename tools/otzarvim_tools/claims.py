@@ -136,8 +136,8 @@ def verdict(message: bytes, claims: bytes, program: Optional[str] = None) -> Tup
     if not found.is_file():
         raise Mistake(Place(str(found)), f"there is no program here: 'rt check {TRIALS}' builds it")
     body = b"".join(struct.pack(">I", len(data)) + data for data in (message, claims))
+    answer = run(found, b"C" + struct.pack(">I", len(body)) + body).split()
     # from request 4 on an offset stands behind the number
-    letter, number, *_, word = run(found, b"C" + struct.pack(">I", len(body)) + body).split()
-    if letter != "C":
+    if len(answer) < 3 or answer[0] != "C":
         raise Mistake(Place(str(found)), "the program does not know the call C")
-    return int(number), word
+    return int(answer[1]), answer[-1]

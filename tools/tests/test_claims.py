@@ -75,6 +75,12 @@ class Commands(Case):
         self.assertEqual(status, 2)
         self.assertIn("there is no program here", err)
 
+    def test_a_program_that_does_not_know_claims(self):
+        program = self.script("old", "#!/bin/sh\necho end 0\n")
+        status, _, err = self.otz("verify", M, FORMULAS[0], self.write("claims", ""), "--program", program)
+        self.assertEqual(status, 2)
+        self.assertIn("does not know the call C", err)
+
 
 if __name__ == "__main__":
     unittest.main()
