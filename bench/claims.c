@@ -21,7 +21,7 @@ static uint8_t *message, *claims;
 static uint64_t length, *room;
 static uint32_t nodes;
 
-/* ---- graphs where no cycle passes through a cover edge: all edges lead to nodes further on */
+/* ---- graphs where no cycle passes through a cover edge; but for one, all edges lead to nodes further on */
 
 static void graph_start(uint32_t n, uint32_t h, uint32_t c)
 {
@@ -160,6 +160,7 @@ static const struct {
 /* ---- versions */
 
 enum { A, B_GCC, B_CLANG, CHECKED_GCC, CHECKED_CLANG, ROUNDS, VERSIONS };
+enum { NO, YES, REFUSED };
 
 static uint32_t rounds;
 static uint64_t values[OTZARVIM_MOST_VALUES];
@@ -171,12 +172,13 @@ static uint32_t run(int version)
     size_t offset;
     switch (version) {
     case A:
-        return otzarvim_claims_check(message, length, claims, OTZARVIM_CLAIM * nodes, &verdict, &offset) == OTZARVIM_OK &&
-               verdict == OTZARVIM_YES;
+        if (otzarvim_claims_check(message, length, claims, OTZARVIM_CLAIM * nodes, &verdict, &offset) != OTZARVIM_OK)
+            return REFUSED;
+        return verdict == OTZARVIM_YES;
     case B_GCC: return gcc_claim(message, claims);
     case B_CLANG: return clang_claim(message, claims);
-    case CHECKED_GCC: return gcc_graph_check(message, length) == OTZARVIM_OK && gcc_claim(message, claims);
-    case CHECKED_CLANG: return clang_graph_check(message, length) == OTZARVIM_OK && clang_claim(message, claims);
+    case CHECKED_GCC: return gcc_graph_check(message, length) == OTZARVIM_OK ? gcc_claim(message, claims) : REFUSED;
+    case CHECKED_CLANG: return clang_graph_check(message, length) == OTZARVIM_OK ? clang_claim(message, claims) : REFUSED;
     default:
         return otzarvim_rounds_solve(message, length, UINT32_MAX, values, OTZARVIM_MOST_VALUES, &rounds, &offset) == OTZARVIM_OK;
     }
@@ -209,11 +211,11 @@ static void store(uint8_t *p, uint64_t v)
     memcpy(p, &v, 8);
 }
 
-static void same(const char *name, uint32_t yes)
+static void same(const char *name, uint32_t answer)
 {
     for (int v = A; v < ROUNDS; v++)
-        if (run(v) != yes)
-            differ(name, yes ? "not accepted" : "accepted");
+        if (run(v) != answer || answer == REFUSED)
+            differ(name, answer == YES ? "not accepted" : "not a no");
 }
 
 /* Claims that are right are accepted, and hold what the rounds say. */
@@ -221,7 +223,7 @@ static void compare_right(const char *name)
 {
     if (!write_claims())
         differ(name, "no claims");
-    same(name, 1);
+    same(name, YES);
     if (!run(ROUNDS))
         differ(name, "no rounds");
     for (uint32_t v = 0; v < nodes; v++)
@@ -232,25 +234,25 @@ static void compare_right(const char *name)
             differ(name, "a word is left");
 }
 
-/* Of each node drawn: a value that is less, more or near the end, which no version accepts; and another rank, on which all agree. */
+/* How often all said no. Of each node drawn: a value that is less, more or near the end, which no version accepts; and another rank, on which all agree. */
 static uint32_t compare_damaged(const char *name)
 {
-    uint32_t refused = 0;
+    uint32_t no = 0;
     for (uint32_t i = 0; i < DAMAGES; i++) {
         uint8_t *claim = claims + OTZARVIM_CLAIM * draw(nodes);
         uint64_t value = eight(claim), rank = eight(claim + RANK_AT);
         const uint64_t wrong[] = {value - 1, value + 1, value ^ 1ull << 63, UINT64_MAX - 1 - i}, ranks[] = {0, rank + 1, UINT64_MAX};
         for (int k = 0; k < 4; k++)
-            store(claim, wrong[k]), same(name, 0), refused++;
+            store(claim, wrong[k]), same(name, NO), no++;
         store(claim, value);
         for (int k = 0; k < 3; k++) {
             store(claim + RANK_AT, ranks[k]);
-            uint32_t yes = run(A);
-            same(name, yes), refused += !yes;
+            uint32_t answer = run(A);
+            same(name, answer), no += answer == NO;
         }
         store(claim + RANK_AT, rank);
     }
-    return refused;
+    return no;
 }
 
 /* ---- measuring */
@@ -271,7 +273,7 @@ int main(int argc, char **argv)
     double turn = argc > 1 ? atof(argv[1]) : 0.02;
     int turns = argc > 2 ? atoi(argv[2]) : 7;
     const char *only = argc > 3 ? argv[3] : "";
-    uint64_t refused = 0;
+    uint64_t no = 0;
     message = malloc(MESSAGE), claims = malloc(OTZARVIM_CLAIM * OTZARVIM_MOST_NODES), room = malloc(MOST_WORDS * sizeof *room);
     printf("| workload | nodes | bytes | rounds | (a) µs | (b) µs | (b) behind a check, µs | rounds, µs | writer, µs ");
     printf("| a/b | a/(b behind a check) | a/rounds | writer/rounds |\n");
@@ -284,7 +286,7 @@ int main(int argc, char **argv)
             table[i].make(table[i].most / part);
             nodes = message[6] * 256u + message[7];
             compare_right(table[i].name);
-            refused += compare_damaged(table[i].name);
+            no += compare_damaged(table[i].name);
             least(VERSIONS, call, turn, turns, best);
             least(1, call_writer, turn, turns < 2 ? turns : 2, &writer); /* a call may take seconds */
             int gcc = best[B_GCC] < best[B_CLANG];
@@ -297,6 +299,6 @@ int main(int argc, char **argv)
             fflush(stdout);
         }
     }
-    printf("\nAll versions accepted the claims that the writer wrote, and said no of %llu damaged ones.\n", (unsigned long long)refused);
+    printf("\nAll versions accepted the claims that the writer wrote, and said no of %llu damaged ones.\n", (unsigned long long)no);
     return 0;
 }
