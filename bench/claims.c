@@ -234,7 +234,8 @@ static void compare_right(const char *name)
             differ(name, "a word is left");
 }
 
-/* How often all said no. Of each node drawn: a value that is less, more or near the end, which no version accepts; and another rank, on which all agree. */
+/* How often all said no. Of each node drawn: a value that is less, more or near the end, which no version accepts; and another rank, on
+ * which all agree. */
 static uint32_t compare_damaged(const char *name)
 {
     uint32_t no = 0;
