@@ -39,17 +39,6 @@ def _read_bytes(path: str) -> bytes:
         raise Mistake(Place(path), error.strerror or "can't be read") from None
 
 
-def _write_bytes(path: str, data: bytes) -> None:
-    if path == "-":
-        sys.stdout.buffer.write(data)
-        return
-    try:
-        with open(path, "wb") as file:
-            file.write(data)
-    except OSError as error:
-        raise Mistake(Place(path), error.strerror or "can't be written") from None
-
-
 def _read_text(path: str) -> str:
     try:
         return _read_bytes(path).decode("utf-8").replace("\r\n", "\n")
