@@ -183,10 +183,10 @@ fn unused(offset: usize, fields: Fields) -> Field
     if all_zero(fields) {
         return Field::Number(0);
     }
-    let at = first_not_zero(fields);
+    let place = offset + first_not_zero(fields);
     Field::Refused(Fault {
         refusal: Refusal::Form,
-        offset: offset + at,
+        offset: place,
     })
 }
 
