@@ -17,6 +17,12 @@ coded-requires-3 c κs = search needs
 coded-requires-4 : tie.Need-coded-requires-4
 coded-requires-4 c κs = search needs
 
+coded-requires-5 : tie.Need-coded-requires-5
+coded-requires-5 c κs = search needs
+
+coded-requires-6 : tie.Need-coded-requires-6
+coded-requires-6 c κs = search needs
+
 returns : tie.Need-returns
 unfolding rowOf
 returns c = rw (c .match .keys1)
@@ -55,9 +61,19 @@ returns-9 c = rw (c .before .match .keys9, c .coded3 .ensures)
 
 returns-10 : tie.Need-returns-10
 unfolding rowOf
-returns-10 c =
+returns-10 c = rw (c .before .match .keys10, c .coded4 .ensures)
+
+returns-11 : tie.Need-returns-11
+unfolding rowOf
+returns-11 c = rw (c .before .match .keys11, c .coded5 .ensures)
+
+returns-12 : tie.Need-returns-12
+unfolding rowOf
+returns-12 c =
     let is = c .before .match .rest in
     rw (
+      ne-eqb _ _ (is .0 .0 .0 .0 .0 .0 .0 .0 .0 .0 .1),
+      ne-eqb _ _ (is .0 .0 .0 .0 .0 .0 .0 .0 .0 .1),
       ne-eqb _ _ (is .0 .0 .0 .0 .0 .0 .0 .0 .1),
       ne-eqb _ _ (is .0 .0 .0 .0 .0 .0 .0 .1),
       ne-eqb _ _ (is .0 .0 .0 .0 .0 .0 .1),
@@ -67,7 +83,7 @@ returns-10 c =
       ne-eqb _ _ (is .0 .0 .1),
       ne-eqb _ _ (is .0 .1),
       ne-eqb _ _ (is .1),
-      c .coded4 .ensures,
+      c .coded6 .ensures,
     )
 
 pub row-of-spec : {M : Type 1} → statement M
@@ -78,6 +94,8 @@ row-of-spec =
     coded-requires-2
     coded-requires-3
     coded-requires-4
+    coded-requires-5
+    coded-requires-6
     returns
     returns-2
     returns-3
@@ -87,4 +105,6 @@ row-of-spec =
     returns-7
     returns-8
     returns-9
-    returns-10)
+    returns-10
+    returns-11
+    returns-12)
