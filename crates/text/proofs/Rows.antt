@@ -43,7 +43,7 @@ madeLength (Or l r) n = 5 + n l + n r
 madeLength (Next q k l b) n = 3 + length (actionText k) + length (boundText b) + n l
 madeLength (Until q l r b) n = 6 + length (boundText b) + n l + n r
 
-one-byte : (q : Quantifier) → length (quantifierText q) ≡ 1
+pub one-byte : (q : Quantifier) → length (quantifierText q) ≡ 1
 one-byte Some = refl
 one-byte Every = refl
 
