@@ -77,7 +77,7 @@ unfolding cutBound
 bound-cut (Within k) r h = rw (decimal-read k (32 ∷ r) h refl, decimal-rest k (32 ∷ r) refl)
 bound-cut Unbounded r h = refl
 
--- no digit of an action's follows it: `<` or a blank does
+-- behind an action stands `<` or a blank, and neither is a digit
 after-action : (b : Bound) (r : List ℕ) → Stops (boundText b ++ 32 ∷ r)
 after-action (Within k) r = refl
 after-action Unbounded r = refl
