@@ -135,6 +135,7 @@ impl Checked {
 fn row_of(operator: u32, left: u32, right: u32, bound: u32) -> Row
     ensures { λ r. ⌜ r ≡ rows.rowOf operator left right bound ⌝ }
 {
+    let within = Bound::coded(bound);
     match operator {
         0 => Row::True,
         1 => Row::False,
@@ -142,22 +143,12 @@ fn row_of(operator: u32, left: u32, right: u32, bound: u32) -> Row
         3 => Row::Negation(left),
         4 => Row::And(left, right),
         5 => Row::Or(left, right),
-        6 => Row::Next(Quantifier::Some, Action::Any, left, Bound::coded(bound)),
-        7 => Row::Next(Quantifier::Every, Action::Any, left, Bound::coded(bound)),
-        8 => Row::Until(Quantifier::Some, left, right, Bound::coded(bound)),
-        9 => Row::Until(Quantifier::Every, left, right, Bound::coded(bound)),
-        10 => Row::Next(
-            Quantifier::Some,
-            Action::Only(right),
-            left,
-            Bound::coded(bound),
-        ),
-        _ => Row::Next(
-            Quantifier::Every,
-            Action::Only(right),
-            left,
-            Bound::coded(bound),
-        ),
+        6 => Row::Next(Quantifier::Some, Action::Any, left, within),
+        7 => Row::Next(Quantifier::Every, Action::Any, left, within),
+        8 => Row::Until(Quantifier::Some, left, right, within),
+        9 => Row::Until(Quantifier::Every, left, right, within),
+        10 => Row::Next(Quantifier::Some, Action::Only(right), left, within),
+        _ => Row::Next(Quantifier::Every, Action::Only(right), left, within),
     }
 }
 
