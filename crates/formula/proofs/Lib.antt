@@ -2,6 +2,7 @@
 --     Spelt      the fields that a row is written with
 --     Judging    the tests of a row's fields, in terms of the row
 --     Using      which fields each kind of operator uses, and how each is read
+--     Spared     a row's fields told as numbers, those that its operator doesn't use looked at together
 --     Good       what a good reading says of the bytes
 --     Uses       how often rows are operands, counted in a table
 --     Begun      what a loop over rows has read, and what is left
@@ -15,6 +16,7 @@
 pub mod Spelt
 pub mod Judging
 pub mod Using
+pub mod Spared
 pub mod Good
 pub mod Uses
 pub mod Begun

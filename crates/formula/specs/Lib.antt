@@ -3,6 +3,7 @@ pub mod Formula
 pub mod Rows
 pub mod Format
 pub mod Message
+pub mod Told
 pub mod Write
 pub mod WellFormed
 pub mod Answers

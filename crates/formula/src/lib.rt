@@ -1,16 +1,19 @@
 // The check of a formula message against a number of propositions: the first fault in the paper's order, or how many rows it has.
 ghost use mathlib.Core.Path.{_≡_};
 ghost use Prim.Native.Nat.{ℕ, _+_, _*_, _^_, _≤_, _<_};
+ghost use mathlib.Core.Bool.{false};
 ghost use mathlib.Core.List.{List, [], _∷_};
 ghost use lib.ListN.{length, getD};
 ghost use Rattle.lists.specs.Lists.{_∈_};
-ghost use Rattle.wire.specs.Field.{widthOf};
-ghost use Rattle.wire.specs.Read.{good, below, found, misnamed};
+ghost use Rattle.wire.specs.declared.Field.the-variants.{Number};
+ghost use Rattle.wire.specs.Field.{fieldAt};
+ghost use Rattle.wire.specs.Read.{good, bad, below, found, misnamed};
 ghost use Rattle.wire.specs.Reader.{readAll};
 ghost use Rattle.wire.specs.Step.{start};
 ghost use Rattle.formula.specs.declared.Row.{Row};
 ghost use Rattle.formula.specs.Rows as rows;
 ghost use Rattle.formula.specs.Message as m;
+ghost use Rattle.formula.specs.Told as spare;
 ghost use Rattle.formula.specs.Layouts.{rowAt};
 ghost use Rattle.formula.specs.Answers as answers;
 ghost use Rattle.formula.specs.Format.{formulaHeader, rowWidth, formulaLength};
@@ -97,6 +100,14 @@ pub enum Row {
     Until(Quantifier, u32, u32, Bound),
 }
 
+// The fields of a row behind its operator.
+struct Fields {
+    left: u32,
+    right: u32,
+    zero: u32,
+    bound: u32,
+}
+
 // A row without fault, or its first fault.
 pub enum Judged {
     Fine(Row),
@@ -152,16 +163,52 @@ fn row_of(operator: u32, left: u32, right: u32, bound: u32) -> Row
     }
 }
 
-// A field that the operator doesn't use, of a row that stands here in its message: it must be zero, or it is FORM.
-fn unused(row: &[u8], offset: usize, at: usize, width: Width) -> Field
-    requires { ⌜ (offset + rowWidth < 2 ^ 64) × (at < rowWidth) ⌝ }
-    ensures { λ r. ⌜ r ≡ found (below (widthOf width) (now (row .entry)) at 1 (m.illFormed (offset + at))) ⌝ }
+// Whether fields are all zero: the compiler makes one test of it.
+fn all_zero(fields: Fields) -> bool
+    ensures { λ r. ⌜ r ≡ spare.allZero fields ⌝ }
 {
-    let form = Fault {
+    if fields.left != 0 {
+        return false;
+    }
+    if fields.right != 0 {
+        return false;
+    }
+    if fields.zero != 0 {
+        return false;
+    }
+    fields.bound == 0
+}
+
+// Of fields that aren't all zero, where the first stands that isn't.
+fn first_not_zero(fields: Fields) -> usize
+    ensures { λ r. ⌜ (r < rowWidth) × ((offset : ℕ) → spare.allZero fields ≡ false → spare.unused offset fields ≡ bad (m.illFormed (offset + r))) ⌝ }
+{
+    if fields.left != 0 {
+        return LEFT_AT;
+    }
+    if fields.right != 0 {
+        return RIGHT_AT;
+    }
+    if fields.zero != 0 {
+        return ZERO_AT;
+    }
+    BOUND_AT
+}
+
+// The fields that an operator doesn't use, and 0 for those that it uses, of a row that stands here in its message: they must be zero,
+// or the first that isn't is FORM. They are looked at together first, and one by one only where that shows a fault.
+fn unused(offset: usize, fields: Fields) -> Field
+    requires { ⌜ offset + rowWidth < 2 ^ 64 ⌝ }
+    ensures { λ r. ⌜ r ≡ found (spare.unused offset fields) ⌝ }
+{
+    if all_zero(fields) {
+        return Field::Number(0);
+    }
+    let at = first_not_zero(fields);
+    Field::Refused(Fault {
         refusal: Refusal::Form,
         offset: offset + at,
-    };
-    wire::read_below(row, at, width, 1, form)
+    })
 }
 
 // A field that names one of so many propositions or earlier rows, or it is NAME.
@@ -176,28 +223,17 @@ fn named(row: &[u8], offset: usize, field: usize, limit: u32) -> Field
     wire::read_below(row, field, Width::One, limit as u64, name)
 }
 
-// Each kind of operator reads first the fields that it doesn't use, then the others: so the compiler has a branch for each kind.
+// Each kind of operator looks first at the fields that it doesn't use, of those told to it, then reads the others: so the compiler has a
+// branch for each kind.
 
 // True and false use no field.
-fn read_constant(row: &[u8], offset: usize, operator: u32) -> Judged
+fn read_constant(offset: usize, operator: u32, told: Fields) -> Judged
     requires { ⌜ (offset + rowWidth < 2 ^ 64) × (operator ≤ 1) ⌝ }
-    ensures { λ r. ⌜ ((p place : ℕ) → r ≡ answers.judged (m.fieldsFrom (now (row .entry)) 0 offset p place operator)) ⌝ }
+    ensures { λ r. ⌜ ((row : List ℕ) (p place : ℕ) → spare.Told row told → r ≡ answers.judged (m.fieldsFrom row 0 offset p place operator)) ⌝ }
 {
-    let left = unused(row, offset, LEFT_AT, Width::One);
-    let Field::Number(_) = left else {
-        return Judged::Refused(left.fault());
-    };
-    let right = unused(row, offset, RIGHT_AT, Width::One);
-    let Field::Number(_) = right else {
-        return Judged::Refused(right.fault());
-    };
-    let zero = unused(row, offset, ZERO_AT, Width::One);
-    let Field::Number(_) = zero else {
-        return Judged::Refused(zero.fault());
-    };
-    let bound = unused(row, offset, BOUND_AT, Width::Four);
-    let Field::Number(_) = bound else {
-        return Judged::Refused(bound.fault());
+    let idle = unused(offset, told);
+    let Field::Number(_) = idle else {
+        return Judged::Refused(idle.fault());
     };
     if operator == 0 {
         return Judged::Fine(Row::True);
@@ -206,21 +242,21 @@ fn read_constant(row: &[u8], offset: usize, operator: u32) -> Judged
 }
 
 // A proposition and its negation use left.
-fn read_proposition(row: &[u8], offset: usize, operator: u32, p: u32) -> Judged
-    requires { ⌜ (offset + rowWidth < 2 ^ 64) × (2 ≤ operator) × (operator ≤ 3) ⌝ }
+fn read_proposition(row: &[u8], offset: usize, operator: u32, p: u32, told: Fields) -> Judged
+    requires { ⌜ (offset + rowWidth < 2 ^ 64) × (2 ≤ operator) × (operator ≤ 3) × spare.Told (now row) told ⌝ }
     ensures { λ r. ⌜ ((place : ℕ) → r ≡ answers.judged (m.fieldsFrom (now (row .entry)) 0 offset p place operator)) ⌝ }
 {
-    let right = unused(row, offset, RIGHT_AT, Width::One);
-    let Field::Number(_) = right else {
-        return Judged::Refused(right.fault());
-    };
-    let zero = unused(row, offset, ZERO_AT, Width::One);
-    let Field::Number(_) = zero else {
-        return Judged::Refused(zero.fault());
-    };
-    let bound = unused(row, offset, BOUND_AT, Width::Four);
-    let Field::Number(_) = bound else {
-        return Judged::Refused(bound.fault());
+    let idle = unused(
+        offset,
+        Fields {
+            left: 0,
+            right: told.right,
+            zero: told.zero,
+            bound: told.bound,
+        },
+    );
+    let Field::Number(_) = idle else {
+        return Judged::Refused(idle.fault());
     };
     let first = named(row, offset, LEFT_AT, p);
     let Field::Number(left) = first else {
@@ -233,17 +269,21 @@ fn read_proposition(row: &[u8], offset: usize, operator: u32, p: u32) -> Judged
 }
 
 // And, or use left and right.
-fn read_pair(row: &[u8], offset: usize, operator: u32, place: u32) -> Judged
-    requires { ⌜ (offset + rowWidth < 2 ^ 64) × (4 ≤ operator) × (operator ≤ 5) ⌝ }
+fn read_pair(row: &[u8], offset: usize, operator: u32, place: u32, told: Fields) -> Judged
+    requires { ⌜ (offset + rowWidth < 2 ^ 64) × (4 ≤ operator) × (operator ≤ 5) × spare.Told (now row) told ⌝ }
     ensures { λ r. ⌜ ((p : ℕ) → r ≡ answers.judged (m.fieldsFrom (now (row .entry)) 0 offset p place operator)) ⌝ }
 {
-    let zero = unused(row, offset, ZERO_AT, Width::One);
-    let Field::Number(_) = zero else {
-        return Judged::Refused(zero.fault());
-    };
-    let bound = unused(row, offset, BOUND_AT, Width::Four);
-    let Field::Number(_) = bound else {
-        return Judged::Refused(bound.fault());
+    let idle = unused(
+        offset,
+        Fields {
+            left: 0,
+            right: 0,
+            zero: told.zero,
+            bound: told.bound,
+        },
+    );
+    let Field::Number(_) = idle else {
+        return Judged::Refused(idle.fault());
     };
     let first = named(row, offset, LEFT_AT, place);
     let Field::Number(left) = first else {
@@ -260,17 +300,21 @@ fn read_pair(row: &[u8], offset: usize, operator: u32, place: u32) -> Judged
 }
 
 // EX and AX of any action use left and the bound.
-fn read_next(row: &[u8], offset: usize, operator: u32, place: u32) -> Judged
-    requires { ⌜ (offset + rowWidth < 2 ^ 64) × (6 ≤ operator) × (operator ≤ 7) ⌝ }
+fn read_next(row: &[u8], offset: usize, operator: u32, place: u32, told: Fields) -> Judged
+    requires { ⌜ (offset + rowWidth < 2 ^ 64) × (6 ≤ operator) × (operator ≤ 7) × spare.Told (now row) told ⌝ }
     ensures { λ r. ⌜ ((p : ℕ) → r ≡ answers.judged (m.fieldsFrom (now (row .entry)) 0 offset p place operator)) ⌝ }
 {
-    let right = unused(row, offset, RIGHT_AT, Width::One);
-    let Field::Number(_) = right else {
-        return Judged::Refused(right.fault());
-    };
-    let zero = unused(row, offset, ZERO_AT, Width::One);
-    let Field::Number(_) = zero else {
-        return Judged::Refused(zero.fault());
+    let idle = unused(
+        offset,
+        Fields {
+            left: 0,
+            right: told.right,
+            zero: told.zero,
+            bound: 0,
+        },
+    );
+    let Field::Number(_) = idle else {
+        return Judged::Refused(idle.fault());
     };
     let first = named(row, offset, LEFT_AT, place);
     let Field::Number(left) = first else {
@@ -295,13 +339,21 @@ fn right_limit(place: u32, operator: u32) -> u32
 }
 
 // The untils, and EX and AX of an action, use left, right and the bound.
-fn read_full(row: &[u8], offset: usize, operator: u32, place: u32) -> Judged
-    requires { ⌜ (offset + rowWidth < 2 ^ 64) × (8 ≤ operator) × (operator ≤ 11) ⌝ }
+fn read_full(row: &[u8], offset: usize, operator: u32, place: u32, told: Fields) -> Judged
+    requires { ⌜ (offset + rowWidth < 2 ^ 64) × (8 ≤ operator) × (operator ≤ 11) × spare.Told (now row) told ⌝ }
     ensures { λ r. ⌜ ((p : ℕ) → r ≡ answers.judged (m.fieldsFrom (now (row .entry)) 0 offset p place operator)) ⌝ }
 {
-    let zero = unused(row, offset, ZERO_AT, Width::One);
-    let Field::Number(_) = zero else {
-        return Judged::Refused(zero.fault());
+    let idle = unused(
+        offset,
+        Fields {
+            left: 0,
+            right: 0,
+            zero: told.zero,
+            bound: 0,
+        },
+    );
+    let Field::Number(_) = idle else {
+        return Judged::Refused(idle.fault());
     };
     let first = named(row, offset, LEFT_AT, place);
     let Field::Number(left) = first else {
@@ -318,29 +370,60 @@ fn read_full(row: &[u8], offset: usize, operator: u32, place: u32) -> Judged
     Judged::Fine(row_of(operator, left, right, bound))
 }
 
-// A row that stands here in its message, by the kind of its operator.
+// A row that stands here in its message: its fields, and what they are by the kind of its operator. All are read before any is judged,
+// so that the compiler can test some of them together.
 fn read_row(row: &[u8], offset: usize, p: u32, place: u32) -> Judged
-    requires { ⌜ offset + rowWidth < 2 ^ 64 ⌝ }
+    requires { ⌜ (offset + rowWidth < 2 ^ 64) × (rowWidth ≤ length (now row)) ⌝ }
     ensures { λ r. ⌜ r ≡ answers.judged (m.rowFrom (now (row .entry)) 0 offset p place) ⌝ }
 {
     let field = wire::read(row, 0, Width::One);
     let Field::Number(operator) = field else {
         return Judged::Refused(field.fault());
     };
+    let first = wire::read(row, LEFT_AT, Width::One);
+    let Field::Number(left) = first else {
+        return Judged::Refused(first.fault());
+    };
+    let second = wire::read(row, RIGHT_AT, Width::One);
+    let Field::Number(right) = second else {
+        return Judged::Refused(second.fault());
+    };
+    let third = wire::read(row, ZERO_AT, Width::One);
+    let Field::Number(zero) = third else {
+        return Judged::Refused(third.fault());
+    };
+    let last = wire::read(row, BOUND_AT, Width::Four);
+    let Field::Number(bound) = last else {
+        return Judged::Refused(last.fault());
+    };
+    let told = Fields {
+        left,
+        right,
+        zero,
+        bound,
+    };
+    read_kind(row, offset, p, place, operator, told)
+}
+
+// A row of this operator and these fields, by the kind of the operator.
+fn read_kind(row: &[u8], offset: usize, p: u32, place: u32, operator: u32, told: Fields) -> Judged
+    requires { ⌜ (offset + rowWidth < 2 ^ 64) × (fieldAt 1 (now row) 0 ≡ Number operator) × spare.Told (now row) told ⌝ }
+    ensures { λ r. ⌜ r ≡ answers.judged (m.rowFrom (now (row .entry)) 0 offset p place) ⌝ }
+{
     if operator < 4 {
         if operator < 2 {
-            return read_constant(row, offset, operator);
+            return read_constant(offset, operator, told);
         }
-        return read_proposition(row, offset, operator, p);
+        return read_proposition(row, offset, operator, p, told);
     }
     if operator < 6 {
-        return read_pair(row, offset, operator, place);
+        return read_pair(row, offset, operator, place, told);
     }
     if operator < 8 {
-        return read_next(row, offset, operator, place);
+        return read_next(row, offset, operator, place, told);
     }
     if operator < 12 {
-        return read_full(row, offset, operator, place);
+        return read_full(row, offset, operator, place, told);
     }
     Judged::Refused(Fault {
         refusal: Refusal::Form,

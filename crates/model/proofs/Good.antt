@@ -73,6 +73,13 @@ module _ (s : List ℕ) where
   pub transitions-move : (n : ℕ) (st next : State) → one (transitions s n) st ≡ good next → next .at ≡ st .at + transitionWidth
   transitions-move n st next e = ap (λ (u : State). u .at) (sym (good-same (bind-good _ _ e .rest)))
 
+  -- and the state that a good transition leaves exists
+  pub transitions-leave : (n : ℕ) (st next : State) → one (transitions s n) st ≡ good next → next .prev < n
+  transitions-leave n st next e =
+      let t = bind-good _ _ e in
+      let same : t .value .from ≡ next .prev = ap (λ (u : State). u .prev) (good-same (t .rest)) in
+      rw (← same) (transition-good n st (t .value) (t .first) .from-named)
+
 -- what a good header says of the bytes
 pub record HeaderAt (s : List ℕ) (k : Counts) : Type 0 where
   pub opened : readStart s modelHead ≡ good tt

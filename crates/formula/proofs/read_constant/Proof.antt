@@ -1,62 +1,40 @@
--- `formula::read_constant` meets its contract: each `return` is the reading of the fields under those that were read before.
-use Prim.Native.Nat.{ℕ, _+_}
+-- `formula::read_constant` meets its contract: no field is used, and all are looked at together.
+use Prim.Native.Nat.{ℕ}
 use mathlib.Core.Bool.{true, false}
-use mathlib.Core.Path.{_≡_}
+use mathlib.Core.List.{List}
+use mathlib.Core.Path.{_≡_, _∙_}
 use native.Mathlib.Omega.{arith}
-use denote.Ref.{now}
 use borrow.Author.Needs.{needs}
 use Rattle.lists.proofs.Tests.{by}
-use Rattle.wire.specs.Read.{Read, good, below}
-use Rattle.wire.proofs.Reading.{reading, found-good, below-good, handed}
+use Rattle.wire.specs.Read.{_>>=_}
+use Rattle.wire.proofs.Reading.{reading, found-good, handed}
 use Rattle.formula.specs.Answers.{judged}
-use Rattle.formula.specs.Format.{leftAt, rightAt, zeroAt, boundAt}
 use Rattle.formula.specs.Rows.{rowOf}
-use Rattle.formula.specs.Message.{illFormed, spare, operand, fieldsFrom}
+use Rattle.formula.specs.Message.{operand, fieldsFrom}
+use Rattle.formula.specs.Told.{Told, unused}
 use Rattle.formula.proofs.Using.{Uses, constant-uses}
+use Rattle.formula.proofs.Spared.{namesFrom, fields-told}
 use Rattle.formula.proofs.read_constant.Statement.{statement}
 use Rattle.formula.proofs.read_constant.Tie as tie
 
--- the places: where the function starts, seen from its first field, and from each other field the one before it
+-- where the function starts, and which fields are used
 abbrev start : tie.After-unused → tie.Start
-start c = c .before .before
+start c = c .before
 
-abbrev second : tie.After-unused2 → tie.After-unused
-second c = c .before .before .before
-
-abbrev third : tie.After-unused3 → tie.After-unused2
-third c = c .before .before .before
-
-abbrev fourth : tie.After-unused4 → tie.After-unused3
-fourth c = c .before .before .before
-
--- which fields are used
 uses : (c : tie.After-unused) → Uses (start c .args .operator) false false false true
 uses c = constant-uses _ (start c .pre .1)
 
--- the reading of each field, and that it is good
-abbrev left-read : tie.After-unused → Read ℕ
-left-read c = let a = start c .args in below 1 (now (a .row)) leftAt 1 (illFormed (a .offset + leftAt))
+-- the fields that it is told are all that it looks at
+all-told : (c : tie.After-unused) {row : List ℕ} (p place : ℕ) → let a = start c .args in Told row (a .told)
+    → fieldsFrom row 0 (a .offset) p place (a .operator) ≡ unused (a .offset) (a .told) >>= λ u. namesFrom row (a .offset) p place (a .operator)
+all-told c p place t = fields-told t (uses c) (start c .args .offset) p place
 
-left-zero : (c : tie.After-enum-told) → left-read (c .before .before) ≡ good (c .enum-told .given .0 .0)
-left-zero c = found-good (left-read (c .before .before)) (by (c .before .before .unused .ensures) (c .enum-told .given .1))
-
-abbrev right-read : tie.After-unused2 → Read ℕ
-right-read c = let a = start (second c) .args in below 1 (now (a .row)) rightAt 1 (illFormed (a .offset + rightAt))
-
-right-zero : (c : tie.After-enum-told3) → right-read (c .before .before) ≡ good (c .enum-told3 .given .0 .0)
-right-zero c = found-good (right-read (c .before .before)) (by (c .before .before .unused2 .ensures) (c .enum-told3 .given .1))
-
-abbrev zero-read : tie.After-unused3 → Read ℕ
-zero-read c = let a = start (second (third c)) .args in below 1 (now (a .row)) zeroAt 1 (illFormed (a .offset + zeroAt))
-
-zero-zero : (c : tie.After-enum-told5) → zero-read (c .before .before) ≡ good (c .enum-told5 .given .0 .0)
-zero-zero c = found-good (zero-read (c .before .before)) (by (c .before .before .unused3 .ensures) (c .enum-told5 .given .1))
-
-abbrev bound-read : tie.After-unused4 → Read ℕ
-bound-read c = let a = start (second (third (fourth c))) .args in below 4 (now (a .row)) boundAt 1 (illFormed (a .offset + boundAt))
-
-bound-zero : (c : tie.After-enum-told7) → bound-read (c .before .before) ≡ good (c .enum-told7 .given .0 .0)
-bound-zero c = found-good (bound-read (c .before .before)) (by (c .before .before .unused4 .ensures) (c .enum-told7 .given .1))
+-- where the fields are zero, none is left
+names : (c : tie.After-enum-told) (row : List ℕ) (p place : ℕ) → let a = start (c .before .before) .args in Told row (a .told)
+    → fieldsFrom row 0 (a .offset) p place (a .operator) ≡ namesFrom row (a .offset) p place (a .operator)
+names c row p place t =
+    let r = c .before .before in
+    all-told r p place t ∙ simp (found-good _ (by (r .unused .ensures) (c .enum-told .given .1)), reading)
 
 unused-requires : tie.Need-unused-requires
 unused-requires c κs = search needs
@@ -71,118 +49,23 @@ fault-requires : tie.Need-fault-requires
 fault-requires c κs = search needs
 
 returns : tie.Need-returns
-unfolding fieldsFrom spare operand judged
+unfolding judged
 returns c =
-    let r1 = c .before .before .before in
-    let u = uses r1 in
-    λ p place. simp (c .fault .ensures, u .of-left, u .of-right, u .of-bound, u .names, reading, handed (left-read r1) (r1 .unused .ensures) (c .before .enum-told2 .given .1))
-
-unused-requires-2 : tie.Need-unused-requires-2
-unused-requires-2 c κs = search needs
-
-enum-told-3 : tie.Need-enum-told-3
-enum-told-3 c = search needs
-
-enum-told-4 : tie.Need-enum-told-4
-enum-told-4 c = search needs
-
-fault-requires-2 : tie.Need-fault-requires-2
-fault-requires-2 c κs = search needs
+    let r = c .before .before .before in
+    λ row p place t. simp (c .fault .ensures, all-told r p place t, handed _ (r .unused .ensures) (c .before .enum-told2 .given .1), reading)
 
 returns-2 : tie.Need-returns-2
-unfolding fieldsFrom spare operand judged
-returns-2 c =
-    let r2 = c .before .before .before in
-    let r1 = second r2 in
-    let u = uses r1 in
-    λ p place. simp (c .fault2 .ensures, u .of-left, u .of-right, u .of-bound, u .names, reading, left-zero (r2 .before), handed (right-read r2) (r2 .unused2 .ensures) (c .before .enum-told4 .given .1))
-
-unused-requires-3 : tie.Need-unused-requires-3
-unused-requires-3 c κs = search needs
-
-enum-told-5 : tie.Need-enum-told-5
-enum-told-5 c = search needs
-
-enum-told-6 : tie.Need-enum-told-6
-enum-told-6 c = search needs
-
-fault-requires-3 : tie.Need-fault-requires-3
-fault-requires-3 c κs = search needs
+unfolding namesFrom operand judged rowOf
+returns-2 c = λ row p place t. rw (names (c .before) row p place t) (simp (c .if1 .taken, reading, t .bound-told))
 
 returns-3 : tie.Need-returns-3
-unfolding fieldsFrom spare operand judged
+unfolding namesFrom operand judged rowOf
 returns-3 c =
-    let r3 = c .before .before .before in
-    let r2 = third r3 in
-    let r1 = second r2 in
-    let u = uses r1 in
-    λ p place. simp (c .fault3 .ensures, u .of-left, u .of-right, u .of-bound, u .names, reading, left-zero (r2 .before), right-zero (r3 .before), handed (zero-read r3) (r3 .unused3 .ensures) (c .before .enum-told6 .given .1))
-
-unused-requires-4 : tie.Need-unused-requires-4
-unused-requires-4 c κs = search needs
-
-enum-told-7 : tie.Need-enum-told-7
-enum-told-7 c = search needs
-
-enum-told-8 : tie.Need-enum-told-8
-enum-told-8 c = search needs
-
-fault-requires-4 : tie.Need-fault-requires-4
-fault-requires-4 c κs = search needs
-
-returns-4 : tie.Need-returns-4
-unfolding fieldsFrom spare operand judged
-returns-4 c =
-    let r4 = c .before .before .before in
-    let r3 = fourth r4 in
-    let r2 = third r3 in
-    let r1 = second r2 in
-    let u = uses r1 in
-    λ p place. simp (c .fault4 .ensures, u .of-left, u .of-right, u .of-bound, u .names, reading, left-zero (r2 .before), right-zero (r3 .before), zero-zero (r4 .before), handed (bound-read r4) (r4 .unused4 .ensures) (c .before .enum-told8 .given .1))
-
-returns-5 : tie.Need-returns-5
-unfolding fieldsFrom spare operand judged rowOf
-returns-5 c =
-    let e = c .before in
-    let r4 = e .before .before in
-    let r3 = fourth r4 in
-    let r2 = third r3 in
-    λ p place. simp (c .if1 .taken, reading, left-zero (r2 .before), right-zero (r3 .before), zero-zero (r4 .before), bound-zero e, below-good 4 _ boundAt 1 _ (bound-zero e) .0)
-
-returns-6 : tie.Need-returns-6
-unfolding fieldsFrom spare operand judged rowOf
-returns-6 c =
-    let e = c .before in
-    let r4 = e .before .before in
-    let r3 = fourth r4 in
-    let r2 = third r3 in
-    let a = start (second r2) in
+    let a = start (c .before .before .before) in
     let is : a .args .operator ≡ 1 = omega (arith, a .pre .1, c .if1 .left) in
-    λ p place. simp (is, reading, left-zero (r2 .before), right-zero (r3 .before), zero-zero (r4 .before), bound-zero e, below-good 4 _ boundAt 1 _ (bound-zero e) .0)
+    λ row p place t. rw (names (c .before) row p place t) (simp (is, reading, t .bound-told))
 
 pub read-constant-spec : {M : Type 1} → statement M
 read-constant-spec =
     tie.close
-    (tie.spec
-    unused-requires
-    enum-told
-    enum-told-2
-    fault-requires
-    returns
-    unused-requires-2
-    enum-told-3
-    enum-told-4
-    fault-requires-2
-    returns-2
-    unused-requires-3
-    enum-told-5
-    enum-told-6
-    fault-requires-3
-    returns-3
-    unused-requires-4
-    enum-told-7
-    enum-told-8
-    fault-requires-4
-    returns-4
-    returns-5
-    returns-6)
+    (tie.spec unused-requires enum-told enum-told-2 fault-requires returns returns-2 returns-3)

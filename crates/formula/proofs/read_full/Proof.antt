@@ -1,4 +1,5 @@
--- `formula::read_full` meets its contract: each `return` is the reading of the fields under those that were read before.
+-- `formula::read_full` meets its contract: the fields that it doesn't use, looked at together, then each `return` is the reading of the others
+-- under those that were read before.
 use Prim.Native.Nat.{ℕ, _+_}
 use mathlib.Core.Bool.{true, false}
 use mathlib.Core.Path.{_≡_, ap, _∙_}
@@ -9,56 +10,49 @@ use Rattle.lists.proofs.Tests.{by}
 use Rattle.wire.specs.Read.{Read, good, found, below, misnamed, field}
 use Rattle.wire.proofs.Reading.{reading, found-good, handed, field-found}
 use Rattle.formula.specs.Answers.{judged}
-use Rattle.formula.specs.Format.{leftAt, rightAt, zeroAt, boundAt}
+use Rattle.formula.specs.Format.{leftAt, rightAt, boundAt}
 use Rattle.formula.specs.Rows.{rightLimit}
-use Rattle.formula.specs.Message.{illFormed, spare, operand, fieldsFrom}
+use Rattle.formula.specs.Message.{operand, fieldsFrom}
 use Rattle.formula.proofs.Using.{Uses, full-uses}
+use Rattle.formula.proofs.Spared.{namesFrom, fields-told}
 use Rattle.formula.proofs.read_full.Statement.{statement}
 use Rattle.formula.proofs.read_full.Tie as tie
 
--- the places: where the function starts, seen from its first field, and from each other field the one before it
+-- where the function starts, and which fields are used
 abbrev start : tie.After-unused → tie.Start
 start c = c .before .before
 
-abbrev second : tie.After-named → tie.After-unused
-second c = c .before .before .before
-
-abbrev third : tie.After-named2 → tie.After-named
-third c = c .before .before .before .before .before
-
-abbrev fourth : tie.After-read → tie.After-named2
-fourth c = c .before .before .before .before
-
--- which fields are used
 uses : (c : tie.After-unused) → Uses (start c .args .operator) true true true false
 uses c = full-uses _ (start c .pre .1)
 
+-- where the fields that are not used are zero, the others are left
+names : (c : tie.After-enum-told) (p : ℕ) → let a = start (c .before .before) .args in
+    fieldsFrom (now (a .row)) 0 (a .offset) p (a .place) (a .operator) ≡ namesFrom (now (a .row)) (a .offset) p (a .place) (a .operator)
+names c p =
+    let r = c .before .before in
+    let a = start r .args in
+    fields-told (start r .pre .3) (uses r) (a .offset) p (a .place) ∙ simp (found-good _ (by (r .unused .ensures) (c .enum-told .given .1)), reading)
+
 -- the reading of each field, and that it is good
-abbrev zero-read : tie.After-unused → Read ℕ
-zero-read c = let a = start c .args in below 1 (now (a .row)) zeroAt 1 (illFormed (a .offset + zeroAt))
-
-zero-zero : (c : tie.After-enum-told) → zero-read (c .before .before) ≡ good (c .enum-told .given .0 .0)
-zero-zero c = found-good (zero-read (c .before .before)) (by (c .before .before .unused .ensures) (c .enum-told .given .1))
-
 abbrev left-read : tie.After-named → Read ℕ
-left-read c = let a = start (second c) .args in below 1 (now (a .row)) leftAt (a .place) (misnamed (a .offset + leftAt))
+left-read c = let a = start (c .before .before .before) .args in below 1 (now (a .row)) leftAt (a .place) (misnamed (a .offset + leftAt))
 
 left-named : (c : tie.After-known-told) → left-read (c .before .before .before) ≡ good (c .before .first .given .0 .0)
 left-named c = found-good (left-read (c .before .before .before)) (by (c .before .before .before .named .ensures) (c .before .first .given .1))
 
 abbrev right-read : tie.After-named2 → Read ℕ
-right-read c = let a = start (second (third c)) .args in below 1 (now (a .row)) rightAt (rightLimit (a .place) (a .operator)) (misnamed (a .offset + rightAt))
+right-read c = let a = start (c .before .before .before .before .before .before .before .before) .args in below 1 (now (a .row)) rightAt (rightLimit (a .place) (a .operator)) (misnamed (a .offset + rightAt))
 
 right-found : (c : tie.After-named2) → c .named2 .result ≡ found (right-read c)
 right-found c =
-    let a = start (second (third c)) .args in
+    let a = start (c .before .before .before .before .before .before .before .before) .args in
     c .named2 .ensures ∙ ap (λ (limit : ℕ). found (below 1 (now (a .row)) rightAt limit (misnamed (a .offset + rightAt)))) (c .before .right-limit .ensures)
 
 right-named : (c : tie.After-known-told2) → right-read (c .before .before .before) ≡ good (c .before .second .given .0 .0)
 right-named c = found-good (right-read (c .before .before .before)) (by (right-found (c .before .before .before)) (c .before .second .given .1))
 
 abbrev bound-read : tie.After-read → Read ℕ
-bound-read c = let a = start (second (third (fourth c))) .args in field 4 (now (a .row)) boundAt
+bound-read c = let a = start (c .before .before .before .before .before .before .before .before .before .before .before .before) .args in field 4 (now (a .row)) boundAt
 
 bound-there : (c : tie.After-known-told3) → bound-read (c .before .before .before) ≡ good (c .before .last .given .0 .0)
 bound-there c = found-good (bound-read (c .before .before .before)) (by (c .before .before .before .read .ensures ∙ field-found _) (c .before .last .given .1))
@@ -76,11 +70,11 @@ fault-requires : tie.Need-fault-requires
 fault-requires c κs = search needs
 
 returns : tie.Need-returns
-unfolding fieldsFrom spare operand judged
+unfolding judged
 returns c =
-    let r1 = c .before .before .before in
-    let u = uses r1 in
-    λ p. simp (c .fault .ensures, u .of-left, u .of-right, u .of-bound, u .names, reading, handed (zero-read r1) (r1 .unused .ensures) (c .before .enum-told2 .given .1))
+    let r = c .before .before .before in
+    let a = start r .args in
+    λ p. simp (c .fault .ensures, fields-told (start r .pre .3) (uses r) (a .offset) p (a .place), handed _ (r .unused .ensures) (c .before .enum-told2 .given .1), reading)
 
 named-requires : tie.Need-named-requires
 named-requires c κs = search needs
@@ -95,12 +89,12 @@ fault-requires-2 : tie.Need-fault-requires-2
 fault-requires-2 c κs = search needs
 
 returns-2 : tie.Need-returns-2
-unfolding fieldsFrom spare operand judged
+unfolding namesFrom operand judged
 returns-2 c =
-    let r2 = c .before .before .before in
-    let r1 = second r2 in
-    let u = uses r1 in
-    λ p. simp (c .fault2 .ensures, u .of-left, u .of-right, u .of-bound, u .names, reading, zero-zero (r2 .before), handed (left-read r2) (r2 .named .ensures) (c .before .enum-told3 .given .1))
+    let r = c .before .before .before in
+    let k = r .before in
+    let u = uses (k .before .before) in
+    λ p. rw (names k p) (simp (c .fault2 .ensures, u .of-left, u .of-right, u .names, reading, handed (left-read r) (r .named .ensures) (c .before .enum-told3 .given .1)))
 
 named-requires-2 : tie.Need-named-requires-2
 named-requires-2 c κs = search needs
@@ -115,13 +109,12 @@ fault-requires-3 : tie.Need-fault-requires-3
 fault-requires-3 c κs = search needs
 
 returns-3 : tie.Need-returns-3
-unfolding fieldsFrom spare operand judged
+unfolding namesFrom operand judged
 returns-3 c =
-    let r3 = c .before .before .before in
-    let r2 = third r3 in
-    let r1 = second r2 in
-    let u = uses r1 in
-    λ p. simp (c .fault3 .ensures, u .of-left, u .of-right, u .of-bound, u .names, reading, zero-zero (r2 .before), left-named (r3 .before .before), handed (right-read r3) (right-found r3) (c .before .enum-told4 .given .1))
+    let r = c .before .before .before in
+    let k = r .before .before .before .before .before .before in
+    let u = uses (k .before .before) in
+    λ p. rw (names k p) (simp (c .fault3 .ensures, u .of-left, u .of-right, u .names, reading, left-named (r .before .before), handed (right-read r) (right-found r) (c .before .enum-told4 .given .1)))
 
 read-requires : tie.Need-read-requires
 read-requires c κs = search needs
@@ -136,14 +129,12 @@ fault-requires-4 : tie.Need-fault-requires-4
 fault-requires-4 c κs = search needs
 
 returns-4 : tie.Need-returns-4
-unfolding fieldsFrom spare operand judged
+unfolding namesFrom operand judged
 returns-4 c =
-    let r4 = c .before .before .before in
-    let r3 = fourth r4 in
-    let r2 = third r3 in
-    let r1 = second r2 in
-    let u = uses r1 in
-    λ p. simp (c .fault4 .ensures, u .of-left, u .of-right, u .of-bound, u .names, reading, zero-zero (r2 .before), left-named (r3 .before .before), right-named (r4 .before), handed (bound-read r4) (r4 .read .ensures ∙ field-found _) (c .before .enum-told5 .given .1))
+    let r = c .before .before .before in
+    let k = r .before .before .before .before .before .before .before .before .before .before in
+    let u = uses (k .before .before) in
+    λ p. rw (names k p) (simp (c .fault4 .ensures, u .of-left, u .of-right, u .names, reading, left-named (r .before .before .before .before .before .before), right-named (r .before), handed (bound-read r) (r .read .ensures ∙ field-found _) (c .before .enum-told5 .given .1)))
 
 right-limit-requires : tie.Need-right-limit-requires
 right-limit-requires c κs = search needs
@@ -152,15 +143,13 @@ row-of-requires : tie.Need-row-of-requires
 row-of-requires c κs = search needs
 
 returns-5 : tie.Need-returns-5
-unfolding fieldsFrom spare operand judged
+unfolding namesFrom operand judged
 returns-5 c =
     let e = c .before in
-    let r4 = e .before .before .before in
-    let r3 = fourth r4 in
-    let r2 = third r3 in
-    let r1 = second r2 in
-    let u = uses r1 in
-    λ p. simp (u .of-left, u .of-right, u .of-bound, u .names, reading, zero-zero (r2 .before), left-named (r3 .before .before), right-named (r4 .before), bound-there e, c .row-of .ensures)
+    let r = e .before .before .before in
+    let k = r .before .before .before .before .before .before .before .before .before .before in
+    let u = uses (k .before .before) in
+    λ p. rw (names k p) (simp (u .of-left, u .of-right, u .names, reading, left-named (r .before .before .before .before .before .before), right-named (r .before), bound-there e, c .row-of .ensures))
 
 pub read-full-spec : {M : Type 1} → statement M
 read-full-spec =

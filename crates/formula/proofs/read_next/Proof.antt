@@ -1,4 +1,5 @@
--- `formula::read_next` meets its contract: each `return` is the reading of the fields under those that were read before.
+-- `formula::read_next` meets its contract: the fields that it doesn't use, looked at together, then each `return` is the reading of the others
+-- under those that were read before.
 use Prim.Native.Nat.{ℕ, _+_}
 use mathlib.Core.Bool.{true, false}
 use mathlib.Core.Path.{_≡_, _∙_}
@@ -9,51 +10,38 @@ use Rattle.lists.proofs.Tests.{by}
 use Rattle.wire.specs.Read.{Read, good, below, misnamed, field}
 use Rattle.wire.proofs.Reading.{reading, found-good, handed, field-found}
 use Rattle.formula.specs.Answers.{judged}
-use Rattle.formula.specs.Format.{leftAt, rightAt, zeroAt, boundAt}
+use Rattle.formula.specs.Format.{leftAt, boundAt}
 use Rattle.formula.specs.Rows.{rowOf}
-use Rattle.formula.specs.Message.{illFormed, spare, operand, fieldsFrom}
+use Rattle.formula.specs.Message.{operand, fieldsFrom}
 use Rattle.formula.proofs.Using.{Uses, next-uses}
+use Rattle.formula.proofs.Spared.{namesFrom, fields-told}
 use Rattle.formula.proofs.read_next.Statement.{statement}
 use Rattle.formula.proofs.read_next.Tie as tie
 
--- the places: where the function starts, seen from its first field, and from each other field the one before it
+-- where the function starts, and which fields are used
 abbrev start : tie.After-unused → tie.Start
 start c = c .before .before
 
-abbrev second : tie.After-unused2 → tie.After-unused
-second c = c .before .before .before
-
-abbrev third : tie.After-named → tie.After-unused2
-third c = c .before .before .before
-
-abbrev fourth : tie.After-read → tie.After-named
-fourth c = c .before .before .before .before
-
--- which fields are used
 uses : (c : tie.After-unused) → Uses (start c .args .operator) true false true false
 uses c = next-uses _ (start c .pre .1) (start c .pre .2)
 
+-- where the fields that are not used are zero, the others are left
+names : (c : tie.After-enum-told) (p : ℕ) → let a = start (c .before .before) .args in
+    fieldsFrom (now (a .row)) 0 (a .offset) p (a .place) (a .operator) ≡ namesFrom (now (a .row)) (a .offset) p (a .place) (a .operator)
+names c p =
+    let r = c .before .before in
+    let a = start r .args in
+    fields-told (start r .pre .3) (uses r) (a .offset) p (a .place) ∙ simp (found-good _ (by (r .unused .ensures) (c .enum-told .given .1)), reading)
+
 -- the reading of each field, and that it is good
-abbrev right-read : tie.After-unused → Read ℕ
-right-read c = let a = start c .args in below 1 (now (a .row)) rightAt 1 (illFormed (a .offset + rightAt))
-
-right-zero : (c : tie.After-enum-told) → right-read (c .before .before) ≡ good (c .enum-told .given .0 .0)
-right-zero c = found-good (right-read (c .before .before)) (by (c .before .before .unused .ensures) (c .enum-told .given .1))
-
-abbrev zero-read : tie.After-unused2 → Read ℕ
-zero-read c = let a = start (second c) .args in below 1 (now (a .row)) zeroAt 1 (illFormed (a .offset + zeroAt))
-
-zero-zero : (c : tie.After-enum-told3) → zero-read (c .before .before) ≡ good (c .enum-told3 .given .0 .0)
-zero-zero c = found-good (zero-read (c .before .before)) (by (c .before .before .unused2 .ensures) (c .enum-told3 .given .1))
-
 abbrev left-read : tie.After-named → Read ℕ
-left-read c = let a = start (second (third c)) .args in below 1 (now (a .row)) leftAt (a .place) (misnamed (a .offset + leftAt))
+left-read c = let a = start (c .before .before .before) .args in below 1 (now (a .row)) leftAt (a .place) (misnamed (a .offset + leftAt))
 
 left-named : (c : tie.After-known-told) → left-read (c .before .before .before) ≡ good (c .before .first .given .0 .0)
 left-named c = found-good (left-read (c .before .before .before)) (by (c .before .before .before .named .ensures) (c .before .first .given .1))
 
 abbrev bound-read : tie.After-read → Read ℕ
-bound-read c = let a = start (second (third (fourth c))) .args in field 4 (now (a .row)) boundAt
+bound-read c = let a = start (c .before .before .before .before .before .before .before) .args in field 4 (now (a .row)) boundAt
 
 bound-there : (c : tie.After-known-told2) → bound-read (c .before .before .before) ≡ good (c .before .last .given .0 .0)
 bound-there c = found-good (bound-read (c .before .before .before)) (by (c .before .before .before .read .ensures ∙ field-found _) (c .before .last .given .1))
@@ -71,31 +59,11 @@ fault-requires : tie.Need-fault-requires
 fault-requires c κs = search needs
 
 returns : tie.Need-returns
-unfolding fieldsFrom spare operand judged
+unfolding judged
 returns c =
-    let r1 = c .before .before .before in
-    let u = uses r1 in
-    λ p. simp (c .fault .ensures, u .of-left, u .of-right, u .of-bound, u .names, reading, handed (right-read r1) (r1 .unused .ensures) (c .before .enum-told2 .given .1))
-
-unused-requires-2 : tie.Need-unused-requires-2
-unused-requires-2 c κs = search needs
-
-enum-told-3 : tie.Need-enum-told-3
-enum-told-3 c = search needs
-
-enum-told-4 : tie.Need-enum-told-4
-enum-told-4 c = search needs
-
-fault-requires-2 : tie.Need-fault-requires-2
-fault-requires-2 c κs = search needs
-
-returns-2 : tie.Need-returns-2
-unfolding fieldsFrom spare operand judged
-returns-2 c =
-    let r2 = c .before .before .before in
-    let r1 = second r2 in
-    let u = uses r1 in
-    λ p. simp (c .fault2 .ensures, u .of-left, u .of-right, u .of-bound, u .names, reading, right-zero (r2 .before), handed (zero-read r2) (r2 .unused2 .ensures) (c .before .enum-told4 .given .1))
+    let r = c .before .before .before in
+    let a = start r .args in
+    λ p. simp (c .fault .ensures, fields-told (start r .pre .3) (uses r) (a .offset) p (a .place), handed _ (r .unused .ensures) (c .before .enum-told2 .given .1), reading)
 
 named-requires : tie.Need-named-requires
 named-requires c κs = search needs
@@ -103,20 +71,19 @@ named-requires c κs = search needs
 enum-known-first : tie.Need-enum-known-first
 enum-known-first c = search needs
 
-enum-told-5 : tie.Need-enum-told-5
-enum-told-5 c = search needs
+enum-told-3 : tie.Need-enum-told-3
+enum-told-3 c = search needs
 
-fault-requires-3 : tie.Need-fault-requires-3
-fault-requires-3 c κs = search needs
+fault-requires-2 : tie.Need-fault-requires-2
+fault-requires-2 c κs = search needs
 
-returns-3 : tie.Need-returns-3
-unfolding fieldsFrom spare operand judged
-returns-3 c =
-    let r3 = c .before .before .before in
-    let r2 = third r3 in
-    let r1 = second r2 in
-    let u = uses r1 in
-    λ p. simp (c .fault3 .ensures, u .of-left, u .of-right, u .of-bound, u .names, reading, right-zero (r2 .before), zero-zero (r3 .before), handed (left-read r3) (r3 .named .ensures) (c .before .enum-told5 .given .1))
+returns-2 : tie.Need-returns-2
+unfolding namesFrom operand judged
+returns-2 c =
+    let r = c .before .before .before in
+    let k = r .before in
+    let u = uses (k .before .before) in
+    λ p. rw (names k p) (simp (c .fault2 .ensures, u .of-left, u .of-right, u .names, reading, handed (left-read r) (r .named .ensures) (c .before .enum-told3 .given .1)))
 
 read-requires : tie.Need-read-requires
 read-requires c κs = search needs
@@ -124,44 +91,40 @@ read-requires c κs = search needs
 enum-known-last : tie.Need-enum-known-last
 enum-known-last c = search needs
 
-enum-told-6 : tie.Need-enum-told-6
-enum-told-6 c = search needs
+enum-told-4 : tie.Need-enum-told-4
+enum-told-4 c = search needs
 
-fault-requires-4 : tie.Need-fault-requires-4
-fault-requires-4 c κs = search needs
+fault-requires-3 : tie.Need-fault-requires-3
+fault-requires-3 c κs = search needs
 
-returns-4 : tie.Need-returns-4
-unfolding fieldsFrom spare operand judged
-returns-4 c =
-    let r4 = c .before .before .before in
-    let r3 = fourth r4 in
-    let r2 = third r3 in
-    let r1 = second r2 in
-    let u = uses r1 in
-    λ p. simp (c .fault4 .ensures, u .of-left, u .of-right, u .of-bound, u .names, reading, right-zero (r2 .before), zero-zero (r3 .before), left-named (r4 .before), handed (bound-read r4) (r4 .read .ensures ∙ field-found _) (c .before .enum-told6 .given .1))
+returns-3 : tie.Need-returns-3
+unfolding namesFrom operand judged
+returns-3 c =
+    let r = c .before .before .before in
+    let k = r .before .before .before .before .before in
+    let u = uses (k .before .before) in
+    λ p. rw (names k p) (simp (c .fault3 .ensures, u .of-left, u .of-right, u .names, reading, left-named (r .before), handed (bound-read r) (r .read .ensures ∙ field-found _) (c .before .enum-told4 .given .1)))
 
 coded-requires : tie.Need-coded-requires
 coded-requires c κs = search needs
 
+returns-4 : tie.Need-returns-4
+unfolding namesFrom operand judged rowOf
+returns-4 c =
+    let e = c .before .before in
+    let r = e .before .before .before in
+    let k = r .before .before .before .before .before in
+    λ p. rw (names k p) (simp (c .if1 .taken, reading, left-named (r .before), bound-there e, c .before .coded .ensures))
+
 returns-5 : tie.Need-returns-5
-unfolding fieldsFrom spare operand judged rowOf
+unfolding namesFrom operand judged rowOf
 returns-5 c =
     let e = c .before .before in
-    let r4 = e .before .before .before in
-    let r3 = fourth r4 in
-    let r2 = third r3 in
-    λ p. simp (c .if1 .taken, reading, right-zero (r2 .before), zero-zero (r3 .before), left-named (r4 .before), bound-there e, c .before .coded .ensures)
-
-returns-6 : tie.Need-returns-6
-unfolding fieldsFrom spare operand judged rowOf
-returns-6 c =
-    let e = c .before .before in
-    let r4 = e .before .before .before in
-    let r3 = fourth r4 in
-    let r2 = third r3 in
-    let a = start (second r2) in
+    let r = e .before .before .before in
+    let k = r .before .before .before .before .before in
+    let a = start (k .before .before) in
     let is : a .args .operator ≡ 7 = omega (arith, a .pre .1, a .pre .2, c .if1 .left) in
-    λ p. simp (is, reading, right-zero (r2 .before), zero-zero (r3 .before), left-named (r4 .before), bound-there e, c .before .coded .ensures)
+    λ p. rw (names k p) (simp (is, reading, left-named (r .before), bound-there e, c .before .coded .ensures))
 
 pub read-next-spec : {M : Type 1} → statement M
 read-next-spec =
@@ -172,21 +135,16 @@ read-next-spec =
     enum-told-2
     fault-requires
     returns
-    unused-requires-2
-    enum-told-3
-    enum-told-4
-    fault-requires-2
-    returns-2
     named-requires
     enum-known-first
-    enum-told-5
-    fault-requires-3
-    returns-3
+    enum-told-3
+    fault-requires-2
+    returns-2
     read-requires
     enum-known-last
-    enum-told-6
-    fault-requires-4
-    returns-4
+    enum-told-4
+    fault-requires-3
+    returns-3
     coded-requires
-    returns-5
-    returns-6)
+    returns-4
+    returns-5)

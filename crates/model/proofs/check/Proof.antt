@@ -73,7 +73,7 @@ add-middle : tie.Need-add-middle
 add-middle c = search needs
 
 transitions-requires : tie.Need-transitions-requires
-transitions-requires c κs = let h = header-good _ _ (head-good (c .before .before .before)) in omega (arith, h .long)
+transitions-requires c κs = let h = header-good _ _ (head-good (c .before .before .before)) in (omega (arith, h .long), h .states-counted .no-less)
 
 enum-known-e-2 : tie.Need-enum-known-e-2
 enum-known-e-2 c = search needs
