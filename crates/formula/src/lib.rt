@@ -67,6 +67,24 @@ pub enum Quantifier {
     Every,
 }
 
+// Which transitions EX and AX look at: those of any action, or only those of one.
+pub enum Action {
+    Any,
+    Only(u32),
+}
+
+impl Action {
+    // Whether a transition of this action is looked at.
+    pub fn allows(self, action: u32) -> bool
+        ensures { λ r. ⌜ r ≡ rows.allows self action ⌝ }
+    {
+        match self {
+            Action::Any => true,
+            Action::Only(k) => action == k,
+        }
+    }
+}
+
 // A row: an operator, with propositions or earlier rows for its operands.
 pub enum Row {
     True,
@@ -75,7 +93,7 @@ pub enum Row {
     Negation(u32),
     And(u32, u32),
     Or(u32, u32),
-    Next(Quantifier, u32, Bound),
+    Next(Quantifier, Action, u32, Bound),
     Until(Quantifier, u32, u32, Bound),
 }
 
@@ -117,6 +135,7 @@ impl Checked {
 fn row_of(operator: u32, left: u32, right: u32, bound: u32) -> Row
     ensures { λ r. ⌜ r ≡ rows.rowOf operator left right bound ⌝ }
 {
+    let within = Bound::coded(bound);
     match operator {
         0 => Row::True,
         1 => Row::False,
@@ -124,10 +143,12 @@ fn row_of(operator: u32, left: u32, right: u32, bound: u32) -> Row
         3 => Row::Negation(left),
         4 => Row::And(left, right),
         5 => Row::Or(left, right),
-        6 => Row::Next(Quantifier::Some, left, Bound::coded(bound)),
-        7 => Row::Next(Quantifier::Every, left, Bound::coded(bound)),
-        8 => Row::Until(Quantifier::Some, left, right, Bound::coded(bound)),
-        _ => Row::Until(Quantifier::Every, left, right, Bound::coded(bound)),
+        6 => Row::Next(Quantifier::Some, Action::Any, left, within),
+        7 => Row::Next(Quantifier::Every, Action::Any, left, within),
+        8 => Row::Until(Quantifier::Some, left, right, within),
+        9 => Row::Until(Quantifier::Every, left, right, within),
+        10 => Row::Next(Quantifier::Some, Action::Only(right), left, within),
+        _ => Row::Next(Quantifier::Every, Action::Only(right), left, within),
     }
 }
 
@@ -238,7 +259,7 @@ fn read_pair(row: &[u8], offset: usize, operator: u32, place: u32) -> Judged
     Judged::Fine(Row::Or(left, right))
 }
 
-// EX and AX use left and the bound.
+// EX and AX of any action use left and the bound.
 fn read_next(row: &[u8], offset: usize, operator: u32, place: u32) -> Judged
     requires { ⌜ (offset + rowWidth < 2 ^ 64) × (6 ≤ operator) × (operator ≤ 7) ⌝ }
     ensures { λ r. ⌜ ((p : ℕ) → r ≡ answers.judged (m.fieldsFrom (now (row .entry)) 0 offset p place operator)) ⌝ }
@@ -261,14 +282,21 @@ fn read_next(row: &[u8], offset: usize, operator: u32, place: u32) -> Judged
     };
     let within = Bound::coded(bound);
     if operator == 6 {
-        return Judged::Fine(Row::Next(Quantifier::Some, left, within));
+        return Judged::Fine(Row::Next(Quantifier::Some, Action::Any, left, within));
     }
-    Judged::Fine(Row::Next(Quantifier::Every, left, within))
+    Judged::Fine(Row::Next(Quantifier::Every, Action::Any, left, within))
 }
 
-// The untils use left, right and the bound.
-fn read_until(row: &[u8], offset: usize, operator: u32, place: u32) -> Judged
-    requires { ⌜ (offset + rowWidth < 2 ^ 64) × (8 ≤ operator) × (operator ≤ 9) ⌝ }
+// What right names is below this: a row before this one, or, for EX and AX of an action, any action of a byte.
+fn right_limit(place: u32, operator: u32) -> u32
+    ensures { λ r. ⌜ r ≡ rows.rightLimit place operator ⌝ }
+{
+    if operator < 10 { place } else { 256 }
+}
+
+// The untils, and EX and AX of an action, use left, right and the bound.
+fn read_full(row: &[u8], offset: usize, operator: u32, place: u32) -> Judged
+    requires { ⌜ (offset + rowWidth < 2 ^ 64) × (8 ≤ operator) × (operator ≤ 11) ⌝ }
     ensures { λ r. ⌜ ((p : ℕ) → r ≡ answers.judged (m.fieldsFrom (now (row .entry)) 0 offset p place operator)) ⌝ }
 {
     let zero = unused(row, offset, ZERO_AT, Width::One);
@@ -279,7 +307,7 @@ fn read_until(row: &[u8], offset: usize, operator: u32, place: u32) -> Judged
     let Field::Number(left) = first else {
         return Judged::Refused(first.fault());
     };
-    let second = named(row, offset, RIGHT_AT, place);
+    let second = named(row, offset, RIGHT_AT, right_limit(place, operator));
     let Field::Number(right) = second else {
         return Judged::Refused(second.fault());
     };
@@ -287,11 +315,7 @@ fn read_until(row: &[u8], offset: usize, operator: u32, place: u32) -> Judged
     let Field::Number(bound) = last else {
         return Judged::Refused(last.fault());
     };
-    let within = Bound::coded(bound);
-    if operator == 8 {
-        return Judged::Fine(Row::Until(Quantifier::Some, left, right, within));
-    }
-    Judged::Fine(Row::Until(Quantifier::Every, left, right, within))
+    Judged::Fine(row_of(operator, left, right, bound))
 }
 
 // A row that stands here in its message, by the kind of its operator.
@@ -315,8 +339,8 @@ fn read_row(row: &[u8], offset: usize, p: u32, place: u32) -> Judged
     if operator < 8 {
         return read_next(row, offset, operator, place);
     }
-    if operator < 10 {
-        return read_until(row, offset, operator, place);
+    if operator < 12 {
+        return read_full(row, offset, operator, place);
     }
     Judged::Refused(Fault {
         refusal: Refusal::Form,
@@ -369,7 +393,7 @@ fn count_row(counts: &mut [u8], row: Row)
 {
     match row {
         Row::True | Row::False | Row::Proposition(_) | Row::Negation(_) => {}
-        Row::Next(_, l, _) => count_use(counts, l),
+        Row::Next(_, _, l, _) => count_use(counts, l),
         Row::And(l, r) | Row::Or(l, r) | Row::Until(_, l, r, _) => {
             count_use(counts, l);
             count_use(counts, r);

@@ -3,8 +3,10 @@ use Prim.Native.Nat.{ℕ, _+_}
 use mathlib.Core.Bool.{true, false}
 use mathlib.Core.Path.{_≡_}
 use native.Mathlib.Omega.{arith}
+use lib.Dec.{ltb}
 use denote.Ref.{now}
 use borrow.Author.Needs.{needs}
+use borrow.Author.Tests.{lt-ltb}
 use Rattle.lists.proofs.Tests.{by}
 use Rattle.wire.specs.Read.{Read, good, below, misnamed}
 use Rattle.wire.proofs.Reading.{reading, found-good, below-good, handed}
@@ -32,6 +34,10 @@ fourth c = c .before .before .before .before
 -- which fields are used
 uses : (c : tie.After-unused) → Uses (start c .args .operator) true true false false
 uses c = pair-uses _ (start c .pre .1) (start c .pre .2)
+
+-- and right is an operand
+right-row : (c : tie.After-unused) → ltb (start c .args .operator) 10 ≡ true
+right-row c = let few = start c .pre .2 in lt-ltb (start c .args .operator) 10 (omega arith)
 
 -- the reading of each field, and that it is good
 abbrev zero-read : tie.After-unused → Read ℕ
@@ -138,7 +144,7 @@ returns-4 c =
     let r2 = third r3 in
     let r1 = second r2 in
     let u = uses r1 in
-    λ p. simp (c .fault4 .ensures, u .of-left, u .of-right, u .of-bound, u .names, reading, zero-zero (r2 .before), bound-zero (r3 .before), left-named (r4 .before), handed (right-read r4) (r4 .named2 .ensures) (c .before .enum-told6 .given .1))
+    λ p. simp (c .fault4 .ensures, u .of-left, u .of-right, u .of-bound, u .names, right-row r1, reading, zero-zero (r2 .before), bound-zero (r3 .before), left-named (r4 .before), handed (right-read r4) (r4 .named2 .ensures) (c .before .enum-told6 .given .1))
 
 returns-5 : tie.Need-returns-5
 unfolding fieldsFrom spare operand judged rowOf

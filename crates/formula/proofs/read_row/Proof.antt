@@ -1,4 +1,4 @@
--- `formula::read_row` meets its contract: the fields of each kind of operator, and above 9 there is no operator.
+-- `formula::read_row` meets its contract: the fields of each kind of operator, and above 11 there is no operator.
 use Prim.Native.Nat.{_≤_}
 use mathlib.Core.Path.{_≡_, sym, ap, _∙_}
 use native.Mathlib.Omega.{arith}
@@ -23,7 +23,7 @@ operator-there : (c : tie.After-known-told) → fieldAt 1 (now (start c .args .r
 operator-there c = by (c .before .before .before .read .ensures) (c .before .field .given .1)
 
 -- a known operator's row is its fields
-known : (c : tie.After-known-told) → let o = c .before .field .given .0 .0 in o ≤ 9 → let a = start c .args in
+known : (c : tie.After-known-told) → let o = c .before .field .given .0 .0 in o ≤ 11 → let a = start c .args in
     judged (fieldsFrom (now (a .row)) 0 (a .offset) (a .p) (a .place) o) ≡ judged (rowFrom (now (a .row)) 0 (a .offset) (a .p) (a .place))
 known c h = ap judged (sym (row-known _ 0 _ _ _ (operator-there c) h))
 
@@ -67,15 +67,15 @@ read-next-requires c κs = search needs
 returns-5 : tie.Need-returns-5
 returns-5 c = c .read-next .ensures _ ∙ known (c .before .before .before .before) (omega arith)
 
-read-until-requires : tie.Need-read-until-requires
-read-until-requires c κs = search needs
+read-full-requires : tie.Need-read-full-requires
+read-full-requires c κs = search needs
 
 returns-6 : tie.Need-returns-6
-returns-6 c = c .read-until .ensures _ ∙ known (c .before .before .before .before .before) (omega arith)
+returns-6 c = c .read-full .ensures _ ∙ known (c .before .before .before .before .before) (omega arith)
 
 returns-7 : tie.Need-returns-7
 unfolding rowFrom judged
-returns-7 c = simp (reading, operator-there (c .before .before .before .before), lt-leb _ 9 (c .if5 .left))
+returns-7 c = simp (reading, operator-there (c .before .before .before .before), lt-leb _ 11 (c .if5 .left))
 
 pub read-row-spec : {M : Type 1} → statement M
 read-row-spec =
@@ -94,6 +94,6 @@ read-row-spec =
     returns-4
     read-next-requires
     returns-5
-    read-until-requires
+    read-full-requires
     returns-6
     returns-7)

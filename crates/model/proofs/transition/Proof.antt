@@ -12,7 +12,7 @@ use Rattle.wire.specs.Read.{good, found, named, source}
 use Rattle.wire.specs.Step.{step}
 use Rattle.wire.proofs.Fields.{field-value}
 use Rattle.wire.proofs.Reading.{reading, found-good, handed, cut-source, cut-below}
-use Rattle.model.specs.Format.{weightAt, toAt, transitionWidth}
+use Rattle.model.specs.Format.{weightAt, actionAt, toAt, transitionWidth}
 use Rattle.model.specs.Message.{readTransition}
 use Rattle.model.proofs.transition.Statement.{statement}
 use Rattle.model.proofs.transition.Tie as tie
@@ -21,7 +21,7 @@ use Rattle.model.proofs.transition.Tie as tie
 abbrev start : tie.After-known-told → tie.Start
 start c = c .before .before .before .before .before .before
 
--- `from` and `to` are read from the transition's part as from the message, and the weight is there
+-- `from` and `to` are read from the transition's part as from the message, and the weight and the action are there
 from-read : (c : tie.After-read-source) → let a = c .before .before .before .args in c .read-source .result ≡ found (source (now (a .s)) (a .st .at) (a .n) (a .st .prev))
 from-read c =
     let a = c .before .before .before .args in
@@ -33,6 +33,10 @@ from-is c = found-good _ (by (from-read (c .before .before .before)) (c .before 
 weight-there : (c : tie.After-known-told)
     → let a = start c .args in fieldAt 4 (now (a .s)) (a .st .at + weightAt) ≡ Number (number 4 (now (a .s)) (a .st .at + weightAt))
 weight-there c = field-value 4 _ _ (omega arith)
+
+action-there : (c : tie.After-known-told)
+    → let a = start c .args in fieldAt 2 (now (a .s)) (a .st .at + actionAt) ≡ Number (number 2 (now (a .s)) (a .st .at + actionAt))
+action-there c = field-value 2 _ _ (omega arith)
 
 to-read : (c : tie.After-read-below) → let a = start (c .before .before) .args in c .read-below .result ≡ found (named 2 (now (a .s)) (a .st .at + toAt) (a .n))
 to-read c =
@@ -98,14 +102,14 @@ unfolding readTransition step
 returns-2 c =
     let r = c .before .before .before in
     let k = r .before .before in
-    simp (c .fault2 .ensures, reading, from-is k, weight-there k, handed _ (to-read r) (c .before .enum-told3 .given .1))
+    simp (c .fault2 .ensures, reading, from-is k, weight-there k, action-there k, handed _ (to-read r) (c .before .enum-told3 .given .1))
 
 returns-3 : tie.Need-returns-3
 unfolding readTransition step
 returns-3 c =
     let r = c .before .before in
     let k = r .before .before in
-    simp (reading, from-is k, weight-there k, found-good _ (by (to-read r) (c .enum-told2 .given .1)))
+    simp (reading, from-is k, weight-there k, action-there k, found-good _ (by (to-read r) (c .enum-told2 .given .1)))
 
 pub transition-spec : {M : Type 1} → statement M
 transition-spec =

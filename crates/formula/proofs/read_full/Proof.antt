@@ -1,20 +1,20 @@
--- `formula::read_until` meets its contract: each `return` is the reading of the fields under those that were read before.
+-- `formula::read_full` meets its contract: each `return` is the reading of the fields under those that were read before.
 use Prim.Native.Nat.{ℕ, _+_}
 use mathlib.Core.Bool.{true, false}
-use mathlib.Core.Path.{_≡_, _∙_}
+use mathlib.Core.Path.{_≡_, ap, _∙_}
 use native.Mathlib.Omega.{arith}
 use denote.Ref.{now}
 use borrow.Author.Needs.{needs}
 use Rattle.lists.proofs.Tests.{by}
-use Rattle.wire.specs.Read.{Read, good, below, misnamed, field}
+use Rattle.wire.specs.Read.{Read, good, found, below, misnamed, field}
 use Rattle.wire.proofs.Reading.{reading, found-good, handed, field-found}
 use Rattle.formula.specs.Answers.{judged}
 use Rattle.formula.specs.Format.{leftAt, rightAt, zeroAt, boundAt}
-use Rattle.formula.specs.Rows.{rowOf}
+use Rattle.formula.specs.Rows.{rightLimit}
 use Rattle.formula.specs.Message.{illFormed, spare, operand, fieldsFrom}
-use Rattle.formula.proofs.Using.{Uses, until-uses}
-use Rattle.formula.proofs.read_until.Statement.{statement}
-use Rattle.formula.proofs.read_until.Tie as tie
+use Rattle.formula.proofs.Using.{Uses, full-uses}
+use Rattle.formula.proofs.read_full.Statement.{statement}
+use Rattle.formula.proofs.read_full.Tie as tie
 
 -- the places: where the function starts, seen from its first field, and from each other field the one before it
 abbrev start : tie.After-unused → tie.Start
@@ -24,14 +24,14 @@ abbrev second : tie.After-named → tie.After-unused
 second c = c .before .before .before
 
 abbrev third : tie.After-named2 → tie.After-named
-third c = c .before .before .before .before
+third c = c .before .before .before .before .before
 
 abbrev fourth : tie.After-read → tie.After-named2
 fourth c = c .before .before .before .before
 
 -- which fields are used
 uses : (c : tie.After-unused) → Uses (start c .args .operator) true true true false
-uses c = until-uses _ (start c .pre .1)
+uses c = full-uses _ (start c .pre .1)
 
 -- the reading of each field, and that it is good
 abbrev zero-read : tie.After-unused → Read ℕ
@@ -47,10 +47,15 @@ left-named : (c : tie.After-known-told) → left-read (c .before .before .before
 left-named c = found-good (left-read (c .before .before .before)) (by (c .before .before .before .named .ensures) (c .before .first .given .1))
 
 abbrev right-read : tie.After-named2 → Read ℕ
-right-read c = let a = start (second (third c)) .args in below 1 (now (a .row)) rightAt (a .place) (misnamed (a .offset + rightAt))
+right-read c = let a = start (second (third c)) .args in below 1 (now (a .row)) rightAt (rightLimit (a .place) (a .operator)) (misnamed (a .offset + rightAt))
+
+right-found : (c : tie.After-named2) → c .named2 .result ≡ found (right-read c)
+right-found c =
+    let a = start (second (third c)) .args in
+    c .named2 .ensures ∙ ap (λ (limit : ℕ). found (below 1 (now (a .row)) rightAt limit (misnamed (a .offset + rightAt)))) (c .before .right-limit .ensures)
 
 right-named : (c : tie.After-known-told2) → right-read (c .before .before .before) ≡ good (c .before .second .given .0 .0)
-right-named c = found-good (right-read (c .before .before .before)) (by (c .before .before .before .named2 .ensures) (c .before .second .given .1))
+right-named c = found-good (right-read (c .before .before .before)) (by (right-found (c .before .before .before)) (c .before .second .given .1))
 
 abbrev bound-read : tie.After-read → Read ℕ
 bound-read c = let a = start (second (third (fourth c))) .args in field 4 (now (a .row)) boundAt
@@ -116,7 +121,7 @@ returns-3 c =
     let r2 = third r3 in
     let r1 = second r2 in
     let u = uses r1 in
-    λ p. simp (c .fault3 .ensures, u .of-left, u .of-right, u .of-bound, u .names, reading, zero-zero (r2 .before), left-named (r3 .before), handed (right-read r3) (r3 .named2 .ensures) (c .before .enum-told4 .given .1))
+    λ p. simp (c .fault3 .ensures, u .of-left, u .of-right, u .of-bound, u .names, reading, zero-zero (r2 .before), left-named (r3 .before .before), handed (right-read r3) (right-found r3) (c .before .enum-told4 .given .1))
 
 read-requires : tie.Need-read-requires
 read-requires c κs = search needs
@@ -138,33 +143,27 @@ returns-4 c =
     let r2 = third r3 in
     let r1 = second r2 in
     let u = uses r1 in
-    λ p. simp (c .fault4 .ensures, u .of-left, u .of-right, u .of-bound, u .names, reading, zero-zero (r2 .before), left-named (r3 .before), right-named (r4 .before), handed (bound-read r4) (r4 .read .ensures ∙ field-found _) (c .before .enum-told5 .given .1))
+    λ p. simp (c .fault4 .ensures, u .of-left, u .of-right, u .of-bound, u .names, reading, zero-zero (r2 .before), left-named (r3 .before .before), right-named (r4 .before), handed (bound-read r4) (r4 .read .ensures ∙ field-found _) (c .before .enum-told5 .given .1))
 
-coded-requires : tie.Need-coded-requires
-coded-requires c κs = search needs
+right-limit-requires : tie.Need-right-limit-requires
+right-limit-requires c κs = search needs
+
+row-of-requires : tie.Need-row-of-requires
+row-of-requires c κs = search needs
 
 returns-5 : tie.Need-returns-5
-unfolding fieldsFrom spare operand judged rowOf
+unfolding fieldsFrom spare operand judged
 returns-5 c =
-    let e = c .before .before in
+    let e = c .before in
     let r4 = e .before .before .before in
     let r3 = fourth r4 in
     let r2 = third r3 in
-    λ p. simp (c .if1 .taken, reading, zero-zero (r2 .before), left-named (r3 .before), right-named (r4 .before), bound-there e, c .before .coded .ensures)
+    let r1 = second r2 in
+    let u = uses r1 in
+    λ p. simp (u .of-left, u .of-right, u .of-bound, u .names, reading, zero-zero (r2 .before), left-named (r3 .before .before), right-named (r4 .before), bound-there e, c .row-of .ensures)
 
-returns-6 : tie.Need-returns-6
-unfolding fieldsFrom spare operand judged rowOf
-returns-6 c =
-    let e = c .before .before in
-    let r4 = e .before .before .before in
-    let r3 = fourth r4 in
-    let r2 = third r3 in
-    let a = start (second r2) in
-    let is : a .args .operator ≡ 9 = omega (arith, a .pre .1, a .pre .2, c .if1 .left) in
-    λ p. simp (is, reading, zero-zero (r2 .before), left-named (r3 .before), right-named (r4 .before), bound-there e, c .before .coded .ensures)
-
-pub read-until-spec : {M : Type 1} → statement M
-read-until-spec =
+pub read-full-spec : {M : Type 1} → statement M
+read-full-spec =
     tie.close
     (tie.spec
     unused-requires
@@ -177,6 +176,7 @@ read-until-spec =
     enum-told-3
     fault-requires-2
     returns-2
+    right-limit-requires
     named-requires-2
     enum-known-second
     enum-told-4
@@ -187,6 +187,5 @@ read-until-spec =
     enum-told-5
     fault-requires-4
     returns-4
-    coded-requires
-    returns-5
-    returns-6)
+    row-of-requires
+    returns-5)
