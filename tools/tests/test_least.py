@@ -62,8 +62,8 @@ class Searching(Case):
     def test_a_root_until_against_runs(self):
         numbers = nothing = 0
         for question in random_searches(11, 400, root_until=True):
-            leads, labels, formula = leads_of(question.model), question.model.labels, question.formula
-            left, right = (satisfying(leads, labels, operand) for operand in formula.operands)
+            leads, formula = leads_of(question.model), question.formula
+            left, right = (satisfying(question.model, operand) for operand in formula.operands)
             search = self.search(question)
             for state in leads:
                 expected = until(formula)(leads, left, right, state)
@@ -74,9 +74,9 @@ class Searching(Case):
     def test_any_place_against_runs(self):
         found = {"least": 0, "greatest": 0, "none": 0}
         for question in random_searches(12, 250):
-            leads, labels = leads_of(question.model), question.model.labels
-            holds = [satisfying(leads, labels, question.formula.at(bound)) for bound in range(MOST)]
-            ever = satisfying(leads, labels, question.formula.at(None))
+            leads = leads_of(question.model)
+            holds = [satisfying(question.model, question.formula.at(bound)) for bound in range(MOST)]
+            ever = satisfying(question.model, question.formula.at(None))
             search = self.search(question)
             for state in leads:
                 fitting = [bound for bound in range(MOST) if state in holds[bound]]
