@@ -184,25 +184,31 @@ pub fn read_below(s: &[u8], at: usize, width: Width, limit: u64, fault: Fault) -
     field
 }
 
-// A source, one of n nodes or states and not below the one before it, that stands here in its message.
+// A source, one of n nodes or states and not below the one before it, that stands here in its message. How far it is above the one
+// before it, which is at most n, tells both in one test.
 pub fn read_source(s: &[u8], at: usize, n: u32, prev: u32, offset: usize) -> Field
+    requires { ⌜ prev ≤ n ⌝ }
     ensures { λ r. ⌜ r ≡ found (sourceFrom (now (s .entry)) at n prev offset) ⌝ }
 {
-    let name = Fault {
-        refusal: Refusal::Name,
-        offset,
-    };
-    let field = read_below(s, at, Width::Two, n as u64, name);
+    let field = read(s, at, Width::Two);
     let Field::Number(source) = field else {
         return field;
     };
-    if source < prev {
+    let above = std::num::wrapping_sub_u32(source, prev);
+    let room = n - prev;
+    if above < room {
+        return field;
+    }
+    if n <= source {
         return Field::Refused(Fault {
-            refusal: Refusal::Order,
+            refusal: Refusal::Name,
             offset,
         });
     }
-    field
+    Field::Refused(Fault {
+        refusal: Refusal::Order,
+        offset,
+    })
 }
 
 // The start of a message: enough bytes for its header, its length field, version and kind.
