@@ -1,5 +1,5 @@
-/* The builder of the graph of a model and a formula, and the verdict. OPEN makes a model ready to be read; LABEL, FROM, WEIGHT and
- * TO read it: from its bytes in (b), from arrays in (d). Nothing is checked. */
+/* The builder of the graph of a model and a formula, and the verdict. OPEN makes a model ready to be read; LABEL, FROM, WEIGHT, ACTION
+ * and TO read it: from its bytes in (b), from arrays in (d). Nothing is checked. */
 
 static inline void put_two(u8 *p, u32 v)
 {
@@ -31,7 +31,7 @@ u64 PASTE(P, build)(const u8 *model, u64 model_length, const u8 *formula, u64 fo
     for (u32 r = 0; r < f; r++) {
         const u8 *row = formula + 7 + 8 * r;
         u32 op = row[0], left = row[1], right = row[2], bound = four(row + 4);
-        u += op >= 8;
+        u += op == 8 || op == 9;
         for (u32 a = 0; a < s; a++) {
             u32 node = a + s * r;
             switch (op) {
@@ -75,13 +75,32 @@ u64 PASTE(P, build)(const u8 *model, u64 model_length, const u8 *formula, u64 fo
                 put_two(head, node), put_two(head + 2, k), h++;
                 break;
             }
+            case 10:
+                for (t = first[a]; t < first[a + 1]; t++)
+                    if (WEIGHT(t) <= bound && ACTION(t) == right) {
+                        put_two(out, node), put_two(out + 2, 1), put_four(out + 4, 0), put_two(out + 8, TO(t) + s * left);
+                        out += 10, h++;
+                    }
+                break;
+            case 11: {
+                u8 *head = out;
+                u32 k = 0;
+                out += 4;
+                for (t = first[a]; t < first[a + 1]; t++)
+                    if (WEIGHT(t) <= bound && ACTION(t) == right) {
+                        put_four(out, 0), put_two(out + 4, TO(t) + s * left);
+                        out += 6, k++;
+                    }
+                put_two(head, node), put_two(head + 2, k), h++;
+                break;
+            }
             }
         }
     }
     for (u32 r = 0, j = 0; r < f; r++) {
         const u8 *row = formula + 7 + 8 * r;
         u32 op = row[0], left = row[1], right = row[2];
-        if (op < 8)
+        if (op != 8 && op != 9)
             continue;
         u32 helper = s * (f + j++);
         for (u32 a = 0; a < s; a++) {
@@ -106,7 +125,7 @@ u64 PASTE(P, build)(const u8 *model, u64 model_length, const u8 *formula, u64 fo
     }
     for (u32 r = 0, j = 0; r < f; r++) {
         const u8 *row = formula + 7 + 8 * r;
-        if (row[0] < 8)
+        if (row[0] != 8 && row[0] != 9)
             continue;
         u32 helper = s * (f + j++);
         for (u32 a = 0; a < s; a++, out += 8)

@@ -45,7 +45,7 @@ static u32 decode(const u8 *s, u64 length, u32 n, u32 h, u32 c)
 /* On messages with a fault the first one is not always what this finds: the measured messages have none. */
 u32 PASTE(P, graph_check)(const u8 *s, u64 length)
 {
-    u32 e = started(s, length, 14, 1);
+    u32 e = started(s, length, 14, 1, 1);
     if (e)
         return e;
     u32 n = two(s + 6), h = four(s + 8), c = two(s + 12);
@@ -110,7 +110,7 @@ u32 PASTE(P, rounds)(const u8 *s, u64 length, u32 budget, u64 *room, u32 *count)
 }
 
 static u32 label[256];
-static u16 from[65536], to[65536];
+static u16 from[65536], action[65536], to[65536];
 static u32 step[65536];
 
 static void decode_model(const u8 *s, u32 n, u32 t)
@@ -118,22 +118,23 @@ static void decode_model(const u8 *s, u32 n, u32 t)
     for (u32 i = 0; i < n; i++)
         label[i] = four(s + 13 + 4 * i);
     const u8 *p = s + 13 + 4 * n;
-    for (u32 i = 0; i < t; i++, p += 8) {
+    for (u32 i = 0; i < t; i++, p += 10) {
         from[i] = (u16)two(p);
         step[i] = four(p + 2);
-        to[i] = (u16)two(p + 6);
+        action[i] = (u16)two(p + 6);
+        to[i] = (u16)two(p + 8);
     }
 }
 
 u32 PASTE(P, model_check)(const u8 *s, u64 length)
 {
-    u32 e = started(s, length, 13, 2);
+    u32 e = started(s, length, 13, 2, 2);
     if (e)
         return e;
     u32 n = two(s + 6), props = s[8], t = four(s + 9);
     if (n < 1 || n > 256 || props > 32 || t > 65535)
         return 4;
-    if (length != 13 + 4 * (u64)n + 8 * (u64)t)
+    if (length != 13 + 4 * (u64)n + 10 * (u64)t)
         return 2;
     decode_model(s, n, t);
     u64 limit = (u64)1 << props;
@@ -161,7 +162,7 @@ u32 PASTE(P, formula_check)(const u8 *s, u64 length, u32 propositions)
     } row[64];
     if (propositions > 32)
         return 4;
-    u32 e = started(s, length, 7, 3);
+    u32 e = started(s, length, 7, 1, 3);
     if (e)
         return e;
     u32 f = s[6];
@@ -176,7 +177,7 @@ u32 PASTE(P, formula_check)(const u8 *s, u64 length, u32 propositions)
     u8 uses[64] = {0};
     for (u32 i = 0; i < f; i++) {
         u32 op = row[i].operator, left = row[i].left, right = row[i].right;
-        if (op > 9 || row[i].zero)
+        if (op > 11 || row[i].zero)
             return 10;
         if ((op < 2 && left) || ((op < 4 || op == 6 || op == 7) && right) || (op < 6 && row[i].bound))
             return 10;
@@ -187,7 +188,7 @@ u32 PASTE(P, formula_check)(const u8 *s, u64 length, u32 propositions)
             if (left >= i)
                 return 6;
             uses[left]++;
-            if (op != 6 && op != 7) {
+            if (op != 6 && op != 7 && op < 10) {
                 if (right >= i)
                     return 6;
                 uses[right]++;
@@ -204,5 +205,6 @@ u32 PASTE(P, formula_check)(const u8 *s, u64 length, u32 propositions)
 #define LABEL(a) label[a]
 #define FROM(t) from[t]
 #define WEIGHT(t) step[t]
+#define ACTION(t) action[t]
 #define TO(t) to[t]
 #include "builder.h"

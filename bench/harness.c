@@ -134,7 +134,7 @@ static void model(struct input *in, uint32_t s, uint32_t t)
     for (uint32_t i = 0; i < s; i++)
         put(draw(1u << 24) * 256 + draw(256), 4);
     for (uint32_t i = 0; i < t; i++)
-        put((uint32_t)((uint64_t)i * s / t), 2), put(draw(100), 4), put(draw(s), 2);
+        put((uint32_t)((uint64_t)i * s / t), 2), put(draw(100), 4), put(i % 4, 2), put(draw(s), 2);
     in->length = finish(in->message);
 }
 
@@ -151,9 +151,9 @@ static void formulas(struct input *in, uint32_t f)
     rows = 0;
     row(2, 0, 0, 0);
     while (rows + 2 <= f) {
-        uint32_t operator = 4 + rows % 6, left = rows - 1;
-        if (operator == 6 || operator == 7) {
-            row(operator, left, 0, rows);
+        uint32_t operator = 4 + rows % 8, left = rows - 1;
+        if (operator == 6 || operator == 7 || operator >= 10) {
+            row(operator, left, operator < 10 ? 0 : 100 + rows, rows);
             continue;
         }
         row(2 + rows % 2, rows % 32, 0, 0);
@@ -176,6 +176,16 @@ static void question(struct input *in, uint32_t t)
     in->budget = 1u << 20;
     in->propositions = 32;
     in->state = 7;
+}
+
+/* The same with AX and EX of actions, each of which a fourth of the transitions has: A[AX#1<=50 p0 U<=500 EX#2 A[p1 U p2]]. */
+static void question_of_actions(struct input *in, uint32_t t)
+{
+    question(in, t);
+    start(in->formula, 3);
+    put(7, 1);
+    row(2, 0, 0, 0), row(11, 0, 1, 50), row(2, 1, 0, 0), row(2, 2, 0, 0), row(9, 2, 3, UINT32_MAX), row(10, 4, 2, UINT32_MAX), row(9, 1, 5, 500);
+    in->formula_length = finish(in->formula);
 }
 
 /* Examples like those of the paper's source, cut after so many states, and its formulas. */
@@ -351,6 +361,7 @@ static const struct workload {
     {"check of a formula", "rows", 64, formulas, run_formula, 1},
     {"the graph of a model", "transitions", 65535, question, run_build, 0},
     {"the graph of a model, messages checked", "transitions", 65535, question, run_checked_build, 0},
+    {"the graph of a model, of actions", "transitions", 65535, question_of_actions, run_build, 0},
     {"verdict: a large model", "transitions", 65535, question, run_verdict, 0},
     {"verdict: leader election", "states", 256, one_leader, run_verdict, 0},
     {"verdict: two leaders", "states", 256, two_leaders, run_verdict, 0},

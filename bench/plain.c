@@ -6,7 +6,7 @@ DECLARE(P)
 
 u32 PASTE(P, graph_check)(const u8 *s, u64 length)
 {
-    u32 e = started(s, length, 14, 1);
+    u32 e = started(s, length, 14, 1, 1);
     if (e)
         return e;
     u32 n = two(s + 6), h = four(s + 8), c = two(s + 12);
@@ -51,13 +51,13 @@ u32 PASTE(P, graph_check)(const u8 *s, u64 length)
 
 u32 PASTE(P, model_check)(const u8 *s, u64 length)
 {
-    u32 e = started(s, length, 13, 2);
+    u32 e = started(s, length, 13, 2, 2);
     if (e)
         return e;
     u32 n = two(s + 6), props = s[8], t = four(s + 9);
     if (n < 1 || n > 256 || props > 32 || t > 65535)
         return 4;
-    if (length != 13 + 4 * (u64)n + 8 * (u64)t)
+    if (length != 13 + 4 * (u64)n + 10 * (u64)t)
         return 2;
     const u8 *p = s + 13;
     u64 limit = (u64)1 << props;
@@ -65,13 +65,13 @@ u32 PASTE(P, model_check)(const u8 *s, u64 length)
         if (four(p) >= limit)
             return 10;
     u32 before = 0;
-    for (const u8 *end = s + length; p < end; p += 8) {
+    for (const u8 *end = s + length; p < end; p += 10) {
         u32 from = two(p);
         if (from >= n)
             return 6;
         if (from < before)
             return 5;
-        if (two(p + 6) >= n)
+        if (two(p + 8) >= n)
             return 6;
         before = from;
     }
@@ -82,7 +82,7 @@ u32 PASTE(P, formula_check)(const u8 *s, u64 length, u32 propositions)
 {
     if (propositions > 32)
         return 4;
-    u32 e = started(s, length, 7, 3);
+    u32 e = started(s, length, 7, 1, 3);
     if (e)
         return e;
     u32 f = s[6];
@@ -94,7 +94,7 @@ u32 PASTE(P, formula_check)(const u8 *s, u64 length, u32 propositions)
     const u8 *p = s + 7;
     for (u32 i = 0; i < f; i++, p += 8) {
         u32 left = p[1], right = p[2], bound = four(p + 4);
-        if (p[0] > 9 || p[3] != 0)
+        if (p[0] > 11 || p[3] != 0)
             return 10;
         switch (p[0]) {
         case 0:
@@ -121,6 +121,9 @@ u32 PASTE(P, formula_check)(const u8 *s, u64 length, u32 propositions)
         case 7:
             if (right)
                 return 10;
+            /* fallthrough */
+        case 10:
+        case 11: /* right is an action */
             if (left >= i)
                 return 6;
             uses[left]++;
@@ -184,7 +187,8 @@ u32 PASTE(P, rounds)(const u8 *s, u64 length, u32 budget, u64 *room, u32 *count)
 
 #define OPEN(model, s, steps) const u8 *labels = (model) + 13, *transitions = labels + 4 * (s)
 #define LABEL(a) four(labels + 4 * (a))
-#define FROM(t) two(transitions + 8 * (t))
-#define WEIGHT(t) four(transitions + 8 * (t) + 2)
-#define TO(t) two(transitions + 8 * (t) + 6)
+#define FROM(t) two(transitions + 10 * (t))
+#define WEIGHT(t) four(transitions + 10 * (t) + 2)
+#define ACTION(t) two(transitions + 10 * (t) + 6)
+#define TO(t) two(transitions + 10 * (t) + 8)
 #include "builder.h"

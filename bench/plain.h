@@ -36,11 +36,11 @@ static inline u64 plus(u64 value, u32 weight)
 }
 
 /* The start of a message: enough bytes for its header, its length field, version and kind. */
-static inline u32 started(const u8 *s, u64 length, u64 header, u8 kind)
+static inline u32 started(const u8 *s, u64 length, u64 header, u8 version, u8 kind)
 {
     if (length < header || four(s) != length)
         return 2;
-    if (s[4] != 1 || s[5] != kind)
+    if (s[4] != version || s[5] != kind)
         return 3;
     return 0;
 }

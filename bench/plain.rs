@@ -42,10 +42,10 @@ fn number4(s: &[u8]) -> u32 {
 }
 
 /// The number of the first fault of a message's start, or 0.
-fn start(s: &[u8], header: usize, kind: u8) -> u32 {
+fn start(s: &[u8], header: usize, version: u8, kind: u8) -> u32 {
     if s.len() < header || number4(s) as usize != s.len() {
         2
-    } else if s[4] != 1 || s[5] != kind {
+    } else if s[4] != version || s[5] != kind {
         3
     } else {
         0
@@ -53,7 +53,7 @@ fn start(s: &[u8], header: usize, kind: u8) -> u32 {
 }
 
 fn graph_check(s: &[u8]) -> u32 {
-    let fault = start(s, 14, 1);
+    let fault = start(s, 14, 1, 1);
     if fault != 0 {
         return fault;
     }
@@ -118,7 +118,7 @@ fn graph_check(s: &[u8]) -> u32 {
 }
 
 fn model_check(s: &[u8]) -> u32 {
-    let fault = start(s, 13, 2);
+    let fault = start(s, 13, 2, 2);
     if fault != 0 {
         return fault;
     }
@@ -127,7 +127,7 @@ fn model_check(s: &[u8]) -> u32 {
         return 4;
     }
     let middle = 13 + 4 * n as usize;
-    if s.len() != middle + 8 * t as usize {
+    if s.len() != middle + 10 * t as usize {
         return 2;
     }
     let limit = 1u64 << propositions;
@@ -137,8 +137,8 @@ fn model_check(s: &[u8]) -> u32 {
         }
     }
     let mut before = 0;
-    for transition in s[middle..].chunks_exact(8) {
-        let (from, to) = (number2(&transition[..2]), number2(&transition[6..8]));
+    for transition in s[middle..].chunks_exact(10) {
+        let (from, to) = (number2(&transition[..2]), number2(&transition[8..10]));
         if from >= n {
             return 6;
         }
@@ -157,7 +157,7 @@ fn formula_check(s: &[u8], propositions: u32) -> u32 {
     if propositions > 32 {
         return 4;
     }
-    let fault = start(s, 7, 3);
+    let fault = start(s, 7, 1, 3);
     if fault != 0 {
         return fault;
     }
@@ -171,7 +171,7 @@ fn formula_check(s: &[u8], propositions: u32) -> u32 {
     let mut uses = [0u8; 64];
     for (i, row) in s[7..].chunks_exact(8).enumerate() {
         let (operator, left, right, bound) = (row[0], row[1] as usize, row[2] as usize, number4(&row[4..8]));
-        if operator > 9 || row[3] != 0 {
+        if operator > 11 || row[3] != 0 {
             return 10;
         }
         match operator {
@@ -188,8 +188,9 @@ fn formula_check(s: &[u8], propositions: u32) -> u32 {
                     return 6;
                 }
             }
-            6 | 7 => {
-                if right != 0 {
+            // of 10 and 11 right is an action
+            6 | 7 | 10 | 11 => {
+                if operator < 10 && right != 0 {
                     return 10;
                 }
                 if left >= i {
@@ -294,7 +295,7 @@ pub unsafe extern "C" fn rust_build(model: *const u8, model_length: u64, formula
     for a in 0..s {
         *first.get_unchecked_mut(a as usize) = t;
         while t < last && two(t) == a {
-            t = t.add(8);
+            t = t.add(10);
         }
     }
     *first.get_unchecked_mut(s as usize) = last;
@@ -305,7 +306,7 @@ pub unsafe extern "C" fn rust_build(model: *const u8, model_length: u64, formula
     for r in 0..f {
         let row = formula.add(7 + 8 * r as usize);
         let (operator, left, right, bound) = (*row, *row.add(1) as u32, *row.add(2) as u32, four(row.add(4)));
-        u += (operator >= 8) as u32;
+        u += (operator == 8 || operator == 9) as u32;
         for a in 0..s {
             let node = a + s * r;
             let (mut t, end) = steps(a);
@@ -342,10 +343,10 @@ pub unsafe extern "C" fn rust_build(model: *const u8, model_length: u64, formula
                             put_two(&mut out, node);
                             put_two(&mut out, 1);
                             put_four(&mut out, 0);
-                            put_two(&mut out, two(t.add(6)) + s * left);
+                            put_two(&mut out, two(t.add(8)) + s * left);
                             h += 1;
                         }
-                        t = t.add(8);
+                        t = t.add(10);
                     }
                 }
                 7 => {
@@ -355,10 +356,38 @@ pub unsafe extern "C" fn rust_build(model: *const u8, model_length: u64, formula
                     while t < end {
                         if four(t.add(2)) <= bound {
                             put_four(&mut out, 0);
-                            put_two(&mut out, two(t.add(6)) + s * left);
+                            put_two(&mut out, two(t.add(8)) + s * left);
                             k += 1;
                         }
-                        t = t.add(8);
+                        t = t.add(10);
+                    }
+                    put_two(&mut head, node);
+                    put_two(&mut head, k);
+                    h += 1;
+                }
+                10 => {
+                    while t < end {
+                        if four(t.add(2)) <= bound && two(t.add(6)) == right {
+                            put_two(&mut out, node);
+                            put_two(&mut out, 1);
+                            put_four(&mut out, 0);
+                            put_two(&mut out, two(t.add(8)) + s * left);
+                            h += 1;
+                        }
+                        t = t.add(10);
+                    }
+                }
+                11 => {
+                    let mut head = out;
+                    let mut k = 0;
+                    out = out.add(4);
+                    while t < end {
+                        if four(t.add(2)) <= bound && two(t.add(6)) == right {
+                            put_four(&mut out, 0);
+                            put_two(&mut out, two(t.add(8)) + s * left);
+                            k += 1;
+                        }
+                        t = t.add(10);
                     }
                     put_two(&mut head, node);
                     put_two(&mut head, k);
@@ -372,7 +401,7 @@ pub unsafe extern "C" fn rust_build(model: *const u8, model_length: u64, formula
     for r in 0..f {
         let row = formula.add(7 + 8 * r as usize);
         let (operator, left, right) = (*row, *row.add(1) as u32, *row.add(2) as u32);
-        if operator < 8 {
+        if operator != 8 && operator != 9 {
             continue;
         }
         for a in 0..s {
@@ -385,7 +414,7 @@ pub unsafe extern "C" fn rust_build(model: *const u8, model_length: u64, formula
             // where nothing follows, the A helper has its first hyperedge only
             if operator == 9 && t < end {
                 put_two(&mut out, a + helper);
-                put_two(&mut out, 1 + (end.offset_from(t) / 8) as u32);
+                put_two(&mut out, 1 + (end.offset_from(t) / 10) as u32);
                 put_four(&mut out, 0);
                 put_two(&mut out, a + s * left);
                 h += 1;
@@ -399,8 +428,8 @@ pub unsafe extern "C" fn rust_build(model: *const u8, model_length: u64, formula
                     h += 1;
                 }
                 put_four(&mut out, four(t.add(2)));
-                put_two(&mut out, two(t.add(6)) + helper);
-                t = t.add(8);
+                put_two(&mut out, two(t.add(8)) + helper);
+                t = t.add(10);
             }
         }
         helper += s;
@@ -408,7 +437,7 @@ pub unsafe extern "C" fn rust_build(model: *const u8, model_length: u64, formula
     helper = s * f;
     for r in 0..f {
         let row = formula.add(7 + 8 * r as usize);
-        if *row >= 8 {
+        if *row == 8 || *row == 9 {
             for a in 0..s {
                 put_two(&mut out, a + s * r);
                 put_four(&mut out, four(row.add(4)));

@@ -62,6 +62,10 @@ static void put_row(const u8 *formula, u32 r)
     case 7:
         put(row[0] == 6 ? "EX" : "AX"), put_bound(four(row + 4)), put_row(formula, row[1]);
         break;
+    case 10:
+    case 11:
+        put(row[0] == 10 ? "EX#" : "AX#"), put_number(row[2]), put_bound(four(row + 4)), put_row(formula, row[1]);
+        break;
     default:
         put(row[0] == 8 ? "E[" : "A["), put_row(formula, row[1]), put(" U"), put_bound(four(row + 4)), put_row(formula, row[2]), put("]");
     }
@@ -79,7 +83,7 @@ static u32 answer(u64 got)
         return e;
     u32 s = (u32)input[6] << 8 | input[7], f = formula[6], u = 0, m;
     for (u32 r = 0; r < f; r++)
-        u += formula[7 + 8 * r] >= 8;
+        u += formula[7 + 8 * r] == 8 || formula[7 + 8 * r] == 9;
     if (s * (f + u) > 4096)
         return 8;
     u64 size = PASTE(P, build)(input, length, formula, rest, graph), h = four(graph + 8);

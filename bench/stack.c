@@ -43,7 +43,7 @@ static uint32_t counts[3], count, states[2];
 static uint8_t number, verdict;
 
 /* A chain of nodes with cover edges, one for the search that ends, one whose cover edges lie on no cycle, a model with every count at
- * its limit, 64 rows, each an operand of the next, with bounds of ten digits, and a formula with untils within an until, EX and AX, whose
+ * its limit, 64 rows, each an operand of the next, with actions of three digits and bounds of ten, and a formula with untils within an until, EX and AX, whose
  * graph is large; and a tally whose report is the longest. */
 static void inputs(void)
 {
@@ -73,17 +73,17 @@ static void inputs(void)
     for (uint32_t i = 0; i < 256; i++)
         put(i, 4);
     for (uint32_t i = 0; i < 65535; i++)
-        put(i / 256, 2), put(i, 4), put(i % 256, 2);
+        transition(i / 256, i, i % 512, i % 256);
     model_length = finish(model);
     start(formula, 3);
     put(64, 1);
     row(2, 31, 0, 0);
     for (uint32_t i = 1; i < 64; i++)
-        row(6 + i % 2, i - 1, 0, 4294967294u);
+        row(10 + i % 2, i - 1, 255, 4294967294u);
     formula_length = finish(formula);
     start(asked, 3);
     put(9, 1);
-    row(2, 0, 0, 0), row(7, 0, 0, UINT32_MAX), row(2, 1, 0, 0), row(6, 2, 0, 200), row(5, 1, 3, 0), row(3, 2, 0, 0);
+    row(2, 0, 0, 0), row(7, 0, 0, UINT32_MAX), row(2, 1, 0, 0), row(10, 2, 7, 200), row(5, 1, 3, 0), row(3, 2, 0, 0);
     row(9, 4, 5, 1000), row(2, 3, 0, 0), row(9, 6, 7, UINT32_MAX);
     asked_length = finish(asked);
     memset(&longest, 0xff, sizeof longest);

@@ -16,12 +16,12 @@ static uint8_t graph[] = {
 
 /* 3 states, 5 propositions, 4 transitions */
 static uint8_t model[] = {
-    0, 0, 0, 57, 1, 2, 0, 3, 5, 0, 0, 0, 4,
+    0, 0, 0, 65, 2, 2, 0, 3, 5, 0, 0, 0, 4,
     0, 0, 0, 1, 0, 0, 0, 2, 0, 0, 0, 0,
-    0, 0, 0, 0, 0, 3, 0, 0,
-    0, 0, 0, 0, 0, 2, 0, 1,
-    0, 1, 0, 0, 0, 0, 0, 1,
-    0, 2, 0, 0, 0, 1, 0, 2};
+    0, 0, 0, 0, 0, 3, 0, 7, 0, 0,
+    0, 0, 0, 0, 0, 2, 1, 7, 0, 1,
+    0, 1, 0, 0, 0, 0, 0, 0, 0, 1,
+    0, 2, 0, 0, 0, 1, 0, 7, 0, 2};
 
 /* E[p0 U<=2 p1] */
 static uint8_t formula[] = {
@@ -185,7 +185,7 @@ int main(void)
     /* A wrong field of each message: a name of each graph, the last row's zero, and then the third transition's start. */
     graph[sizeof graph - 1] = 3, plain[23] = 3, formula[26] = 1;
     checks(), rounds(9), search(0), claims(49, 25), text(), build(), decide(0, 9), settle(9);
-    model[42] = 3;
+    model[46] = 3;
     checks(), build(), decide(0, 9), settle(9);
     return 0;
 }

@@ -57,8 +57,18 @@ enum {
 /* The stored value of a node that no finite number bounds. */
 #define OTZARVIM_INFINITE UINT64_MAX
 
+/* The version byte of each kind of message. */
+enum {
+    OTZARVIM_GRAPH_VERSION = 1,
+    OTZARVIM_MODEL_VERSION = 2, /* 1 had no actions, and is refused */
+    OTZARVIM_FORMULA_VERSION = 1
+};
+
 /* The bound, in a message, that means no bound. */
 #define OTZARVIM_NO_BOUND UINT32_MAX
+
+/* The largest action that a row of a formula can ask for; a transition's has two bytes. */
+#define OTZARVIM_MOST_ASKED 255
 
 /* How many bytes the claim of a node has: its value (8), then its rank (8). */
 #define OTZARVIM_CLAIM 16
@@ -96,7 +106,8 @@ enum {
 uint8_t otzarvim_graph_check(const uint8_t *message, size_t message_length, uint32_t counts[3], size_t *offset);
 
 /*
- * Checks a model message (kind 2).
+ * Checks a model message (kind 2). With s states and t transitions it has 13 + 4s + 10t bytes; a transition is from (2 bytes),
+ * weight (4), action (2) and to (2). Any action is taken.
  *
  *   message, message_length   the bytes; only read
  *   counts                    gets the states, the propositions and the transitions
@@ -107,7 +118,9 @@ uint8_t otzarvim_graph_check(const uint8_t *message, size_t message_length, uint
 uint8_t otzarvim_model_check(const uint8_t *message, size_t message_length, uint32_t counts[3], size_t *offset);
 
 /*
- * Checks a formula message (kind 3) whose propositions must be below p.
+ * Checks a formula message (kind 3) whose propositions must be below p. With f rows it has 7 + 8f bytes. Operators 10 and 11 are EX and
+ * AX that look only at transitions of one action, which stands in the row's right field; any is taken. A transition whose action is above
+ * OTZARVIM_MOST_ASKED is seen by EX and AX that ask for none alone.
  *
  *   message, message_length   the bytes; only read
  *   p                         how many propositions there are; above 32 is LIMIT, before any byte is read
@@ -193,7 +206,7 @@ uint8_t otzarvim_claims_write(const uint8_t *message, size_t message_length, uin
                               uint64_t *words, size_t words_length, size_t *offset);
 
 /*
- * Writes the text of a formula message whose propositions must be below p, as E[p0 U<=2 p1].
+ * Writes the text of a formula message whose propositions must be below p, as E[p0 U<=2 p1] or EX#7<=3 p0, where 7 is an action.
  *
  *   message, message_length   the bytes; only read
  *   p                         as for otzarvim_formula_check

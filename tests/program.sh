@@ -13,7 +13,7 @@ set -eu
 
 [ $# -le 2 ] || die "usage: program.sh [SEED] [CASES]"
 seed=${1-1}
-count=${2-5000}
+count=${2-5700}
 jobs=${JOBS-2}
 
 copy_program otzarvim "${OTZARVIM-}"
@@ -99,11 +99,11 @@ echo "seed $seed: $count cases from files, every byte as expected, $(($(date +%s
 fed=0
 long=$(find "$cases" -name '*.stdin' -size +8180c | sed 's/.*\/\([0-9]*\)\.stdin/\1/' | sort -n | awk 'NR % 6 == 1')
 for number in $(seq 1 97 "$count") $long; do
-    in_pieces "$number" 1 3 9 32 500 3000 4646 1 1
+    in_pieces "$number" 1 3 9 38 500 3000 4640 1 1
     fed=$((fed + 1))
 done
 # shellcheck disable=SC2046
-[ "$count" -lt 1 ] || in_pieces 1 $(seq 76 | sed 's/.*/1/')
+[ "$count" -lt 1 ] || in_pieces 1 $(seq 82 | sed 's/.*/1/')
 echo "$fed cases in pieces, as expected"
 
 # No input at all, in each way in which there can be none, and one without end.

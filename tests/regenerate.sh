@@ -8,7 +8,7 @@ set -eu
 . "$(dirname "$0")/common.sh"
 
 seed=1
-calls=14300
+calls=15000
 
 [ $# -eq 0 ] || [ "$*" = --write ] || die "usage: regenerate.sh [--write]"
 store=$root/crates/trials

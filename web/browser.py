@@ -89,6 +89,7 @@ def first_sight(page):
     equal(page.yes(), {"cold", "guard_failed", "interpreted"}, "and every answer")
     equal(page.count("svg .state"), 6, "the picture has a box for each state")
     equal(page.count("svg .arrow"), 11, "and an arrow for each two states with a transition")
+    equal("90 #compile" in [weight.text for weight in page.browser.find_elements(By.CSS_SELECTOR, "svg .weight")], True, "with its weight and its action")
     equal(page.count("svg .state.yes"), 3, "the states that satisfy the formula are marked")
     equal(page.text("svg .state.asked .name"), "guard_failed", "the asked state is marked")
     equal(page.browser.execute_script("return document.querySelector('svg').lastChild.classList.contains('asked')"), True, "and in front")
@@ -104,6 +105,12 @@ def typing(page):
     equal(page.text(".of-formula .wrong"), "onterpreted", "and underlined at its place")
     equal(page.yes(), set(), "and nothing is answered")
     page.picture("formula-mistake")
+    page.type("formula", "EX#discard cold")
+    page.until(lambda: page.yes() == {"guard_failed"}, "the answer to a formula with an action")
+    equal("Asked: EX#discard cold," in page.text("#about"), True, "a formula with an action is answered, and told by its name")
+    page.type("formula", "EX#discrad cold")
+    page.until(lambda: page.text("#mistakes"), "a mistake in an action")
+    equal(page.text("#mistakes"), "formula, line 1, column 4: no transition has the action discrad (did you mean discard?)", "an action that no transition has is told")
     page.type("formula", "E[true U<=42 interpreted]")
     page.until(lambda: page.text("#verdict") == "guard_failed: yes", "the answer after a mistake")
     equal(page.yes(), set(ALL) - {"retired"}, "mended, it is answered again")
@@ -119,7 +126,7 @@ def damage(page):
     page.picture("model-mistake")
     page.focus("model").send_keys(" 5")
     page.until(lambda: not page.text("#mistakes"), "the mended model")
-    equal([weight.text for weight in page.browser.find_elements(By.CSS_SELECTOR, "svg .weight") if "," in weight.text], ["6, 5"], "mended, the new transition is drawn")
+    equal([weight.text for weight in page.browser.find_elements(By.CSS_SELECTOR, "svg .weight") if "," in weight.text], ["6 #retire, 5"], "mended, the new transition is drawn")
 
 
 def keyboard(page):

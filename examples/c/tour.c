@@ -15,11 +15,11 @@ static const uint8_t graph[] = {
 };
 
 static uint8_t model[] = {
-    0, 0, 0, 45, 1, 2, 0, 2, 2, 0, 0, 0, 3,          /* 45 bytes, version 1, kind 2; 2 states, 2 propositions, 3 transitions */
+    0, 0, 0, 51, 2, 2, 0, 2, 2, 0, 0, 0, 3,          /* 51 bytes, version 2, kind 2; 2 states, 2 propositions, 3 transitions */
     0, 0, 0, 1, 0, 0, 0, 2,                          /* state 0 has p0, state 1 has p1 */
-    0, 0, 0, 0, 0, 3, 0, 0,                          /* 0 to 0, weight 3 */
-    0, 0, 0, 0, 0, 2, 0, 1,                          /* 0 to 1, weight 2 */
-    0, 1, 0, 0, 0, 0, 0, 1                           /* 1 to 1, weight 0 */
+    0, 0, 0, 0, 0, 3, 0, 0, 0, 0,                    /* 0 to 0, weight 3, action 0 */
+    0, 0, 0, 0, 0, 2, 0, 0, 0, 1,                    /* 0 to 1, weight 2, action 0 */
+    0, 1, 0, 0, 0, 0, 0, 0, 0, 1                     /* 1 to 1, weight 0, action 0 */
 };
 
 static const uint8_t formula[] = {
@@ -108,7 +108,7 @@ int main(void)
     number = otzarvim_graph(model, sizeof model, formula, sizeof formula, built, sizeof built - 1, &length, &offset);
     printf("built    %s: a room of %zu bytes\n", told(number, offset), sizeof built - 1);
 
-    model[36] = 2;
+    model[40] = 2;
     number = otzarvim_graph(model, sizeof model, formula, sizeof formula, built, sizeof built, &length, &offset);
     printf("built    %s: the second transition leads to state 2 of 2\n", told(number, offset));
     return 0;

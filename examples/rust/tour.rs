@@ -12,12 +12,12 @@ const GRAPH: [u8; 62] = [
     0, 0, 0, 0, 0, 5, 0, 1, // 0 covers 1 with bound 5
 ];
 
-const MODEL: [u8; 45] = [
-    0, 0, 0, 45, 1, 2, 0, 2, 2, 0, 0, 0, 3, // 45 bytes, version 1, kind 2; 2 states, 2 propositions, 3 transitions
+const MODEL: [u8; 51] = [
+    0, 0, 0, 51, 2, 2, 0, 2, 2, 0, 0, 0, 3, // 51 bytes, version 2, kind 2; 2 states, 2 propositions, 3 transitions
     0, 0, 0, 1, 0, 0, 0, 2, // state 0 has p0, state 1 has p1
-    0, 0, 0, 0, 0, 3, 0, 0, // 0 to 0, weight 3
-    0, 0, 0, 0, 0, 2, 0, 1, // 0 to 1, weight 2
-    0, 1, 0, 0, 0, 0, 0, 1, // 1 to 1, weight 0
+    0, 0, 0, 0, 0, 3, 0, 0, 0, 0, // 0 to 0, weight 3, action 0
+    0, 0, 0, 0, 0, 2, 0, 0, 0, 1, // 0 to 1, weight 2, action 0
+    0, 1, 0, 0, 0, 0, 0, 0, 0, 1, // 1 to 1, weight 0, action 0
 ];
 
 const FORMULA: [u8; 31] = [
@@ -65,7 +65,7 @@ fn main() -> Result<(), Fault> {
     println!("{:?}", otzarvim::check_graph(otzarvim::graph(&MODEL, &FORMULA, &mut built)?)?);
 
     let mut damaged = MODEL;
-    damaged[36] = 2; // the second transition leads to state 2 of 2
+    damaged[40] = 2; // the second transition leads to state 2 of 2
     if let Err(fault) = otzarvim::satisfying(&damaged, &FORMULA) {
         println!("{fault}");
     }

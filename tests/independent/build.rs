@@ -1,4 +1,5 @@
-//! Document 01, "The graph that is built"; document 02, request 1, for states without transitions.
+//! Document 01, "The graph that is built"; document 02, request 1, for states without transitions, and
+//! request 7: "the built graph skips transitions of other actions".
 
 use crate::bytes::{limit, Bound, Cover, Graph, Hyperedge, Model, Row, Runs, Target, Transition};
 use crate::refusal::{Fault, Number, CALL};
@@ -70,8 +71,19 @@ pub fn graph(model: &Model, rows: &[Row]) -> Graph {
     graph
 }
 
-fn within(step: &Transition, bound: Bound) -> bool {
-    bound.is_none_or(|most| step.weight <= most)
+/// The transitions of a state that EX and AX look at: "within the bound, in model order"; with an
+/// action, those that carry it.
+fn seen(
+    model: &Model,
+    state: usize,
+    action: Option<u8>,
+    bound: Bound,
+) -> impl Iterator<Item = &Transition> {
+    model.leaving(state).filter(move |step| {
+        let within = bound.is_none_or(|most| step.weight <= most);
+        let skipped = action.is_some_and(|asked| u16::from(asked) != step.action);
+        within && !skipped
+    })
 }
 
 fn free(node: usize) -> Target {
@@ -102,18 +114,25 @@ fn add_row(graph: &mut Graph, model: &Model, layout: &Layout, row: &Row, source:
             graph.add(source, vec![at(right)]);
         }
         Row::Next(runs, bound, operand) => {
-            let steps = model.leaving(state).filter(|step| within(step, bound));
-            let next: Vec<Target> = steps
-                .map(|step| free(layout.node(step.to, operand)))
-                .collect();
-            match runs {
-                Runs::Some => next
-                    .into_iter()
-                    .for_each(|target| graph.add(source, vec![target])),
-                Runs::All => graph.add(source, next),
-            }
+            let next = seen(model, state, None, bound);
+            let next = next.map(|step| free(layout.node(step.to, operand)));
+            add_next(graph, source, runs, next.collect());
+        }
+        Row::NextBy(runs, action, bound, operand) => {
+            let next = seen(model, state, Some(action), bound);
+            let next = next.map(|step| free(layout.node(step.to, operand)));
+            add_next(graph, source, runs, next.collect());
         }
         Row::False | Row::Has(_) | Row::HasNot(_) | Row::Until(..) => {}
+    }
+}
+
+fn add_next(graph: &mut Graph, source: usize, runs: Runs, next: Vec<Target>) {
+    match runs {
+        Runs::Some => next
+            .into_iter()
+            .for_each(|target| graph.add(source, vec![target])),
+        Runs::All => graph.add(source, next),
     }
 }
 

@@ -1,5 +1,6 @@
 //! Reading of graph, model and formula messages: document 01, "Message bytes" and, for the order of
-//! the faults, "Numbers given back". Document 02, request 4, for the offset of a fault.
+//! the faults, "Numbers given back". Document 02: request 4 for the offset of a fault, request 7 for
+//! actions.
 
 use crate::refusal::{Fault, Judge, Number, FORMULA, GRAPH, MODEL};
 use std::ops::RangeInclusive;
@@ -47,6 +48,7 @@ pub struct Graph {
 pub struct Transition {
     pub from: usize,
     pub weight: u32,
+    pub action: u16,
     pub to: usize,
 }
 
@@ -92,6 +94,8 @@ pub enum Row {
     And(usize, usize),
     Or(usize, usize),
     Next(Runs, Bound, usize),
+    /// EX or AX of an action: request 7's forms 10 and 11.
+    NextBy(Runs, u8, Bound, usize),
     Until(Runs, Bound, usize, usize),
 }
 
@@ -100,7 +104,7 @@ impl Row {
     pub fn operands(&self) -> Vec<usize> {
         match *self {
             Row::True | Row::False | Row::Has(_) | Row::HasNot(_) => vec![],
-            Row::Next(_, _, operand) => vec![operand],
+            Row::Next(.., operand) | Row::NextBy(.., operand) => vec![operand],
             Row::And(left, right) | Row::Or(left, right) | Row::Until(_, _, left, right) => {
                 vec![left, right]
             }
@@ -148,20 +152,24 @@ impl Cursor<'_> {
 }
 
 /// "Every message starts with its total length (4 bytes, itself included), a version byte, 1, and a
-/// kind byte." "Order: header bytes, length field, version, kind, .."
-fn open(judge: Judge, bytes: &[u8], header: usize, kind: u32) -> Result<Cursor<'_>, Fault> {
+/// kind byte." "Order: header bytes, length field, version, kind, .." Request 7: "model messages take
+/// version 2".
+fn open(
+    judge: Judge,
+    bytes: &[u8],
+    header: usize,
+    (version, kind): (u32, u32),
+) -> Result<Cursor<'_>, Fault> {
     judge.demand(bytes.len() >= header, Number::Length, "header bytes")?;
     let mut cursor = Cursor { bytes, at: 0 };
     let length = cursor.take(4).name();
     judge.demand(length == bytes.len(), Number::Length, "length field")?;
-    let version = cursor.take(1);
-    judge
-        .at(version.at)
-        .demand(version.number == 1, Number::Version, "version")?;
-    let found = cursor.take(1);
-    judge
-        .at(found.at)
-        .demand(found.number == kind, Number::Version, "kind")?;
+    for (number, place) in [(version, "version"), (kind, "kind")] {
+        let found = cursor.take(1);
+        judge
+            .at(found.at)
+            .demand(found.number == number, Number::Version, place)?;
+    }
     Ok(cursor)
 }
 
@@ -193,7 +201,7 @@ pub mod limit {
 /// "Graph, kind 1, header 14 bytes: after the kind come n (2), h (4), c (2)." "Last, nothing left
 /// over."
 pub fn graph(bytes: &[u8]) -> Result<Graph, Fault> {
-    let mut cursor = open(GRAPH, bytes, 14, 1)?;
+    let mut cursor = open(GRAPH, bytes, 14, (1, 1))?;
     let (n, h, c) = (cursor.take(2), cursor.take(4), cursor.take(2));
     let nodes = limited(GRAPH, n, 1..=limit::N, "n")?;
     let h = limited(GRAPH, h, 0..=limit::H, "h")?;
@@ -278,16 +286,17 @@ fn covers(cursor: &mut Cursor, nodes: usize, c: usize) -> Result<Vec<Cover>, Fau
     Ok(read)
 }
 
-/// "Model, kind 2, header 13 bytes: states s (2), propositions p (1), transitions t (4)." "A model
-/// must then have exactly 13 + 4s + 8t bytes". Request 1: "Number 7 is no longer given; t may be 0."
+/// "Model, kind 2, header 13 bytes: states s (2), propositions p (1), transitions t (4)." Request 7:
+/// "10 bytes for a transition, so the length is 13 + 4s + 10t". Request 1: "Number 7 is no longer
+/// given; t may be 0."
 pub fn model(bytes: &[u8]) -> Result<Model, Fault> {
-    let mut cursor = open(MODEL, bytes, 13, 2)?;
+    let mut cursor = open(MODEL, bytes, 13, (2, 2))?;
     let (s, p, t) = (cursor.take(2), cursor.take(1), cursor.take(4));
     let s = limited(MODEL, s, 1..=limit::S, "s")?;
     let p = limited(MODEL, p, 0..=limit::P, "p")?;
     let t = limited(MODEL, t, 0..=limit::T, "t")?;
     MODEL.demand(
-        bytes.len() == 13 + 4 * s + 8 * t,
+        bytes.len() == 13 + 4 * s + 10 * t,
         Number::Length,
         "exact length",
     )?;
@@ -313,11 +322,13 @@ fn labels(cursor: &mut Cursor, s: usize, p: usize) -> Result<Vec<u32>, Fault> {
     Ok(read)
 }
 
-/// "t transitions: from (2), weight (4), to (2)"; "Transition: from NAME, ORDER, to NAME."
+/// "t transitions: from (2), weight (4), to (2)"; "Transition: from NAME, ORDER, to NAME." Request 7:
+/// "an action number (2 bytes, after the weight)", of which nothing is demanded.
 fn transitions(cursor: &mut Cursor, s: usize, t: usize) -> Result<Vec<Transition>, Fault> {
     let mut read: Vec<Transition> = Vec::new();
     for _ in 0..t {
-        let (from, weight, to) = (cursor.take(2), cursor.take(4), cursor.take(2));
+        let (from, weight) = (cursor.take(2), cursor.take(4));
+        let (action, to) = (cursor.take(2), cursor.take(2));
         let of_from = MODEL.at(from.at);
         of_from.demand(from.name() < s, Number::Name, "from")?;
         let before = read.last().map_or(0, |step| step.from);
@@ -326,6 +337,7 @@ fn transitions(cursor: &mut Cursor, s: usize, t: usize) -> Result<Vec<Transition
         read.push(Transition {
             from: from.name(),
             weight: weight.number,
+            action: action.number as u16,
             to: to.name(),
         });
     }
@@ -337,7 +349,7 @@ fn transitions(cursor: &mut Cursor, s: usize, t: usize) -> Result<Vec<Transition
 pub fn formula(p: u32, bytes: &[u8]) -> Result<Formula, Fault> {
     let p = p as usize;
     FORMULA.demand(p <= limit::P, Number::Limit, "p handed in")?;
-    let mut cursor = open(FORMULA, bytes, 7, 3)?;
+    let mut cursor = open(FORMULA, bytes, 7, (1, 3))?;
     let f = limited(FORMULA, cursor.take(1), 1..=limit::F, "f")?;
     FORMULA.demand(bytes.len() == 7 + 8 * f, Number::Length, "exact length")?;
     let mut rows = Vec::new();
@@ -365,7 +377,7 @@ fn row(cursor: &mut Cursor, index: usize, p: usize) -> Result<Row, Fault> {
         zero: cursor.take(1),
         bound: cursor.take(4),
     };
-    let known = fields.operator.number <= 9;
+    let known = fields.operator.number <= 11;
     FORMULA
         .at(fields.operator.at)
         .demand(known, Number::Form, "operator")?;
@@ -378,7 +390,12 @@ fn uses_left(operator: u32) -> bool {
     operator >= 2
 }
 
+/// A row, or for 10 and 11 an action.
 fn uses_right(operator: u32) -> bool {
+    names_right(operator) || operator >= 10
+}
+
+fn names_right(operator: u32) -> bool {
     matches!(operator, 4 | 5 | 8 | 9)
 }
 
@@ -412,14 +429,15 @@ fn names_exist(fields: &Fields, index: usize, p: usize) -> Result<(), Fault> {
         2 | 3 => of_left.demand(left < p, Number::Name, "left proposition")?,
         _ => of_left.demand(left < index, Number::Name, "left row")?,
     }
-    let right = !uses_right(operator) || fields.right.name() < index;
+    let right = !names_right(operator) || fields.right.name() < index;
     FORMULA
         .at(fields.right.at)
         .demand(right, Number::Name, "right row")
 }
 
 /// "Operators: 0 true, 1 false, 2 proposition (left), 3 not that proposition, 4 and, 5 or (left,
-/// right), 6 EX, 7 AX (left and bound), 8 E until, 9 A until (left, right, bound)."
+/// right), 6 EX, 7 AX (left and bound), 8 E until, 9 A until (left, right, bound)." Request 7: "EX and
+/// AX get forms 10 and 11 that look only at transitions of the action given in the row's right field".
 fn row_of(fields: &Fields) -> Row {
     let (left, right) = (fields.left.name(), fields.right.name());
     let bound = bound_of(fields.bound.number);
@@ -433,7 +451,9 @@ fn row_of(fields: &Fields) -> Row {
         6 => Row::Next(Runs::Some, bound, left),
         7 => Row::Next(Runs::All, bound, left),
         8 => Row::Until(Runs::Some, bound, left, right),
-        _ => Row::Until(Runs::All, bound, left, right),
+        9 => Row::Until(Runs::All, bound, left, right),
+        10 => Row::NextBy(Runs::Some, right as u8, bound, left),
+        _ => Row::NextBy(Runs::All, right as u8, bound, left),
     }
 }
 

@@ -24,9 +24,24 @@ pub fn graph(nodes: usize, hyperedges: &[Edge], covers: &[(usize, Bound, usize)]
     }
 }
 
-/// A model from its labels and transitions (from, weight, to).
+/// A model from its labels and transitions (from, weight, to), of action 0.
 pub fn model(propositions: u32, labels: &[u32], transitions: &[(usize, u32, usize)]) -> Model {
-    let step = |&(from, weight, to): &(usize, u32, usize)| Transition { from, weight, to };
+    let step = |&(from, weight, to): &(usize, u32, usize)| (from, weight, 0, to);
+    let transitions: Vec<Step> = transitions.iter().map(step).collect();
+    acting(propositions, labels, &transitions)
+}
+
+/// From, weight, action, to.
+pub type Step = (usize, u32, u16, usize);
+
+/// A model from its labels and transitions with actions.
+pub fn acting(propositions: u32, labels: &[u32], transitions: &[Step]) -> Model {
+    let step = |&(from, weight, action, to): &Step| Transition {
+        from,
+        weight,
+        action,
+        to,
+    };
     Model {
         propositions,
         labels: labels.to_vec(),
@@ -121,7 +136,7 @@ fn chain_of_t10(bound: u32, back: bool) -> Graph {
 }
 
 /// "Model M: state 0 has p0, state 1 has p1; transitions 0 to 0 weight 3, 0 to 1 weight 2, 1 to 1
-/// weight 0."
+/// weight 0." Each has action 0.
 pub fn model_m() -> Model {
     model(2, &[1, 2], &[(0, 3, 0), (0, 2, 1), (1, 0, 1)])
 }

@@ -1,6 +1,6 @@
 //! The independent test program. It is written from document 01 and the requests of document 02 that
-//! have landed (requests 1, 2, 4, 6 and 8), and shares nothing with the crates: it makes batches of calls for
-//! the program `trials` and inputs for the program `otzarvim`, and says what each must answer.
+//! have landed (requests 1, 2, 4, 6, 7 and 8), and shares nothing with the crates: it makes batches of
+//! calls for the program `trials` and inputs for the program `otzarvim`, and says what each must answer.
 
 mod answer;
 mod batch;

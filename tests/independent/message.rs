@@ -24,9 +24,9 @@ pub struct Message {
     pub lists: Vec<List>,
 }
 
-/// Document 01, "Message bytes": total length (4), version 1, kind; then n, h, c and the records.
+/// Document 01, "Message bytes": total length (4), version, kind; then n, h, c and the records.
 pub fn graph(graph: &Graph) -> Message {
-    let mut out = Message::start(1);
+    let mut out = Message::start(1, 1);
     out.put(2, graph.nodes as u64);
     let h = out.put(4, graph.hyperedges.len() as u64);
     let c = out.put(2, graph.covers.len() as u64);
@@ -46,8 +46,12 @@ pub fn graph(graph: &Graph) -> Message {
     out.finish()
 }
 
+/// The bytes of a transition.
+pub const STEP: usize = 10;
+
+/// Request 7: version 2, and "an action number (2 bytes, after the weight)".
 pub fn model(model: &Model) -> Message {
-    let mut out = Message::start(2);
+    let mut out = Message::start(2, 2);
     let s = out.put(2, model.labels.len() as u64);
     out.put(1, u64::from(model.propositions));
     let t = out.put(4, model.transitions.len() as u64);
@@ -57,13 +61,26 @@ pub fn model(model: &Model) -> Message {
     out.list(t, &model.transitions, |out, step| {
         out.put(2, step.from as u64);
         out.put(4, u64::from(step.weight));
+        out.put(2, u64::from(step.action));
         out.put(2, step.to as u64);
     });
     out.finish()
 }
 
+/// A model as it was written before request 7: version 1, without actions.
+pub fn old_model(of: &Model) -> Vec<u8> {
+    let message = model(of);
+    let mut bytes = message.bytes;
+    for record in message.lists[1].records.iter().rev() {
+        bytes.drain(record.start + 6..record.start + 8);
+    }
+    bytes[4] = 1;
+    mend_length(&mut bytes);
+    bytes
+}
+
 pub fn formula(formula: &Formula) -> Message {
-    let mut out = Message::start(3);
+    let mut out = Message::start(1, 3);
     let f = out.put(1, formula.len() as u64);
     out.list(f, formula, |out, row| {
         let (operator, left, right, bound) = numbers(row);
@@ -88,18 +105,22 @@ fn numbers(row: &Row) -> (u64, usize, usize, u32) {
         Row::Or(left, right) => (5, left, right, 0),
         Row::Next(runs, bound, left) => (pick(runs, 6, 7), left, 0, number_of(bound)),
         Row::Until(runs, bound, left, right) => (pick(runs, 8, 9), left, right, number_of(bound)),
+        Row::NextBy(runs, action, bound, left) => {
+            let operator = pick(runs, 10, 11);
+            (operator, left, usize::from(action), number_of(bound))
+        }
     }
 }
 
 impl Message {
-    fn start(kind: u64) -> Message {
+    fn start(version: u64, kind: u64) -> Message {
         let mut out = Message {
             bytes: vec![],
             fields: vec![],
             lists: vec![],
         };
         out.put(4, 0);
-        out.put(1, 1);
+        out.put(1, version);
         out.put(1, kind);
         out
     }

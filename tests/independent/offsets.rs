@@ -109,7 +109,8 @@ fn ones_in_a_graph() -> usize {
     ones(&graph, &|bytes| found(bytes::graph(bytes)), &expected)
 }
 
-/// Model M: 13 bytes of header, labels at 13 and 17, transitions at 21, 29 and 37.
+/// Model M: 13 bytes of header, labels at 13 and 17, transitions at 21, 31 and 41: from, and 2, 6 and
+/// 8 bytes further weight, action and to.
 fn ones_in_a_model() -> usize {
     let expected = [
         (0, LENGTH),
@@ -122,13 +123,16 @@ fn ones_in_a_model() -> usize {
         (17, form(17)),
         (21, name(21)),
         (23, OK),
-        (27, name(27)),
+        (27, OK),
         (29, name(29)),
-        (31, OK),
-        (35, name(35)),
-        (37, name(37)),
-        (39, OK),
-        (43, name(43)),
+        (31, name(31)),
+        (33, OK),
+        (37, OK),
+        (39, name(39)),
+        (41, name(41)),
+        (43, OK),
+        (47, OK),
+        (49, name(49)),
     ];
     let model = message::model(&known::model_m());
     ones(&model, &|bytes| found(bytes::model(bytes)), &expected)
@@ -193,6 +197,9 @@ fn other_numbers() -> usize {
         ('G', 23, 1, 5, name(22)),
         // a target count of 1: the second target is read as a hyperedge, 0000 0001 ..
         ('G', 16, 2, 1, order(24)),
+        // version 1: request 7
+        ('M', 4, 1, 1, version(4)),
+        ('M', 4, 1, 3, version(4)),
         ('M', 6, 2, 0, limit(6)),
         ('M', 6, 2, 1, LENGTH),
         ('M', 6, 2, 257, limit(6)),
@@ -202,19 +209,28 @@ fn other_numbers() -> usize {
         ('M', 9, 4, 65_536, limit(9)),
         ('M', 13, 4, 4, form(13)),
         ('M', 21, 2, 2, name(21)),
-        ('M', 21, 2, 1, order(29)),
-        ('M', 37, 2, 0, OK),
-        ('M', 43, 2, 2, name(43)),
+        ('M', 21, 2, 1, order(31)),
+        ('M', 41, 2, 0, OK),
+        ('M', 49, 2, 2, name(49)),
+        // any action
+        ('M', 27, 2, 256, OK),
+        ('M', 47, 2, 1, OK),
         ('F', 4, 1, 0, version(4)),
+        ('F', 4, 1, 2, version(4)),
         ('F', 5, 1, 2, version(5)),
         ('F', 6, 1, 0, limit(6)),
         ('F', 6, 1, 2, LENGTH),
         ('F', 6, 1, 65, limit(6)),
-        ('F', 7, 1, 10, form(7)),
+        ('F', 7, 1, 12, form(7)),
+        // EX of an action, whose left is then a row, and no earlier one
+        ('F', 7, 1, 10, name(8)),
         // false in place of p1, whose left is then unused
         ('F', 15, 1, 1, form(16)),
         // EX in place of the until, whose right is then unused
         ('F', 23, 1, 6, form(25)),
+        // EX and AX of action 1 in place of the until: row 1 is never used
+        ('F', 23, 1, 10, (Number::Form, 0)),
+        ('F', 23, 1, 11, (Number::Form, 0)),
         ('F', 8, 1, 2, name(8)),
         ('F', 24, 1, 2, name(24)),
         ('F', 25, 1, 2, name(25)),
@@ -237,7 +253,7 @@ fn other_numbers() -> usize {
 /// right (9), zero (10), bound (11); only after these the name that a used one holds.
 fn unused_fields() -> usize {
     // which of left, right and bound each operator uses
-    let uses: [(u8, [bool; 3]); 10] = [
+    let uses: [(u8, [bool; 3]); 12] = [
         (0, [false, false, false]),
         (1, [false, false, false]),
         (2, [true, false, false]),
@@ -248,6 +264,8 @@ fn unused_fields() -> usize {
         (7, [true, false, true]),
         (8, [true, true, true]),
         (9, [true, true, true]),
+        (10, [true, true, true]),
+        (11, [true, true, true]),
     ];
     let mut compared = 0;
     for (operator, [left, right, bound]) in uses {
@@ -284,7 +302,7 @@ fn calls() -> usize {
     let formula = message::formula(&known::questions()[0].rows);
     let at = |at: usize, width: usize| Field { at, width };
     let bad_graph = graph.with(at(60, 2), 4);
-    let bad_model = model.with(at(27, 2), 2);
+    let bad_model = model.with(at(29, 2), 2);
     let bad_formula = formula.with(at(16, 1), 2);
     let ask = |model: &[u8], formula: &[u8], state: u32, rooms: (usize, usize)| {
         let question = crate::verdict::Question {
@@ -300,7 +318,7 @@ fn calls() -> usize {
         (Call::graph(&graph.bytes), "G 0 0"),
         (Call::graph(&bad_graph), "G 6 60"),
         (Call::graph(&[]), "G 2 0"),
-        (Call::model(&bad_model), "M 6 27"),
+        (Call::model(&bad_model), "M 6 29"),
         (Call::formula(2, &bad_formula), "F 6 16"),
         // p handed in: its LIMIT comes before any byte and has no offset
         (Call::formula(33, &bad_formula), "F 4 0"),
@@ -312,7 +330,7 @@ fn calls() -> usize {
         (Call::search(9, 0, &graph.bytes), "S 11 0 none 0 00000001"),
         (
             ask(&bad_model, &bad_formula, 9, (0, 0)),
-            "V 6 27 none 0 0 00000001 00000001",
+            "V 6 29 none 0 0 00000001 00000001",
         ),
         (
             ask(m, &bad_formula, 9, (0, 0)),
@@ -328,7 +346,7 @@ fn calls() -> usize {
 }
 
 /// "The program then writes `refused 6 at 21`, and plain `refused 2` where the offset is 0." T13's
-/// formula stands at 45 of the input; offsets count within it.
+/// formula stands at 51 of the input; offsets count within it.
 fn program_lines() -> usize {
     let with = |at: usize, byte: u8| {
         let mut input = inputs::t13();
@@ -337,14 +355,14 @@ fn program_lines() -> usize {
     };
     let cases = [
         (with(22, 2), "refused 6 at 21\n"),
-        (with(28, 2), "refused 6 at 27\n"),
-        (with(4, 2), "refused 3 at 4\n"),
+        (with(30, 2), "refused 6 at 29\n"),
+        (with(4, 1), "refused 3 at 4\n"),
         (with(20, 7), "refused 10 at 17\n"),
-        (with(45 + 6, 0), "refused 4 at 6\n"),
-        (with(45 + 26, 1), "refused 10 at 26\n"),
+        (with(51 + 6, 0), "refused 4 at 6\n"),
+        (with(51 + 26, 1), "refused 10 at 26\n"),
         // row 0 twice
-        (with(45 + 25, 0), "refused 10\n"),
-        (with(3, 44), "refused 2\n"),
+        (with(51 + 25, 0), "refused 10\n"),
+        (with(3, 50), "refused 2\n"),
         (program::output(&[]).lines, "refused 2\n"),
     ];
     for (wrote, expected) in &cases {

@@ -102,7 +102,7 @@ fn shown_model(model: &Model) -> String {
     let steps: Vec<String> = model
         .transitions
         .iter()
-        .map(|step| format!("{}-{}>{}", step.from, step.weight, step.to))
+        .map(|step| format!("{}-{}#{}>{}", step.from, step.weight, step.action, step.to))
         .collect();
     format!(
         "p {}, labels {:?}\ntransitions {}\n",

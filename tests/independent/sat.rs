@@ -1,5 +1,6 @@
 //! Satisfaction by the maximal runs of a model, without any graph: document 01, "Formulas and runs",
-//! and document 02, request 1: runs are "endless, or ending in a state without transitions".
+//! and document 02, request 1: runs are "endless, or ending in a state without transitions"; request 7:
+//! actions.
 
 use crate::bytes::{Bound, Model, Row, Runs};
 use crate::rounds::{plus, within, Value};
@@ -51,16 +52,28 @@ fn state_satisfies(
         Row::HasNot(proposition) => !has(proposition),
         Row::And(left, right) => holds[left][state] && holds[right][state],
         Row::Or(left, right) => holds[left][state] || holds[right][state],
-        Row::Next(runs, bound, operand) => next(model, runs, bound, &holds[operand], state),
+        Row::Next(runs, bound, operand) => next(model, runs, None, bound, &holds[operand], state),
+        Row::NextBy(runs, action, bound, operand) => {
+            next(model, runs, Some(action), bound, &holds[operand], state)
+        }
         Row::Until(_, bound, _, _) => within(weights[state], bound),
     }
 }
 
 /// "EX: some transition of weight within the bound leads to a state that satisfies the operand. AX:
-/// all such transitions do." So at a state without transitions "EX is false, AX is true".
-fn next(model: &Model, runs: Runs, bound: Bound, operand: &[bool], state: usize) -> bool {
+/// all such transitions do." So at a state without transitions "EX is false, AX is true". Request 7:
+/// with an action they "look only at transitions of the action given".
+fn next(
+    model: &Model,
+    runs: Runs,
+    action: Option<u8>,
+    bound: Bound,
+    operand: &[bool],
+    state: usize,
+) -> bool {
     let mut steps = model
         .leaving(state)
+        .filter(|step| action.is_none_or(|asked| u16::from(asked) == step.action))
         .filter(|step| within(Some(u64::from(step.weight)), bound));
     match runs {
         Runs::Some => steps.any(|step| operand[step.to]),

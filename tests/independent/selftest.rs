@@ -30,6 +30,8 @@ pub fn run(seed: u64) {
     let mut random = Random::new(seed);
     runs_by_unrolling(&mut random, 10_000);
     dead_states(&mut random, 10_000);
+    actions(&mut random, 10_000);
+    no_actions(&mut random, 2_000);
     graphs_by_runs(&mut random, 5_000);
     largest_assignments(&mut random, 2_000);
     searches(&mut random, 20_000);
@@ -305,7 +307,9 @@ fn dead_states(random: &mut Random, times: usize) {
         for state in (0..model.states()).filter(|state| model.is_dead(*state)) {
             for (row, holds) in rows.iter().zip(&meaning.holds) {
                 match *row {
-                    Row::Next(runs, ..) => assert_eq!(holds[state], runs == Runs::All),
+                    Row::Next(runs, ..) | Row::NextBy(runs, ..) => {
+                        assert_eq!(holds[state], runs == Runs::All)
+                    }
                     Row::Until(.., right) => assert_eq!(holds[state], meaning.holds[right][state]),
                     _ => {}
                 }
@@ -320,6 +324,50 @@ fn dead_states(random: &mut Random, times: usize) {
     }
     report("dead states", dead);
     assert!(dead > times / 4, "hardly any state is dead");
+}
+
+/// Request 7 by taking transitions away: EX and AX of an action are EX and AX on the model that has the
+/// transitions of that action alone.
+fn actions(random: &mut Random, times: usize) {
+    let mut told_apart = 0;
+    for _ in 0..times {
+        let model = generate::model(random, 5);
+        let leaf = generate::formula(random, model.propositions, 1)[0].clone();
+        let (runs, bound) = (generate::runs(random), generate::bound(random));
+        let action = generate::action_asked(random);
+        let mut only = model.clone();
+        let kept = usize::from(action);
+        only.transitions
+            .retain(|step| usize::from(step.action) == kept);
+        let next = vec![leaf.clone(), Row::Next(runs, bound, 0)];
+        let by = vec![leaf, Row::NextBy(runs, action, bound, 0)];
+        let holds = |model: &Model, rows: &Formula| sat::meaning(model, rows).holds[1].clone();
+        let found = holds(&model, &by);
+        assert_eq!(found, holds(&only, &next), "{model:?} {by:?}");
+        told_apart += usize::from(found != holds(&model, &next));
+    }
+    report("actions told apart", told_apart);
+    assert!(told_apart > times / 4, "hardly any action matters");
+}
+
+/// What asks for no action is the same whatever the actions are.
+fn no_actions(random: &mut Random, times: usize) {
+    for _ in 0..times {
+        let model = generate::model(random, 5);
+        let size = random.between(1, 9);
+        let mut rows = generate::formula(random, model.propositions, size);
+        for row in &mut rows {
+            if let Row::NextBy(runs, _, bound, operand) = *row {
+                *row = Row::Next(runs, bound, operand);
+            }
+        }
+        let mut other = model.clone();
+        let steps = other.transitions.iter_mut();
+        steps.for_each(|step| step.action = generate::action(random));
+        let built = build::graph(&model, &rows);
+        assert_eq!(built, build::graph(&other, &rows), "{model:?} {rows:?}");
+    }
+    report("graphs whatever the actions", times);
 }
 
 /// The two ways against each other, on larger models and formulas too.
@@ -492,8 +540,16 @@ fn read_pair(text: &mut &str, rows: &mut Formula) -> Row {
 
 fn read_quantified(runs: Runs, text: &mut &str, rows: &mut Formula) -> Row {
     if take(text, "X") {
+        let action = take(text, "#").then(|| read_number(text));
         let bound = read_bound(text);
-        return Row::Next(runs, bound, read_row(text, rows));
+        let operand = read_row(text, rows);
+        return match action {
+            None => Row::Next(runs, bound, operand),
+            Some(action) => {
+                let action = u8::try_from(action).expect("an action of a row");
+                Row::NextBy(runs, action, bound, operand)
+            }
+        };
     }
     assert!(take(text, "["), "{text}");
     let left = read_row(text, rows);
@@ -515,6 +571,7 @@ fn operands_first(rows: &[Row], index: usize, out: &mut Formula) -> usize {
         Row::And(..) => Row::And(names[0], names[1]),
         Row::Or(..) => Row::Or(names[0], names[1]),
         Row::Next(runs, bound, _) => Row::Next(runs, bound, names[0]),
+        Row::NextBy(runs, action, bound, _) => Row::NextBy(runs, action, bound, names[0]),
         Row::Until(runs, bound, ..) => Row::Until(runs, bound, names[0], names[1]),
         ref leaf => leaf.clone(),
     });

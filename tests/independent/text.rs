@@ -1,4 +1,5 @@
-//! Document 01, "Text and program": the text of a formula.
+//! Document 01, "Text and program": the text of a formula. Document 02, request 7: "the text is
+//! `EX#7<=3 x`".
 
 use crate::bytes::{Bound, Row, Runs};
 
@@ -19,6 +20,10 @@ fn row_text(rows: &[Row], index: usize) -> String {
         Row::Or(left, right) => format!("({} | {})", part(left), part(right)),
         Row::Next(runs, bound, operand) => {
             format!("{}X{} {}", letter(runs), bound_text(bound), part(operand))
+        }
+        Row::NextBy(runs, action, bound, operand) => {
+            let (letter, bound) = (letter(runs), bound_text(bound));
+            format!("{letter}X#{action}{bound} {}", part(operand))
         }
         Row::Until(runs, bound, left, right) => {
             format!(

@@ -50,7 +50,7 @@ def understood(answer: Answer, question: Question) -> str:
     formula = read_formula(answer.text, "the program's text", plain_number)
     if formula != question.formula:
         raise Mistake(Place("otzarvim"), f"the program answered another formula: {answer.text}")
-    return formula.text(question.names.name)
+    return question.said(formula)
 
 
 def render_answer(answer: Answer, question: Question, by: str, state: Optional[int] = None) -> str:

@@ -11,8 +11,8 @@ from typing import List, Optional, Tuple
 
 from .formula import Formula, Row
 from .mistakes import Mistake, Place
-from .model import Model
-from .paper import NO_BOUND, PROPOSITIONS, UNTILS, Operator
+from .model import Model, Transition
+from .paper import ALL_NEXTS, NO_BOUND, PROPOSITIONS, SOME_NEXTS, UNTILS, Operator
 from .running import ROOT, run
 
 INFINITE = 2**64 - 1
@@ -33,9 +33,9 @@ class Graph:
         self.rows = formula.rows()
         self.states = len(model.states)
         self.model = model
-        self.out: List[List[Target]] = [[] for _ in model.states]
+        self.out: List[List[Transition]] = [[] for _ in model.states]
         for step in model.transitions:
-            self.out[step.source].append((step.weight, step.target))
+            self.out[step.source].append(step)
         untils = [number for number, row in enumerate(self.rows) if row.operator in UNTILS]
         self.nodes = self.states * (len(self.rows) + len(untils))
         self.hyperedges: List[Hyperedge] = []
@@ -54,16 +54,16 @@ class Graph:
     def _row(self, row: Row, number: int, helper: int, state: int) -> None:
         source, operator = self.node(state, number), row.operator
         left, right = (0, self.node(state, row.left)), (0, self.node(state, row.right))
-        near = [(0, self.node(to, row.left)) for weight, to in self.out[state] if row.bound in (NO_BOUND,) or weight <= row.bound]
+        near = [(0, self.node(step.target, row.left)) for step in self.out[state] if row.sees(step)]
         if operator == Operator.TRUE or operator in PROPOSITIONS and (row.left in self.model.labels[state]) == (operator == Operator.PROPOSITION):
             self.hyperedges.append((source, []))
         elif operator == Operator.AND:
             self.hyperedges.append((source, [left, right]))
         elif operator == Operator.OR:
             self.hyperedges += [(source, [left]), (source, [right])]
-        elif operator == Operator.EX:
+        elif operator in SOME_NEXTS:
             self.hyperedges += [(source, [target]) for target in near]
-        elif operator == Operator.AX:
+        elif operator in ALL_NEXTS:
             self.hyperedges.append((source, near))
         elif operator in UNTILS:
             self.covers.append((source, row.bound, self.node(state, helper)))
@@ -71,7 +71,7 @@ class Graph:
     def _helper(self, row: Row, place: int, state: int) -> None:
         source = self.node(state, place)
         left = (0, self.node(state, row.left))
-        steps = [(weight, self.node(to, place)) for weight, to in self.out[state]]
+        steps = [(step.weight, self.node(step.target, place)) for step in self.out[state]]
         self.hyperedges.append((source, [(0, self.node(state, row.right))]))
         if row.operator == Operator.E_UNTIL:
             self.hyperedges += [(source, [left, step]) for step in steps]

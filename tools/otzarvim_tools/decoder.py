@@ -17,16 +17,19 @@ from .mistakes import Mistake, Place
 from .model import Model, Transition
 from .names import plain_name
 from .paper import (
+    ACTIONS,
     BOUNDED,
     FORM,
     FORMULA_HEADER,
     FORMULA_KIND,
+    FORMULA_VERSION,
     LABEL,
     LENGTH,
     LIMIT,
     LIMITS,
     MODEL_HEADER,
     MODEL_KIND,
+    MODEL_VERSION,
     NAME,
     NO_BOUND,
     OPERANDS,
@@ -35,7 +38,6 @@ from .paper import (
     REFUSALS,
     ROW,
     TRANSITION,
-    VERSION,
     VERSION_FAULT,
     Operator,
 )
@@ -76,15 +78,15 @@ class _Message:
     def fault(self, number: int, offset: int, words: str) -> Fault:
         return Fault(self, number, offset, words)
 
-    def header(self, layout: str, kind: int) -> Tuple[int, ...]:
+    def header(self, layout: str, right_version: int, kind: int) -> Tuple[int, ...]:
         """The counts of the header, once length, version and kind are right."""
         if len(self.data) < struct.calcsize(layout):
             raise self.fault(LENGTH, 0, f"{len(self.data)} bytes are too few for its header")
         length, version, found, *counts = struct.unpack_from(layout, self.data)
         if length != len(self.data):
             raise self.fault(LENGTH, 0, f"the length field says {length} and there are {len(self.data)} bytes")
-        if version != VERSION:
-            raise self.fault(VERSION_FAULT, 4, f"version {version}, not {VERSION}")
+        if version != right_version:
+            raise self.fault(VERSION_FAULT, 4, f"version {version}, not {right_version}")
         if found != kind:
             raise self.fault(VERSION_FAULT, 5, f"kind {found}, not {kind}")
         return tuple(counts)
@@ -103,7 +105,7 @@ def decode_model(data: bytes, path: str = "message", raw: bool = False, named: O
     """A model with the names s0, s1 .. for its states and p0, p1 .. for its propositions. Faults are told in
     the names of another, if one is given."""
     message = _Message(data, "model", path, 0, raw, named)
-    states, propositions, transitions = message.header(MODEL_HEADER, MODEL_KIND)
+    states, propositions, transitions = message.header(MODEL_HEADER, MODEL_VERSION, MODEL_KIND)
     message.limit("states", states, 6)
     message.limit("propositions", propositions, 8)
     message.limit("transitions", transitions, 9)
@@ -118,14 +120,14 @@ def decode_model(data: bytes, path: str = "message", raw: bool = False, named: O
         at += label
     before = 0
     for _ in range(transitions):
-        source, weight, target = struct.unpack_from(TRANSITION, data, at)
+        source, weight, action, target = struct.unpack_from(TRANSITION, data, at)
         if source >= states:
             raise message.fault(NAME, at, f"a transition from state {source} of {states}")
         if source < before:
             raise message.fault(ORDER, at, f"a transition from state {source} after one from state {before}")
         if target >= states:
-            raise message.fault(NAME, at + 6, f"a transition to state {target} of {states}")
-        model.transitions.append(Transition(source, weight, target))
+            raise message.fault(NAME, at + 8, f"a transition to state {target} of {states}")
+        model.transitions.append(Transition(source, weight, target, action))
         before = source
         at += record
     return model
@@ -134,7 +136,7 @@ def decode_model(data: bytes, path: str = "message", raw: bool = False, named: O
 def decode_formula(data: bytes, propositions: int, path: str = "message", start: int = 0, raw: bool = False, named: Optional[Model] = None) -> Formula:
     """A formula over so many propositions."""
     message = _Message(data, "formula", path, start, raw, named)
-    (count,) = message.header(FORMULA_HEADER, FORMULA_KIND)
+    (count,) = message.header(FORMULA_HEADER, FORMULA_VERSION, FORMULA_KIND)
     message.limit("rows", count, 6)
     at, record = struct.calcsize(FORMULA_HEADER), struct.calcsize(ROW)
     message.exactly(at + record * count)
@@ -158,8 +160,8 @@ def _row(message: _Message, at: int, earlier: List[Formula], uses: List[int], pr
     operator = Operator(code)
     operands = OPERANDS[operator]
     named = operator in PROPOSITIONS
-    bounded = operator in BOUNDED
-    for used, value, offset in ((operands > 0 or named, left, 1), (operands > 1, right, 2), (False, zero, 3), (bounded, bound, 4)):
+    bounded, acting = operator in BOUNDED, operator in ACTIONS
+    for used, value, offset in ((operands > 0 or named, left, 1), (operands > 1 or acting, right, 2), (False, zero, 3), (bounded, bound, 4)):
         if not used and value:
             raise message.fault(FORM, at + offset, f"row {len(earlier)} has {value} in a field that it doesn't use")
     if named and left >= propositions and not message.raw:
@@ -173,6 +175,7 @@ def _row(message: _Message, at: int, earlier: List[Formula], uses: List[int], pr
         tuple(earlier[row] for row in (left, right)[:operands]),
         proposition=left if named else 0,
         bound=bound if bounded and bound != NO_BOUND else None,
+        action=right if acting else None,
     )
 
 

@@ -20,7 +20,7 @@ def _quoted(*lines: str) -> str:
 
 
 def draw(model: Model, run: Optional[Run] = None) -> str:
-    """States as boxes with their propositions below their names, transitions with their weights; a run in bold."""
+    """States as boxes with their propositions below their names, transitions with their weights and actions; a run in bold."""
     states, steps = (set(run.states), set(run.steps)) if run else (set(), set())
     lines: List[str] = [f"digraph {_quoted(Path(model.path).stem)} {{", "    rankdir=LR;", "    node [shape=box, style=rounded];"]
     for state, name in enumerate(model.states):
@@ -32,7 +32,7 @@ def draw(model: Model, run: Optional[Run] = None) -> str:
     for step in model.transitions:
         source, target = model.states[step.source], model.states[step.target]
         bold = ", style=bold, penwidth=3" if step in steps else ""
-        lines.append(f'    {_quoted(source)} -> {_quoted(target)} [label="{step.weight}"{bold}];')
+        lines.append(f'    {_quoted(source)} -> {_quoted(target)} [label={_quoted(f"{step.weight}{model.by(step)}")}{bold}];')
     lines.append("}")
     return "".join(line + "\n" for line in lines)
 

@@ -9,9 +9,10 @@ import struct
 from typing import Iterator, NamedTuple, Optional, Tuple
 
 from .formula import Formula
-from .model import Model
+from .model import Model, Transition
 from .names import plain_name
 from .paper import (
+    ACTIONS,
     BOUNDED,
     FORMULA_HEADER,
     FORMULA_HEADER_FIELDS,
@@ -95,8 +96,9 @@ def _model_records(data: bytes, named: Optional[Model]) -> Iterator[Record]:
         yield _record(f"state {number} ({_state(number, states, named)})", data, at, LABEL, LABEL_FIELDS)
         at += label
     for number in range(min(transitions, (len(data) - at) // step)):
-        source, _, target = struct.unpack_from(TRANSITION, data, at)
-        title = f"transition {number} ({_state(source, states, named)} -> {_state(target, states, named)})"
+        source, weight, action, target = struct.unpack_from(TRANSITION, data, at)
+        by = (named or Model()).by(Transition(source, weight, target, action))
+        title = f"transition {number} ({_state(source, states, named)} -> {_state(target, states, named)}{by})"
         yield _record(title, data, at, TRANSITION, TRANSITION_FIELDS)
         at += step
 
@@ -109,7 +111,8 @@ def _row_text(data: bytes, at: int, named: Optional[Model]) -> str:
     operator = Operator(code)
     operands = tuple(Formula(Operator.PROPOSITION, proposition=row) for row in (left, right)[:OPERANDS[operator]])
     proposition = left if operator in PROPOSITIONS else 0
-    row = Formula(operator, operands, proposition, bound if operator in BOUNDED and bound != NO_BOUND else None)
+    action = right if operator in ACTIONS else None
+    row = Formula(operator, operands, proposition, bound if operator in BOUNDED and bound != NO_BOUND else None, action=action)
     known = named.propositions if named else []
 
     def name(number: int) -> str:
@@ -117,7 +120,7 @@ def _row_text(data: bytes, at: int, named: Optional[Model]) -> str:
             return f"row {number}"
         return known[number] if number < len(known) else plain_name(number)
 
-    return row.text(name)
+    return row.text(name, (named or Model()).action_name)
 
 
 def _formula_records(data: bytes, named: Optional[Model]) -> Iterator[Record]:

@@ -1,6 +1,6 @@
 """Reads document 01's text of formulas, with names for propositions.
 
-    true  false  idle  !idle  (x & y)  (x | y)  EX<=3 x  AX x  E[x U<=2 y]  A[x U y]
+    true  false  idle  !idle  (x & y)  (x | y)  EX<=3 x  AX x  EX#compile<=3 x  E[x U<=2 y]  A[x U y]
 """
 
 from __future__ import annotations
@@ -10,12 +10,14 @@ from typing import Callable, List, NamedTuple, Optional, Tuple
 
 from .formula import Formula
 from .mistakes import Mistake, Place
-from .names import FORMULA_WORDS, read_number
+from .names import FORMULA_WORDS, plain_action, read_number
 from .paper import LARGEST_BOUND, Operator
 
 _TOKEN = re.compile(r"[0-9]+|[A-Za-z_][A-Za-z0-9_]*|<=|[()\[\]&|!?]", re.ASCII)
+_ACTION = re.compile(r"#[A-Za-z0-9_]+", re.ASCII)
 # Signs from elsewhere, and how they are written here.
 _SIGNS = {
+    "#": "an action stands at once behind EX or AX, as EX#compile; a comment has a line of its own",
     **dict.fromkeys("<>=≤", "a bound is written <=3"),
     **dict.fromkeys("¬~", "a negation is written !idle"),
     "∧": "written (x & y)",
@@ -34,6 +36,11 @@ class _Token(NamedTuple):
     excerpt: str
 
 
+def _behind_next(found: List[_Token], line: int, at: int) -> bool:
+    """Whether the last word is EX or AX and ends right there."""
+    return bool(found) and found[-1].word in ("EX", "AX") and (found[-1].place.line, found[-1].place.column) == (line, at - 1)
+
+
 def _tokens(text: str, path: str) -> List[_Token]:
     found: List[_Token] = []
     lines = text.split("\n")
@@ -46,7 +53,7 @@ def _tokens(text: str, path: str) -> List[_Token]:
                 at += 1
                 continue
             place = Place(path, number, at + 1)
-            match = _TOKEN.match(line, at)
+            match = (_ACTION if _behind_next(found, number, at) and line[at] == "#" else _TOKEN).match(line, at)
             if match is None:
                 sign = "->" if line.startswith("->", at) else line[at]
                 more = f" ({_SIGNS[sign]})" if sign in _SIGNS else ""
@@ -60,10 +67,11 @@ def _tokens(text: str, path: str) -> List[_Token]:
 
 
 class _Parser:
-    def __init__(self, tokens: List[_Token], number_of: NumberOf, unknowns: int = 0) -> None:
+    def __init__(self, tokens: List[_Token], number_of: NumberOf, unknowns: int, action_of: NumberOf) -> None:
         self.tokens = tokens
         self.at = 0
         self.number_of = number_of
+        self.action_of = action_of
         self.unknowns = unknowns  # how many more ? may stand in place of a bound
         self.unknown_seen = False
 
@@ -101,6 +109,14 @@ class _Parser:
         except Mistake as mistake:
             raise self.fail(token, f"{mistake.words} (for no bound, leave <= out)") from None
 
+    def action(self) -> Optional[int]:
+        """The action behind EX or AX; none where none is written."""
+        if not self.peek().startswith("#"):
+            return None
+        token = self.next()
+        place = Place(token.place.path, token.place.line, (token.place.column or 0) + 1)
+        return self.action_of(token.word[1:], place, token.excerpt)
+
     def proposition(self, token: _Token) -> int:
         return self.number_of(token.word, token.place, token.excerpt)
 
@@ -118,8 +134,9 @@ class _Parser:
         if word == "(":
             return self.both(depth)
         if word in ("EX", "AX"):
-            bound = self.bound()
-            return _bounded(Operator[word], (self.formula(depth + 1),), bound)
+            action, bound = self.action(), self.bound()
+            operator = Operator[word if action is None else f"{word}_ACTION"]
+            return _bounded(operator, (self.formula(depth + 1),), bound, action)
         if word in ("E", "A"):
             return self.until(word, depth)
         if word and (word[0].isalpha() or word[0] == "_") and word != "U":
@@ -156,8 +173,8 @@ class _Parser:
         return _bounded(operator, (left, right), bound)
 
 
-def _bounded(operator: Operator, operands: Tuple[Formula, ...], bound: Optional[int]) -> Formula:
-    return Formula(operator, operands, bound=None if bound == _UNKNOWN else bound, unknown=bound == _UNKNOWN)
+def _bounded(operator: Operator, operands: Tuple[Formula, ...], bound: Optional[int], action: Optional[int] = None) -> Formula:
+    return Formula(operator, operands, bound=None if bound == _UNKNOWN else bound, unknown=bound == _UNKNOWN, action=action)
 
 
 def _brackets(sign: str) -> str:
@@ -168,12 +185,12 @@ def _found(token: _Token) -> str:
     return f"not '{token.word}'" if token.word else "and the text ends"
 
 
-def read_formula(text: str, path: str, number_of: NumberOf, unknowns: int = 0) -> Formula:
-    """Reads a formula; `number_of` gives the proposition that a word means. So many ? may stand for bounds.
+def read_formula(text: str, path: str, number_of: NumberOf, unknowns: int = 0, action_of: NumberOf = plain_action) -> Formula:
+    """Reads a formula; `number_of` gives the proposition that a word means, `action_of` the action. So many ? may stand for bounds.
 
     Lines that start with # are comments. The first mistake is raised with its line and column.
     """
-    parser = _Parser(_tokens(text, path), number_of, unknowns)
+    parser = _Parser(_tokens(text, path), number_of, unknowns, action_of)
     formula = parser.formula()
     token = parser.next()
     if token.word in ("&", "|"):

@@ -13,7 +13,7 @@ from typing import Dict, List, Optional
 
 from .asking import Asker
 from .mistakes import Mistake, Place
-from .paper import LARGEST_BOUND, UNTILS, Operator
+from .paper import ALL_NEXTS, LARGEST_BOUND, UNTILS
 from .progress import Progress
 from .question import Question
 from .settled import Values
@@ -45,7 +45,7 @@ class Search:
     @property
     def falls(self) -> bool:
         """Whether a larger bound may make it fail."""
-        return self.operator is Operator.AX
+        return self.operator in ALL_NEXTS
 
     def will_do(self, bound: int, state: int) -> bool:
         """What the proved checker says with a bound."""

@@ -3,6 +3,7 @@
     propositions idle, safe      # optional; if it stands, it lists them all
     state cold: idle, safe       # or: cold: idle, safe
     cold -> hot 12               # from, to, weight
+    cold -> hot 12 #compile      # and an action, by its name or its number
     question soon: E[true U<=12 safe]
     expect cold: soon            # or a formula; expect not hot: ..; expect cold, hot: ..; expect *: ..
 """
@@ -10,18 +11,23 @@
 from __future__ import annotations
 
 import re
-from dataclasses import dataclass, field
+from dataclasses import dataclass, field, replace
+from itertools import count
 from typing import Dict, List, Optional, Tuple
 
 from .mistakes import Mistake, Place
 from .model import Model, Transition
-from .names import check_name, check_proposition_name, check_state_name, hint, read_number
-from .paper import LARGEST_WEIGHT
+from .names import by_digits, check_name, check_proposition_name, check_state_name, hint, read_number
+from .paper import LARGEST_ACTION, LARGEST_WEIGHT
 
 # A name of its own is expected behind the word, so that a state may be called expect or question.
 _ASKED = re.compile(r"(question|expect)\s+(?!->)([^:]*?)\s*:(.*)", re.S)
 _EVERY = "*"
 _STATE = re.compile(r"(?:state\s+)?([^\s:]+)\s*(?::(.*))?")
+# What stands before a # that is no comment's, if a name or a number follows it at once.
+_WEIGHED = re.compile(r"[^#]*->\s*[^\s#]+\s+[^\s#]+\s*(#.*)?", re.S)
+_NEXT = re.compile(r".*(?<![A-Za-z0-9_])[EA]X", re.S)
+_ACTION = re.compile(r"[A-Za-z0-9_]+", re.ASCII)
 
 
 @dataclass(frozen=True)
@@ -68,6 +74,7 @@ class _Reader:
         self.label_lines: List[Tuple[int, int, int]] = []  # state, proposition, line
         self.questions: Dict[str, Written] = {}
         self.expected: List[Tuple[str, Written]] = []  # the words before the colon, and those behind it
+        self.acting: List[Tuple[int, str, int]] = []  # each transition whose action has a name, that name, its line
 
     def place(self, line: int) -> Place:
         return Place(self.model.path, line)
@@ -133,6 +140,7 @@ class _Reader:
 
     def transition_line(self, text: str, line: int) -> None:
         left, _, right = text.partition("->")
+        right, has_action, action = right.partition("#")
         words = right.split()
         if not left.strip() or len(words) != 2:
             missing = " (its weight is missing)" if left.strip() and len(words) == 1 else ""
@@ -140,7 +148,32 @@ class _Reader:
         source = self.state(left.strip(), line)
         target = self.state(words[0], line)
         weight = read_number(words[1], "weight", LARGEST_WEIGHT, self.place(line))
-        self.model.transitions.append(Transition(source, weight, target))
+        number = self.action(action.strip(), text, line) if has_action else 0
+        self.model.transitions.append(Transition(source, weight, target, number))
+
+    def action(self, word: str, text: str, line: int) -> int:
+        """The number of an action; 0 for now where it has a name."""
+        place = self.place(line)
+        if not _ACTION.fullmatch(word):
+            raise Mistake(place, f"not a transition: '{text}' (one action can stand behind the weight, as: cold -> hot 12 #compile; a comment has a blank behind its #)")
+        if by_digits(word):
+            return read_number(word, "action", LARGEST_ACTION, place)
+        check_name(word, "an action", place)
+        self.acting.append((len(self.model.transitions), word, line))
+        return 0
+
+    def number_actions(self) -> None:
+        """Names are numbered from 1, as they are first mentioned; numbers that the file gives by themselves are passed over."""
+        steps = self.model.transitions
+        given = {step.action for step in steps}
+        free = (number for number in count(1) if number not in given)
+        numbers: Dict[str, int] = {}
+        for at, name, line in self.acting:
+            number = numbers[name] = numbers.get(name) or next(free)
+            if number > LARGEST_ACTION:
+                raise Mistake(self.place(line), f"the action {name} would have the number {number}: at most {LARGEST_ACTION}")
+            steps[at] = replace(steps[at], action=number)
+        self.model.actions = {number: name for name, number in numbers.items()}
 
     def asked_line(self, kind: str, named: str, formula: Written) -> None:
         """A question or an expectation. What it names may stand below it, so it is looked at in the end."""
@@ -197,6 +230,7 @@ class _Reader:
     def end(self) -> Model:
         """A state's name holds in that state alone, so labels that say otherwise are mistakes."""
         model = self.model
+        self.number_actions()
         for state, number, line in self.label_lines:
             name = model.propositions[number]
             if name in self.numbers and name != model.states[state]:
@@ -207,11 +241,21 @@ class _Reader:
         return model
 
 
+def _content(line: str) -> str:
+    """A line without its comment. A # starts one, but where a name or a number follows it at once behind a transition's weight, or
+    between EX or AX and that name or number."""
+    for found in re.finditer("#", line):
+        before, behind = line[: found.start()], line[found.end():]
+        if not (_ACTION.match(behind) and (_WEIGHED.fullmatch(before) or _NEXT.fullmatch(before))):
+            return before
+    return line
+
+
 def read_sheet(text: str, path: str) -> Sheet:
     """Reads a model's file; the first mistake is raised with its line. Formulas are left as text."""
     reader = _Reader(path)
     for line, whole in enumerate(text.split("\n"), 1):
-        content = whole.partition("#")[0].strip()
+        content = _content(whole).strip()
         if content:
             reader.line(content, line, whole)
     return reader.sheet()
@@ -231,5 +275,5 @@ def write_model(model: Model) -> str:
         labels = ", ".join(model.label_names(state))
         lines.append(f"state {name}: {labels}" if labels else f"state {name}")
     for step in model.transitions:
-        lines.append(f"{model.states[step.source]} -> {model.states[step.target]} {step.weight}")
+        lines.append(f"{model.states[step.source]} -> {model.states[step.target]} {step.weight}{model.by(step)}")
     return "".join(line + "\n" for line in lines)

@@ -9,6 +9,7 @@ from typing import Iterable, Optional
 
 from .mistakes import Mistake, Place
 from .model import Model
+from .paper import LARGEST_ASKED
 
 _WORD = re.compile(r"[A-Za-z_][A-Za-z0-9_]*", re.ASCII)
 _BY_NUMBER = re.compile(r"p(0|[1-9][0-9]*)", re.ASCII)
@@ -75,6 +76,11 @@ def read_number(word: str, what: str, most: int, place: Place) -> int:
     return int(word)
 
 
+def by_digits(word: str) -> bool:
+    """Whether a word behind # gives an action by its number."""
+    return word[0] in "0123456789"
+
+
 def hint(word: str, known: Iterable[str], listed: Iterable[str]) -> str:
     """' (did you mean ..?)' where a known name is near, whatever its capitals; else what there is."""
     by_small = {name.lower(): name for name in known}
@@ -120,6 +126,17 @@ class Names:
         names = model.propositions + model.states
         raise Mistake(place, words + hint(word, ["true", "false"] + names, names), excerpt)
 
+    def action(self, word: str, place: Place, excerpt: Optional[str] = None) -> int:
+        """The number of the action that a word behind EX# or AX# means."""
+        if by_digits(word):
+            return plain_action(word, place, excerpt)
+        numbers = {name: number for number, name in self.model.actions.items()}
+        if word not in numbers:
+            raise Mistake(place, f"no transition has the action {word}{hint(word, numbers, numbers)}", excerpt)
+        if numbers[word] > LARGEST_ASKED:
+            raise Mistake(place, f"the action {word} has the number {numbers[word]}, and a formula can ask for 0 to {LARGEST_ASKED} only (mention it earlier in the model)", excerpt)
+        return numbers[word]
+
     def name(self, number: int) -> str:
         """The name of a proposition; p and the number for one that the model doesn't have."""
         if number < len(self.model.propositions):
@@ -130,6 +147,14 @@ class Names:
 def plain_name(number: int) -> str:
     """Document 01's text of a proposition."""
     return f"p{number}"
+
+
+def plain_action(word: str, place: Place, excerpt: Optional[str] = None) -> int:
+    """Reads the number of an action in a formula."""
+    try:
+        return read_number(word, "action", LARGEST_ASKED, place)
+    except Mistake as mistake:
+        raise Mistake(place, mistake.words, excerpt) from None
 
 
 def plain_number(word: str, place: Place, excerpt: Optional[str] = None) -> int:

@@ -5,7 +5,8 @@ from __future__ import annotations
 from enum import IntEnum
 from typing import Dict, NamedTuple, Tuple
 
-VERSION = 1
+MODEL_VERSION = 2  # since transitions carry an action
+FORMULA_VERSION = 1
 MODEL_KIND = 2
 FORMULA_KIND = 3
 
@@ -14,8 +15,8 @@ MODEL_HEADER = ">IBBHBI"
 MODEL_HEADER_FIELDS = ("length", "version", "kind", "states", "propositions", "transitions")
 LABEL = ">I"
 LABEL_FIELDS = ("label",)
-TRANSITION = ">HIH"
-TRANSITION_FIELDS = ("from", "weight", "to")
+TRANSITION = ">HIHH"
+TRANSITION_FIELDS = ("from", "weight", "action", "to")
 FORMULA_HEADER = ">IBBB"
 FORMULA_HEADER_FIELDS = ("length", "version", "kind", "rows")
 ROW = ">BBBBI"
@@ -24,6 +25,8 @@ ROW_FIELDS = ("operator", "left", "right", "zero", "bound")
 NO_BOUND = 4_294_967_295
 LARGEST_WEIGHT = 4_294_967_295
 LARGEST_BOUND = NO_BOUND - 1
+LARGEST_ACTION = 65_535
+LARGEST_ASKED = 255  # the largest action that a row can ask for
 
 # Each count, the least and the most that is allowed.
 LIMITS: Dict[str, Tuple[int, int]] = {
@@ -61,10 +64,15 @@ class Operator(IntEnum):
     AX = 7
     E_UNTIL = 8
     A_UNTIL = 9
+    EX_ACTION = 10
+    AX_ACTION = 11
 
 
 PROPOSITIONS = (Operator.PROPOSITION, Operator.NOT_PROPOSITION)
-NEXTS = (Operator.EX, Operator.AX)
+SOME_NEXTS = (Operator.EX, Operator.EX_ACTION)
+ALL_NEXTS = (Operator.AX, Operator.AX_ACTION)
+NEXTS = SOME_NEXTS + ALL_NEXTS
+ACTIONS = (Operator.EX_ACTION, Operator.AX_ACTION)  # right holds the action
 UNTILS = (Operator.E_UNTIL, Operator.A_UNTIL)
 BOUNDED = NEXTS + UNTILS
 
@@ -80,6 +88,8 @@ OPERANDS: Dict[Operator, int] = {
     Operator.AX: 1,
     Operator.E_UNTIL: 2,
     Operator.A_UNTIL: 2,
+    Operator.EX_ACTION: 1,
+    Operator.AX_ACTION: 1,
 }
 
 

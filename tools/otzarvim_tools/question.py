@@ -29,10 +29,14 @@ class Question:
         return replace(self, formula=self.formula.at(bound))
 
     def text(self) -> str:
-        return self.formula.text(self.names.name)
+        return self.said(self.formula)
+
+    def said(self, formula: Formula) -> str:
+        """The text of a formula over the same model, in its names."""
+        return formula.text(self.names.name, self.model.action_name)
 
 
 def read_question(model: Model, text: str, path: str, raw: bool = False, unknowns: int = 0) -> Question:
     """Reads the text of a formula over a model's names. Raw: the program is to find what is wrong."""
     names = Names(model, raw)
-    return Question(names, read_formula(text, path, names.number, unknowns), Place(path))
+    return Question(names, read_formula(text, path, names.number, unknowns, names.action), Place(path))

@@ -6,16 +6,17 @@ from dataclasses import dataclass
 from typing import Iterator, List
 
 from .formula import Formula
-from .model import Model
+from .model import Model, Transition
 from .paper import (
     GRAPH_COVERS,
     GRAPH_HYPEREDGES,
     GRAPH_NODES,
     GRAPH_TARGETS,
     GRAPH_TARGETS_OF_ONE,
-    NO_BOUND,
+    ALL_NEXTS,
     PROGRAM_GRAPH_ROOM,
     PROPOSITIONS,
+    SOME_NEXTS,
     UNTILS,
     Operator,
 )
@@ -64,15 +65,15 @@ def graph_size(model: Model, formula: Formula) -> Size:
     """The counts of the graph that document 01 builds from a model and a formula."""
     rows = formula.rows()
     states = range(len(model.states))
-    weights: List[List[int]] = [[] for _ in states]
+    leads: List[List[Transition]] = [[] for _ in states]
     for step in model.transitions:
-        weights[step.source].append(step.weight)
+        leads[step.source].append(step)
     untils = sum(row.operator in UNTILS for row in rows)
     size = Size(nodes=len(model.states) * (len(rows) + untils))
     for row in rows:
         for state in states:
-            within = sum(row.bound == NO_BOUND or weight <= row.bound for weight in weights[state])
-            degree = len(weights[state])
+            seen = sum(map(row.sees, leads[state]))
+            degree = len(leads[state])
             if row.operator == Operator.TRUE:
                 size.add(0)
             elif row.operator in PROPOSITIONS:
@@ -82,10 +83,10 @@ def graph_size(model: Model, formula: Formula) -> Size:
                 size.add(2)
             elif row.operator == Operator.OR:
                 size.add(1, 1)
-            elif row.operator == Operator.EX and within:
-                size.add(*[1] * within)
-            elif row.operator == Operator.AX:
-                size.add(within)
+            elif row.operator in SOME_NEXTS and seen:
+                size.add(*[1] * seen)
+            elif row.operator in ALL_NEXTS:
+                size.add(seen)
             elif row.operator == Operator.E_UNTIL:
                 size.covers += 1
                 size.add(1, *[2] * degree)

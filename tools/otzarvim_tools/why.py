@@ -7,8 +7,8 @@ from dataclasses import dataclass, field
 from typing import List, Optional, Tuple
 
 from .mistakes import Mistake, Place
-from .paper import Operator
-from .model import Transition
+from .paper import ALL_NEXTS, NEXTS, SOME_NEXTS, Operator
+from .model import Model, Transition
 from .runs import Run, Runs
 from .settled import Values
 
@@ -33,12 +33,13 @@ class Explainer:
         self.values = values
         self.question = values.question
         self.names = values.question.model.states
+        self.rows = values.question.formula.rows()
         self.leads: List[List[Transition]] = [[] for _ in self.names]
         for step in self.question.model.transitions:
             self.leads[step.source].append(step)
 
     def text(self, row: int) -> str:
-        return self.values.parts[row].text(self.question.names.name)
+        return self.question.said(self.values.parts[row])
 
     def steps(self, state: int) -> List[Step]:
         """The steps from the root on, each claim once; claims that can be read off a state's label are no steps but the first."""
@@ -59,7 +60,7 @@ class Explainer:
             return self._label(row, state)
         if operator in (Operator.AND, Operator.OR):
             return self._both(row, state)
-        if operator in (Operator.EX, Operator.AX):
+        if operator in NEXTS:
             return self._next(row, state)
         return self._exists(row, state) if operator is Operator.E_UNTIL else self._always(row, state)
 
@@ -83,15 +84,16 @@ class Explainer:
         return Step((row, state), f"{what} {verb} here", needs=[(operand, state) for operand in shown])
 
     def _next(self, row: int, state: int) -> Step:
-        """Of EX and AX: one transition where one is enough, else all within the bound."""
+        """Of EX and AX: one transition where one is enough, else all that they look at."""
         part, (operand,) = self.values.parts[row], self.values.operands(row)
         holds, name, inner = self.values.holds(row, state), self.names[state], self.text(operand)
-        within = [step for step in self.leads[state] if part.bound is None or step.weight <= part.bound]
+        within = [step for step in self.leads[state] if self.rows[row].sees(step)]
+        by = "" if part.action is None else f" #{self.question.model.action_name(part.action)}"
         limit = "" if part.bound is None else f" of weight at most {part.bound}"
         if not within:
-            self._insist(holds == (part.operator is Operator.AX), f"{self.text(row)} is otherwise in {name}, which has no transition for it")
-            return Step((row, state), f"{name} has no transition{limit}")
-        is_one = holds == (part.operator is Operator.EX)  # one transition decides
+            self._insist(holds == (part.operator in ALL_NEXTS), f"{self.text(row)} is otherwise in {name}, which has no transition for it")
+            return Step((row, state), f"{name} has no transition{by}{limit}")
+        is_one = holds == (part.operator in SOME_NEXTS)  # one transition decides
         if is_one:
             step = next((step for step in within if self.values.holds(operand, step.target) == holds), None)
             self._insist(step is not None, f"a transition from {name} decides {self.text(row)}, and none does")
@@ -101,7 +103,7 @@ class Explainer:
             return Step((row, state), f"this transition leads to where {inner} {'holds' if holds else 'does not hold'}", run, needs=[(operand, step.target)])
         targets = list(dict.fromkeys(step.target for step in within))
         self._insist(all(self.values.holds(operand, target) == holds for target in targets), f"all transitions from {name} decide {self.text(row)}, and one doesn't")
-        words = f"{'each' if holds else 'no'} transition from {name}{limit} leads to where {inner} holds: {', '.join(self.names[target] for target in targets)}"
+        words = f"{'each' if holds else 'no'} transition{by} from {name}{limit} leads to where {inner} holds: {', '.join(self.names[target] for target in targets)}"
         return Step((row, state), words, needs=[(operand, target) for target in targets])
 
     def _check_step(self, run: Run) -> None:
@@ -187,16 +189,22 @@ class Explainer:
             raise Mistake(Place("the library"), f"its values contradict each other: they say that {said}")
 
 
-def table(run: Run, names: List[str]) -> List[str]:
-    """A run as a table: the state at each position, the weight that led there, and the sum so far; -> marks where it starts again."""
-    rows = [("state", "weight", "sum"), (names[run.start], "", "0")]
+def table(run: Run, model: Model) -> List[str]:
+    """A run as a table: the state at each position, the weight that led there, and the sum so far; -> marks where it starts again. Where a
+    step has an action, the actions stand behind."""
+    rows = [("state", "weight", "sum", "by"), (model.states[run.start], "", "0", "")]
     total = 0
     for step in run.steps:
         total += step.weight
-        rows.append((names[step.target], str(step.weight), str(total)))
+        rows.append((model.states[step.target], str(step.weight), str(total), model.by(step).strip()))
     widths = [max(len(row[column]) for row in rows) for column in range(3)]
     again = None if run.again is None else run.again + 1
-    return [f"{'->' if number == again else '  '} {state:{widths[0]}}  {weight:>{widths[1]}}  {so_far:>{widths[2]}}" for number, (state, weight, so_far) in enumerate(rows)]
+    acts = any(step.action for step in run.steps)
+    lines = []
+    for number, (state, weight, so_far, by) in enumerate(rows):
+        line = f"{'->' if number == again else '  '} {state:{widths[0]}}  {weight:>{widths[1]}}  {so_far:>{widths[2]}}"
+        lines.append(f"{line}  {by}" if acts else line)
+    return lines
 
 
 def render(explainer: Explainer, state: int, steps: List[Step], most: Optional[int]) -> str:
@@ -214,7 +222,7 @@ def render(explainer: Explainer, state: int, steps: List[Step], most: Optional[i
         says = "satisfies" if values.holds(row, at) else "doesn't satisfy"
         lines += ["", f"{number}. {names[at]} {says} {explainer.text(row)}: {step.words}"]
         if step.run is not None:
-            lines += [f"   {line}".rstrip() for line in table(step.run, names)]
+            lines += [f"   {line}".rstrip() for line in table(step.run, explainer.question.model)]
         if step.ending:
             lines.append(f"      {step.ending}")
     if most is not None and len(steps) > most:

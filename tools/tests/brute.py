@@ -4,7 +4,7 @@ shortest and the longest paths. No graph, no rounds, no values; only the tree of
 A model is a dict from a state to its (weight, next state) pairs. A cost of None: never.
 """
 
-from otzarvim_tools.paper import Operator as O
+from otzarvim_tools.paper import ALL_NEXTS, SOME_NEXTS, Operator as O
 
 
 def cheapest(leads, left, right, state, seen=()):
@@ -53,10 +53,11 @@ def until(formula):
     return cheapest if formula.operator is O.E_UNTIL else costliest
 
 
-def satisfying(leads, labels, formula):
-    """The states that satisfy a formula."""
-    inner = [satisfying(leads, labels, operand) for operand in formula.operands]
-    operator, bound = formula.operator, formula.bound
+def satisfying(model, formula):
+    """The states that satisfy a formula. EX and AX of an action: on the model that has the transitions of that action alone."""
+    inner = [satisfying(model, operand) for operand in formula.operands]
+    operator, bound, labels = formula.operator, formula.bound, model.labels
+    leads = leads_of(model, formula.action)
 
     def within(cost):
         return cost is not None and (bound is None or cost <= bound)
@@ -73,15 +74,17 @@ def satisfying(leads, labels, formula):
         return inner[0] & inner[1]
     if operator is O.OR:
         return inner[0] | inner[1]
-    if operator is O.EX:
+    if operator in SOME_NEXTS:
         return {state for state in leads if any(within(weight) and after in inner[0] for weight, after in leads[state])}
-    if operator is O.AX:
+    if operator in ALL_NEXTS:
         return {state for state in leads if all(not within(weight) or after in inner[0] for weight, after in leads[state])}
     return {state for state in leads if within(until(formula)(leads, *inner, state))}
 
 
-def leads_of(model):
+def leads_of(model, action=None):
+    """All transitions, or those of an action."""
     leads = {state: [] for state in range(len(model.states))}
     for step in model.transitions:
-        leads[step.source].append((step.weight, step.target))
+        if action is None or step.action == action:
+            leads[step.source].append((step.weight, step.target))
     return leads

@@ -1,5 +1,5 @@
 #!/usr/bin/env python3
-"""A stand-in for the program, written from document 01 and requests 1 and 4 alone; it shares nothing with the package.
+"""A stand-in for the program, written from document 01 and requests 1, 4 and 7 alone; it shares nothing with the package.
 
 It gives every refusal that the program can give but those of its text and value rooms and its budget, which suffice.
 """
@@ -21,8 +21,8 @@ def read(data):
     labels = [number(data, 13 + 4 * a, 4) for a in range(count)]
     leads = [[] for _ in range(count)]
     for i in range(steps):
-        at = 13 + 4 * count + 8 * i
-        leads[number(data, at, 2)].append((number(data, at + 2, 4), number(data, at + 6, 2)))
+        at = 13 + 4 * count + 10 * i
+        leads[number(data, at, 2)].append((number(data, at + 2, 4), number(data, at + 6, 2), number(data, at + 8, 2)))
     rows = []
     for r in range(data[end + 6]):
         at = end + 7 + 8 * r
@@ -36,8 +36,8 @@ def fault_of_model(data):
         return 2, 0
     states, propositions, transitions = number(data, 6, 2), data[8], number(data, 9, 4)
     for wrong, refused, at in (
-        (data[4] != 1, 3, 4), (data[5] != 2, 3, 5), (not 1 <= states <= 256, 4, 6), (propositions > 32, 4, 8), (transitions > 65535, 4, 9),
-        (len(data) != 13 + 4 * states + 8 * transitions, 2, 0),
+        (data[4] != 2, 3, 4), (data[5] != 2, 3, 5), (not 1 <= states <= 256, 4, 6), (propositions > 32, 4, 8), (transitions > 65535, 4, 9),
+        (len(data) != 13 + 4 * states + 10 * transitions, 2, 0),
     ):
         if wrong:
             return refused, at
@@ -45,9 +45,9 @@ def fault_of_model(data):
         if number(data, at, 4) >> propositions:
             return 10, at
     before = 0
-    for at in range(13 + 4 * states, len(data), 8):
+    for at in range(13 + 4 * states, len(data), 10):
         source = number(data, at, 2)
-        for wrong, refused, place in ((source >= states, 6, at), (source < before, 5, at), (number(data, at + 6, 2) >= states, 6, at + 6)):
+        for wrong, refused, place in ((source >= states, 6, at), (source < before, 5, at), (number(data, at + 8, 2) >= states, 6, at + 8)):
             if wrong:
                 return refused, place
         before = source
@@ -67,9 +67,9 @@ def fault_of_formula(data, propositions):
         operator, left, right, zero = data[at:at + 4]
         binary = operator in (4, 5, 8, 9)
         for wrong, refused, place in (
-            (operator > 9, 10, at),
+            (operator > 11, 10, at),
             (operator < 2 and left, 10, at + 1),
-            (not binary and right, 10, at + 2),
+            (operator < 10 and not binary and right, 10, at + 2),
             (zero, 10, at + 3),
             (operator < 6 and number(data, at + 4, 4), 10, at + 4),
             (operator in (2, 3) and left >= propositions, 6, at + 1),
@@ -90,20 +90,21 @@ def text(rows, r):
         return ["true", "false", "p%d" % left, "!p%d" % left][operator]
     if operator < 6:
         return "(%s %s %s)" % (text(rows, left), "&|"[operator - 4], text(rows, right))
-    if operator < 8:
-        return "%sX%s %s" % ("EA"[operator - 6], within, text(rows, left))
+    if operator in (6, 7, 10, 11):
+        by = "#%d" % right if operator >= 10 else ""
+        return "%sX%s%s %s" % ("EA"[operator % 2], by, within, text(rows, left))
     return "%s[%s U%s %s]" % ("EA"[operator - 8], text(rows, left), within, text(rows, right))
 
 
 def graph(labels, leads, rows):
     """For each node its hyperedges, lists of (weight, node), and its cover edge (bound, node) or None."""
     s = len(labels)
-    untils = [r for r, row in enumerate(rows) if row[0] >= 8]
+    untils = [r for r, row in enumerate(rows) if row[0] in (8, 9)]
     hypers = [[] for _ in range(s * (len(rows) + len(untils)))]
     covers = [None] * len(hypers)
     for r, (operator, left, right, bound) in enumerate(rows):
         for a in range(s):
-            near = [(w, b) for w, b in leads[a] if bound == NO_BOUND or w <= bound]
+            near = [b for w, by, b in leads[a] if (bound == NO_BOUND or w <= bound) and (operator < 10 or by == right)]
             node, l, q = a + s * r, a + s * left, a + s * right
             if operator < 4:
                 holds = [True, False, labels[a] >> left & 1, not labels[a] >> left & 1][operator]
@@ -112,14 +113,14 @@ def graph(labels, leads, rows):
                 hypers[node] = [[(0, l), (0, q)]]
             elif operator == 5:
                 hypers[node] = [[(0, l)], [(0, q)]]
-            elif operator == 6:
-                hypers[node] = [[(0, b + s * left)] for _, b in near]
-            elif operator == 7:
-                hypers[node] = [[(0, b + s * left) for _, b in near]]
+            elif operator in (6, 10):
+                hypers[node] = [[(0, b + s * left)] for b in near]
+            elif operator in (7, 11):
+                hypers[node] = [[(0, b + s * left) for b in near]]
             else:
                 base = s * (len(rows) + untils.index(r))
                 covers[node] = (bound, a + base)
-                steps = [(w, b + base) for w, b in leads[a]]
+                steps = [(w, b + base) for w, _, b in leads[a]]
                 rest = [[(0, l), step] for step in steps] if operator == 8 else [[(0, l)] + steps]
                 # where nothing follows, the first stands alone
                 hypers[a + base] = [[(0, q)]] + (rest if steps else [])

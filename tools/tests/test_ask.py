@@ -118,11 +118,11 @@ class Asking(Case):
     def test_too_long_for_the_program(self):
         long = self.write("long.otz", "a -> a 1\n" * 1100)
         status, _, err = self.otz("ask", long, "true", "--program", FAKE)
-        self.assertEqual((status, err), (2, f"{long}: model and formula take 8,832 bytes together: the program takes 8,192\n"))
+        self.assertEqual((status, err), (2, f"{long}: model and formula take 11,032 bytes together: the program takes 8,192\n"))
         status, out, _ = self.otz("ask", long, "true", "--program", FAKE, "--raw")
         self.assertEqual(status, 1)
         self.assertIn("refused 2, LENGTH: ", out)
-        self.assertIn("8,832 bytes together", out)
+        self.assertIn("11,032 bytes together", out)
 
     def test_states_in_a_formula_count_as_propositions(self):
         full = self.write("full.otz", "a: " + ", ".join(f"x{i}" for i in range(32)) + "\na -> a 1\n")
@@ -159,7 +159,8 @@ class Asking(Case):
         # a program that finds a fault where there is none: what stands there in each message is told
         for offset, said in (
             (13, ["byte 13 of the model: state 0 (zero), field label, is 5"]),
-            (35, ["byte 35 of the model: transition 1 (zero -> one), field to, is 1"]),
+            (37, ["byte 37 of the model: transition 1 (zero -> one), field action, is 0"]),
+            (39, ["byte 39 of the model: transition 1 (zero -> one), field to, is 1"]),
             (25, ["byte 25 of the formula: row 2 (E[row 0 U<=2 row 1]), field right, is 1"]),
             (8, ["byte 8 of the model: header, field propositions, is 3", "byte 8 of the formula: row 0 (zero), field left, is 2"]),
             (22, []),
@@ -174,11 +175,11 @@ class Asking(Case):
         self.assertEqual((status, out.splitlines()[1:]), (1, ["the graph would have 4,352 nodes: at most 4,096 are allowed"]))
         status, out, _ = self.otz("ask", ring, "EX " * 15 + "s0", "--program", FAKE)
         self.assertEqual((status, out.splitlines()[-1]), (0, "s255  no"))
-        crowd = self.write("crowd.otz", "s0 -> s0 1\n" * 900)
-        status, out, _ = self.otz("ask", crowd, "E[E[E[E[E[true U s0] U s0] U s0] U s0] U s0]", "--program", FAKE)
+        crowd = self.write("crowd.otz", "s0 -> s0 1\n" * 750)
+        status, out, _ = self.otz("ask", crowd, "E[E[E[E[E[E[true U s0] U s0] U s0] U s0] U s0] U s0]", "--program", FAKE)
         self.assertEqual((status, out.splitlines()), (1, [
             "refused 9, ROOM: the room for the graph, the text or the values is too small",
-            "the graph would take 72,128 bytes: the program has 65,536",
+            "the graph would take 72,150 bytes: the program has 65,536",
         ]))
 
 
@@ -198,16 +199,37 @@ class Files(Case):
         self.otz("compile", self.write("both.otz", text), "-o", again)
         self.assertTrue(out.read_bytes().startswith(again.read_bytes()))
 
+    def test_actions_come_back_as_numbers(self):
+        path, out = self.write("m.otz", "a -> b 3 #go\nb -> a 2\nb -> b 1 #300\n"), self.folder / "m.bin"
+        self.otz("compile", path, "EX#go<=3 AX#255 true", "-o", out)
+        _, text, _ = self.otz("show", out)
+        self.assertEqual(text, "state s0\nstate s1\ns0 -> s1 3 #1\ns1 -> s0 2\ns1 -> s1 1 #300\n# formula: EX#1<=3 AX#255 true\n")
+        again = self.folder / "again.bin"
+        self.otz("compile", self.write("shown.otz", text), "EX#1<=3 AX#255 true", "-o", again)
+        self.assertEqual(again.read_bytes(), out.read_bytes())
+
+    def test_the_programs_text_is_told_in_the_names_of_actions(self):
+        path = self.write("m.otz", "a -> b 3 #go\nb -> a 2 #back\n")
+        for asked, plain in (("EX#back a", "EX#2 p0"), ("AX#go<=3 b", "AX#1<=3 p0"), ("EX#9 true", "EX#9 true")):
+            status, out, _ = self.otz("ask", path, asked, "--program", FAKE)
+            self.assertEqual((status, out.splitlines()[:2]), (0, [f"formula  {asked}", f"message  {plain}"]))
+        canned = self.script("other", "#!/bin/sh\ncat >/dev/null\nprintf 'EX#1 p0\\nrounds 1\\n0 no\\n1 no\\n'\n")
+        status, _, err = self.otz("ask", path, "EX#back a", "--program", canned)
+        self.assertEqual(status, 2)
+        self.assertIn("answered another formula: EX#1 p0", err)
+
     def test_damaged_bytes_are_marked(self):
-        names, out = self.write("m.otz", "cold -> hot 12\nhot -> cold 3\ncold: idle\n"), self.folder / "m.bin"
-        self.otz("compile", names, "EX idle", "-o", out)
+        names, out = self.write("m.otz", "cold -> hot 12 #warm\nhot -> cold 3\ncold: idle\n"), self.folder / "m.bin"
+        self.otz("compile", names, "AX#warm idle", "-o", out)
         good = out.read_bytes()
         for at, byte, words, said in (
-            (28, 2, (), "byte 27 of the model, transition 0 (s0 -> ?), field to: a transition to state 2 of 2 (refusal 6, NAME)\n    21  0000 0000000C 0002\n                      ^^^^\n"),
-            (28, 2, ("--names", names), "byte 27 of the model, transition 0 (cold -> ?), field to: a transition to state 2 of 2 (refusal 6, NAME)\n    21  0000 0000000C 0002\n                      ^^^^\n"),
-            (4, 7, (), "byte 4 of the model, header, field version: version 7, not 1 (refusal 3, VERSION)\n    0  00000025 07 02 0002 01 00000002\n                ^^\n"),
-            (37 + 11, 1, ("--names", names), "byte 11 of the formula (48 of the file), row 0 (idle), field bound: row 0 has 16777216 in a field that it doesn't use (refusal 10, FORM)\n    7  02 00 00 00 01000000\n                   ^^^^^^^^\n"),
-            (3, 36, (), "in the model: its counts ask for 37 bytes and there are 36 (refusal 2, LENGTH)\n"),
+            (30, 2, (), "byte 29 of the model, transition 0 (s0 -> ? #1), field to: a transition to state 2 of 2 (refusal 6, NAME)\n    21  0000 0000000C 0001 0002\n                           ^^^^\n"),
+            (30, 2, ("--names", names), "byte 29 of the model, transition 0 (cold -> ? #warm), field to: a transition to state 2 of 2 (refusal 6, NAME)\n    21  0000 0000000C 0001 0002\n                           ^^^^\n"),
+            (40, 2, ("--names", names), "byte 39 of the model, transition 1 (hot -> ?), field to: a transition to state 2 of 2 (refusal 6, NAME)\n    31  0001 00000003 0000 0002\n                           ^^^^\n"),
+            (4, 1, (), "byte 4 of the model, header, field version: version 1, not 2 (refusal 3, VERSION)\n    0  00000029 01 02 0002 01 00000002\n                ^^\n"),
+            (41 + 11, 1, ("--names", names), "byte 11 of the formula (52 of the file), row 0 (idle), field bound: row 0 has 16777216 in a field that it doesn't use (refusal 10, FORM)\n    7  02 00 00 00 01000000\n                   ^^^^^^^^\n"),
+            (41 + 18, 1, ("--names", names), "byte 18 of the formula (59 of the file), row 1 (AX#warm row 0), field zero: row 1 has 1 in a field that it doesn't use (refusal 10, FORM)\n    15  0B 00 01 01 FFFFFFFF\n                 ^^\n"),
+            (3, 40, (), "in the model: its counts ask for 41 bytes and there are 40 (refusal 2, LENGTH)\n"),
         ):
             damaged = self.write("damaged", good[:at] + bytes([byte]) + good[at + 1:])
             self.assertEqual(self.otz("show", damaged, *words), (2, "", f"{damaged}: {said}"), at)

@@ -24,6 +24,10 @@ class Drawing(Case):
             "}\n",
         )
 
+    def test_actions_stand_behind_the_weights(self):
+        text = draw(model("a -> b 3 #go\nb -> a 4 #7\nb -> b 5 #0\na -> a 6"), Run(0, (model("a -> b 3 #go").transitions[0],)))
+        self.assertEqual([line.split("[")[1] for line in text.splitlines() if "->" in line], ['label="3 #go", style=bold, penwidth=3];', 'label="4 #7"];', 'label="5"];', 'label="6"];'])
+
     def test_quotes_in_a_files_name(self):
         read = model("a -> a 1")
         read.path = 'the "old" one.otz'

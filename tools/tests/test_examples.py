@@ -30,6 +30,11 @@ LEADS = {
     "retired": [],
 }
 ALL = set(LEADS)
+EVENTS = {
+    "load": ("cold", "interpreted"), "compile": ("hot", "speculated"), "give_up": ("hot", "interpreted"), "retire": ("hot", "retired"),
+    "stay": ("speculated", "speculated"), "fail": ("speculated", "guard_failed"), "rebuild": ("guard_failed", "interpreted"), "discard": ("guard_failed", "cold"),
+    "interpret": ("interpreted", "interpreted"), "put_away": ("interpreted", "cold"), "heat": ("interpreted", "hot"),
+}
 INTERPRETED, COMPILED, RETIRED = {"interpreted"}, {"speculated"}, {"retired"}
 
 
@@ -50,6 +55,7 @@ class Life(Case):
         self.assertEqual(leads, LEADS)
         self.assertEqual(list(leads), list(LEADS))
         self.assertEqual({name for i, name in enumerate(model.states) if model.label_names(i) == ["compiled"]}, COMPILED)
+        self.assertEqual({model.action_name(step.action): (model.states[step.source], model.states[step.target]) for step in model.transitions}, EVENTS)
 
     def test_back_in_the_interpreter(self):
         # by hand: 35 at once, or 12 and 30 by way of cold, so 42 is enough and 41 is not
@@ -83,6 +89,17 @@ class Life(Case):
             by_runs = {state for state in ALL if all(after in COMPILED for weight, after in LEADS[state] if weight <= bound)}
             self.assertEqual("speculated" in by_runs, bound == 4)
             self.assertEqual(self.answer(f"AX<={bound} compiled"), by_runs)
+
+    def test_steps_of_one_event(self):
+        """EX and AX of an event by the table above, on the operands that are asked about."""
+        back = a_until(LEADS, ALL, INTERPRETED, 42)
+        for event, (source, target) in EVENTS.items():
+            self.assertEqual(self.answer(f"EX#{event} interpreted"), {source} if target == "interpreted" else set())
+            self.assertEqual(self.answer(f"AX#{event} A[true U<=42 interpreted]"), ALL if target in back else ALL - {source})
+        self.assertEqual(self.answer("AX#fail A[true U<=41 interpreted]"), ALL - {"speculated"})
+        for bound, by_hand in ((90, {"hot"}), (89, set())):
+            self.assertEqual(self.answer(f"EX#compile<={bound} compiled"), by_hand)
+        self.assertEqual(self.answer("EX#0 true"), set())
 
     def test_runs_that_end(self):
         # by hand: from hot a run may end before the formula runs again, from retired it has ended
@@ -151,7 +168,7 @@ class Pages(Case):
         text = (ROOT / "tools/README.md").read_text()
         block = re.search(r"^```\n(propositions .*?)^```$", text, re.M | re.S).group(1)
         model = read_model(block, "page")
-        self.assertEqual((model.states, model.propositions), (["cold", "hot", "spent"], ["idle", "warm"]))
+        self.assertEqual((model.states, model.propositions, model.actions), (["cold", "hot", "spent"], ["idle", "warm"], {1: "burn", 2: "refill"}))
         self.assertEqual(list(checks.of_model(model)), [])
 
     def written(self, command):

@@ -6,7 +6,7 @@ from otzarvim_tools.formula import Row
 from otzarvim_tools.mistakes import Mistake
 from otzarvim_tools.question import read_question
 
-from .common import M, Case, formula, model
+from .common import FAKE, M, Case, formula, model
 
 TEXTS = (
     "true",
@@ -18,10 +18,56 @@ TEXTS = (
     "EX<=3 p0",
     "AX p0",
     "EX EX<=0 AX<=4294967294 p1",
+    "EX#7<=3 p0",
+    "AX#0 EX#255 AX#10<=4294967294 p1",
     "E[p0 U<=2 p1]",
     "A[p0 U p1]",
     "A[(p0 | false) U<=7 E[!p0 U EX p1]]",
 )
+
+
+class Actions(Case):
+    """Actions of formulas, over a model whose transitions have some."""
+
+    OVER = "a -> b 1 #compile\nb -> a 2 #retire\nb -> b 3 #7\na -> a 4\n"
+
+    def read(self, text, over=OVER):
+        return read_question(model(over), text, "formula")
+
+    def test_a_name_means_its_number(self):
+        for text, plain in (("EX#compile<=3 a", "EX#1<=3 p0"), ("AX#retire a", "AX#2 p0"), ("EX#7 a", "EX#7 p0"), ("AX#0 a", "AX#0 p0"), ("EX#200 a", "EX#200 p0")):
+            question = self.read(text)
+            self.assertEqual(question.formula.text(), plain)
+            self.assertEqual(question.text(), text)
+
+    def test_a_number_is_told_by_its_name(self):
+        self.assertEqual(self.read("EX#1 AX#2 a").text(), "EX#compile AX#retire a")
+
+    def test_a_name_that_no_transition_has(self):
+        for text, column, said in (
+            ("EX#compil a", 4, "no transition has the action compil (did you mean compile?)"),
+            ("(a & AX#x a)", 9, "no transition has the action x (there are compile, retire)"),
+            # names of states and propositions are no actions
+            ("EX#a a", 4, "no transition has the action a (there are compile, retire)"),
+        ):
+            found = self.mistake(lambda: self.read(text), said)
+            self.assertEqual(found.place.column, column)
+
+    def test_a_number_that_no_row_can_ask_for(self):
+        many = "".join(f"a -> a 0 #n{i}\n" for i in range(1, 257))
+        self.assertEqual(self.read("EX#n255 a", many).formula.text(), "EX#255 p0")
+        self.mistake(lambda: self.read("EX#n256 a", many), "formula:1:4: the action n256 has the number 256, and a formula can ask for 0 to 255 only")
+
+    def test_questions_of_a_file(self):
+        over = self.OVER + "question q: EX#compile<=3 b   # a comment\nexpect a: q #too\nexpect not b: AX#retire (EX#compile true & b)#and this\nexpect a: EX#1 true\n"
+        path = self.write("m.otz", over)
+        status, out, err = self.otz("check", path, "--program", FAKE)
+        self.assertEqual((status, err), (0, ""))
+        self.assertEqual([line.split("  ")[1].strip() + " " + line.split("   ")[1].split("  ")[0] for line in out.splitlines()[1:-1]], ["ok a: q", "ok not b: AX#retire (EX#compile true & b)", "ok a: EX#compile true"])
+        bad = self.write("bad.otz", self.OVER + "expect a: EX#compil b\n")
+        self.assertEqual(self.otz("check", bad, "--program", FAKE)[1].splitlines()[1:4], [
+            f"  {bad}:5:14: no transition has the action compil (did you mean compile?)", "      expect a: EX#compil b", "                   ^",
+        ])
 
 
 class Reading(Case):
@@ -44,8 +90,26 @@ class Reading(Case):
             uses = [row.left for row in rows if row.operator > 3] + [row.right for row in rows if row.operator in (4, 5, 8, 9)]
             self.assertEqual(sorted(uses), list(range(len(rows) - 1)), text)
 
+    def test_an_action_stands_between_next_and_its_bound(self):
+        self.assertEqual(formula("EX#7<=3 p0").rows(), [Row(2, 0, 0, 0), Row(10, 0, 7, 3)])
+        self.assertEqual(formula("AX#0 p0").rows(), [Row(2, 0, 0, 0), Row(11, 0, 0, 4294967295)])
+        self.assertEqual(formula("EX#7 <= 3 p0"), formula("EX#7<=3 p0"))
+        self.assertEqual(formula("# a comment\nEX#7\n  # another\n p0"), formula("EX#7 p0"))
+
     def test_mistakes_have_their_column(self):
         for text, column, said in (
+            ("EX #7 p0", 4, "'#' has no place in a formula (an action stands at once behind EX or AX, as EX#compile; a comment has a line of its own)"),
+            ("EX# 7 p0", 3, "'#' has no place in a formula"),
+            ("EX<=3#7 p0", 6, "'#' has no place in a formula"),
+            ("EX##7 p0", 3, "'#' has no place in a formula"),
+            ("E#7[p0 U p1]", 2, "'#' has no place in a formula"),
+            ("E[p0 U#7 p1]", 7, "'#' has no place in a formula"),
+            ("p0#7", 3, "'#' has no place in a formula"),
+            ("EX#7", 5, "a formula is expected here, and the text ends"),
+            ("EX#256 p0", 4, "the action 256 is too large: at most 255"),
+            ("EX#07 p0", 4, "'07' is no action: a whole number"),
+            ("AX EX#7up p0", 7, "'7up' is no action: a whole number"),
+            ("EX#go p0", 4, "no transition has the action go"),
             ("", 1, "the text ends"),
             ("p0 &", 4, "(x & y)"),
             ("p0 p1", 4, "complete before 'p1'"),

@@ -62,8 +62,8 @@ class Searching(Case):
     def test_a_root_until_against_runs(self):
         numbers = nothing = 0
         for question in random_searches(11, 400, root_until=True):
-            leads, labels, formula = leads_of(question.model), question.model.labels, question.formula
-            left, right = (satisfying(leads, labels, operand) for operand in formula.operands)
+            leads, formula = leads_of(question.model), question.formula
+            left, right = (satisfying(question.model, operand) for operand in formula.operands)
             search = self.search(question)
             for state in leads:
                 expected = until(formula)(leads, left, right, state)
@@ -74,9 +74,9 @@ class Searching(Case):
     def test_any_place_against_runs(self):
         found = {"least": 0, "greatest": 0, "none": 0}
         for question in random_searches(12, 250):
-            leads, labels = leads_of(question.model), question.model.labels
-            holds = [satisfying(leads, labels, question.formula.at(bound)) for bound in range(MOST)]
-            ever = satisfying(leads, labels, question.formula.at(None))
+            leads = leads_of(question.model)
+            holds = [satisfying(question.model, question.formula.at(bound)) for bound in range(MOST)]
+            ever = satisfying(question.model, question.formula.at(None))
             search = self.search(question)
             for state in leads:
                 fitting = [bound for bound in range(MOST) if state in holds[bound]]
@@ -138,6 +138,15 @@ class Searching(Case):
         self.assertEqual([line.split(None, 1) for line in out.split("\n\n")[1].splitlines()], [
             ["cold", "30"], ["hot", "no bound will do"], ["speculated", "no bound will do"], ["guard_failed", "42"], ["interpreted", "0"], ["retired", "no bound will do"],
         ])
+
+    def test_of_an_action_its_own_weights_decide(self):
+        model = self.write("m.otz", "a -> b 5 #go\na -> b 2\na -> c 7 #go\na -> c 9 #stay\nb: goal\n")
+        for formula, said in (
+            ("EX<=? goal", "2"), ("EX#go<=? goal", "5"), ("EX#stay<=? goal", "no bound will do"), ("EX#0<=? goal", "2"), ("EX#77<=? goal", "no bound will do"),
+            ("AX<=? goal", "at most 6"), ("AX#go<=? goal", "at most 6"), ("AX#stay<=? goal", "at most 8"), ("AX#0<=? goal", "any bound will do"), ("AX#77<=? goal", "any bound will do"),
+        ):
+            status, out, err = self.otz("least", model, formula, "--state", "a", "--by", "library")
+            self.assertEqual((status, out.splitlines()[0], out.splitlines()[-1], err), (0, f"formula  {formula}", f"a  {said}", ""))
 
     def test_mistakes(self):
         model = self.write("m.otz", M)

@@ -40,10 +40,14 @@ class Choosing(Case):
         self.assertEqual(self.chosen(small, "true"), "program")
         self.assertEqual(self.chosen(long, "true"), "library")
         # 8,192 bytes and one more transition
-        self.assertEqual(self.chosen("a -> a 1\n" * 1019, "true"), "program")
-        self.assertEqual(self.chosen("a -> a 1\n" * 1021, "true"), "library")
+        self.assertEqual(self.chosen("a -> a 1\n" * 816, "true"), "program")
+        self.assertEqual(self.chosen("a -> a 1\n" * 817, "true"), "library")
         # the graph is too long for the program's room
-        self.assertEqual(self.chosen("a -> a 1\n" * 900, "E[E[E[E[E[true U a] U a] U a] U a] U a]"), "library")
+        self.assertEqual(self.chosen("a -> a 1\n" * 750, "E[E[E[E[E[E[true U a] U a] U a] U a] U a] U a]"), "library")
+        # those that a row skips take no room there
+        crowd = "a -> a 1 #loop\n" * 400 + "a -> a 1\n" * 350
+        self.assertEqual(self.chosen(crowd, "EX " * 9 + "true"), "library")
+        self.assertEqual(self.chosen(crowd, "EX#loop " * 9 + "true"), "program")
         for words, by in (({"program": "x"}, "program"), ({"library": "x"}, "library"), ({"by": "program"}, "program"), ({"by": "library", "program": "x"}, "library")):
             self.assertEqual({self.chosen(text, "true", **words) for text in (small, long)}, {by})
 
@@ -51,8 +55,8 @@ class Choosing(Case):
         long = self.write("long.otz", "a -> a 1\n" * 1100 + "a -> b 7\nb: end\n")
         status, out, err = self.otz("ask", long, "E[true U<=7 end]")
         self.assertEqual((status, out, err), (0, "formula  E[true U<=7 end]\nmessage  E[true U<=7 p0]\nrounds   4\nby       the library\n\na  yes\nb  yes\n", ""))
-        crowd = self.write("crowd.otz", "s0 -> s0 1\n" * 900)
-        status, out, _ = self.otz("ask", crowd, "E[E[E[E[E[true U s0] U s0] U s0] U s0] U s0]")
+        crowd = self.write("crowd.otz", "s0 -> s0 1\n" * 750)
+        status, out, _ = self.otz("ask", crowd, "E[E[E[E[E[E[true U s0] U s0] U s0] U s0] U s0] U s0]")
         self.assertEqual((status, out.splitlines()[3:]), (0, ["by       the library", "", "s0  yes"]))
 
     def test_the_largest_model(self):

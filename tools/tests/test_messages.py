@@ -12,25 +12,30 @@ from otzarvim_tools.mistakes import Mistake, Place
 from otzarvim_tools.model import Model, Transition
 from otzarvim_tools.model_text import read_model, write_model
 from otzarvim_tools.names import plain_number
-from otzarvim_tools.paper import OPERANDS, PROPOSITIONS, BOUNDED, Operator
+from otzarvim_tools.paper import ACTIONS, OPERANDS, PROPOSITIONS, BOUNDED, Operator
 from otzarvim_tools.sizes import graph_size
 
 from . import fake_otzarvim
 from .common import M, Case, formula, model
 
 M_BYTES = bytes.fromhex(
-    "0000002D 01 02 0002 02 00000003"
+    "00000033 02 02 0002 02 00000003"
     "00000001 00000002"
-    "0000 00000003 0000"
-    "0000 00000002 0001"
-    "0001 00000000 0001"
+    "0000 00000003 0000 0000"
+    "0000 00000002 0000 0001"
+    "0001 00000000 0000 0001"
 )
 UNTIL_BYTES = bytes.fromhex("0000001F 01 03 03  02 00 00 00 00000000  02 01 00 00 00000000  08 00 01 00 00000002")
 
 
+# Those of transitions: some that a row can ask for, and some that are alike in their low byte.
+ACTED = (0, 0, 1, 1, 2, 255, 256, 257, 511, 65535)
+ASKED = (0, 1, 2, 255)
+
+
 def random_model(chance: random.Random) -> Model:
     states, propositions = chance.randint(1, 6), chance.randint(1, 4)
-    steps = [Transition(a, chance.randint(0, 9), chance.randrange(states)) for a in range(states) for _ in range(chance.randint(0, 3))]
+    steps = [Transition(a, chance.randint(0, 9), chance.randrange(states), chance.choice(ACTED)) for a in range(states) for _ in range(chance.randint(0, 3))]
     labels = [frozenset(i for i in range(propositions) if chance.random() < 0.5) for _ in range(states)]
     return Model([f"s{a}" for a in range(states)], [f"p{i}" for i in range(propositions)], labels, steps)
 
@@ -39,7 +44,8 @@ def random_formula(chance: random.Random, propositions: int, depth: int = 3) -> 
     operator = chance.choice([op for op in Operator if depth or not OPERANDS[op]])
     operands = tuple(random_formula(chance, propositions, depth - 1) for _ in range(OPERANDS[operator]))
     bound = chance.choice([None, chance.randint(0, 20)]) if operator in BOUNDED else None
-    return Formula(operator, operands, chance.randrange(propositions) if operator in PROPOSITIONS else 0, bound)
+    action = chance.choice(ASKED) if operator in ACTIONS else None
+    return Formula(operator, operands, chance.randrange(propositions) if operator in PROPOSITIONS else 0, bound, action=action)
 
 
 def random_questions(seed: int, many: int) -> Iterator[tuple[Model, Formula]]:
@@ -55,7 +61,7 @@ def damaged_questions(seed: int, many: int) -> Iterator[bytes]:
     for over, asked in random_questions(seed, many):
         data = bytearray(compile_model(over) + compile_formula(asked))
         for _ in range(chance.randint(1, 2)):
-            data[chance.choice([at for at in range(4, len(data)) if at != 5])] = chance.choice((0, 1, 2, 3, 4, 9, 10, 33, 64, 65, 255))
+            data[chance.choice([at for at in range(4, len(data)) if at != 5])] = chance.choice((0, 1, 2, 3, 4, 9, 10, 11, 12, 33, 64, 65, 255))
         yield bytes(data)
 
 
@@ -71,6 +77,8 @@ class Compiling(Case):
 
     def test_every_operator(self):
         rows = compile_formula(formula("A[(true & !p1) U (false | E[p0 U<=5 AX<=6 EX p1])]"))[7:]
+        acting = compile_formula(formula("AX#255 EX#7<=3 p1"))[7:]
+        self.assertEqual(acting.hex(), "0201000000000000" "0a00070000000003" "0b01ff00ffffffff")
         records = [rows[at:at + 8].hex() for at in range(0, len(rows), 8)]
         self.assertEqual(
             records,
@@ -112,33 +120,37 @@ class Faults(Case):
         for data, said in (
             (b"", "in the model: 0 bytes are too few for its header (refusal 2, LENGTH)"),
             (M_BYTES[:12], "LENGTH"),
-            (M_BYTES[:44], "in the model: the length field says 45 and there are 44 bytes"),
+            (M_BYTES[:50], "in the model: the length field says 51 and there are 50 bytes"),
             (M_BYTES + b"\0", "in the formula: 1 bytes are too few"),
-            (self.change(M_BYTES, 4, 2), "byte 4 of the model, header, field version: version 2"),
+            (self.change(M_BYTES, 4, 1), "byte 4 of the model, header, field version: version 1, not 2 (refusal 3, VERSION)"),
             (self.change(M_BYTES, 5, 1), "byte 5 of the model, header, field kind: kind 1"),
             (self.change(M_BYTES, 6, 0, 0), "byte 6 of the model, header, field states: 0 states: 1 to 256 are allowed (refusal 4, LIMIT)"),
             (self.change(M_BYTES, 8, 33), "byte 8 of the model, header, field propositions: 33 propositions"),
             (self.change(M_BYTES, 9, 0, 1, 0, 0), "byte 9 of the model, header, field transitions: 65536 transitions"),
-            (self.change(M_BYTES, 12, 4), "in the model: its counts ask for 53 bytes"),
+            (self.change(M_BYTES, 12, 4), "in the model: its counts ask for 61 bytes"),
             (self.change(M_BYTES, 16, 4), "byte 13 of the model, state 0 (s0), field label: the label of state 0"),
             (self.change(M_BYTES, 22, 2), "byte 21 of the model, transition 0 (? -> s0), field from: a transition from state 2 of 2 (refusal 6, NAME)"),
-            (self.change(M_BYTES, 22, 1), "byte 29 of the model, transition 1 (s0 -> s1), field from: a transition from state 0 after one from state 1 (refusal 5, ORDER)"),
-            (self.change(M_BYTES, 28, 2), "byte 27 of the model, transition 0 (s0 -> ?), field to: a transition to state 2 of 2"),
+            (self.change(M_BYTES, 22, 1), "byte 31 of the model, transition 1 (s0 -> s1), field from: a transition from state 0 after one from state 1 (refusal 5, ORDER)"),
+            (self.change(M_BYTES, 30, 2), "byte 29 of the model, transition 0 (s0 -> ?), field to: a transition to state 2 of 2"),
+            (self.change(M_BYTES, 28, 7, 0, 2), "byte 29 of the model, transition 0 (s0 -> ? #7), field to: a transition to state 2 of 2"),
         ):
             self.mistake(lambda: decode(data, "x.bin"), "x.bin: ", said)
 
     def test_first_fault_of_a_formula(self):
         for at, value, said in (
-            (4, 2, "byte 4 of the formula (49 of the file), header, field version: version 2"),
-            (6, 0, "byte 6 of the formula (51 of the file), header, field rows: 0 rows"),
+            (4, 2, "byte 4 of the formula (55 of the file), header, field version: version 2, not 1"),
+            (6, 0, "byte 6 of the formula (57 of the file), header, field rows: 0 rows"),
             (6, 2, "in the formula: its counts ask for 23 bytes"),
-            (7, 10, "byte 7 of the formula (52 of the file), row 0 (?), field operator: there is no operator 10 (refusal 10, FORM)"),
-            (9, 1, "byte 9 of the formula (54 of the file), row 0 (p0), field right: row 0 has 1 in a field"),
-            (10, 1, "byte 10 of the formula (55 of the file), row 0 (p0), field zero: row 0 has 1 in a field"),
-            (14, 1, "byte 11 of the formula (56 of the file), row 0 (p0), field bound: row 0 has 1 in a field"),
-            (8, 2, "byte 8 of the formula (53 of the file), row 0 (p2), field left: row 0 is about proposition 2 of 2 (refusal 6, NAME)"),
-            (24, 2, "byte 24 of the formula (69 of the file), row 2 (E[row 2 U<=2 row 1]), field left: row 2 has row 2 as operand"),
-            (25, 7, "byte 25 of the formula (70 of the file), row 2 (E[row 0 U<=2 row 7]), field right: row 2 has row 7 as operand"),
+            (7, 12, "byte 7 of the formula (58 of the file), row 0 (?), field operator: there is no operator 12 (refusal 10, FORM)"),
+            (9, 1, "byte 9 of the formula (60 of the file), row 0 (p0), field right: row 0 has 1 in a field"),
+            (10, 1, "byte 10 of the formula (61 of the file), row 0 (p0), field zero: row 0 has 1 in a field"),
+            (14, 1, "byte 11 of the formula (62 of the file), row 0 (p0), field bound: row 0 has 1 in a field"),
+            (8, 2, "byte 8 of the formula (59 of the file), row 0 (p2), field left: row 0 is about proposition 2 of 2 (refusal 6, NAME)"),
+            (7, 10, "byte 8 of the formula (59 of the file), row 0 (EX#0<=0 row 0), field left: row 0 has row 0 as operand"),
+            (24, 2, "byte 24 of the formula (75 of the file), row 2 (E[row 2 U<=2 row 1]), field left: row 2 has row 2 as operand"),
+            (25, 7, "byte 25 of the formula (76 of the file), row 2 (E[row 0 U<=2 row 7]), field right: row 2 has row 7 as operand"),
+            # right is the action then, and uses no row
+            (23, 11, "in the formula: row 1 is an operand 0 times"),
             (25, 0, "in the formula: row 0 is an operand 2 times"),
         ):
             data = M_BYTES + self.change(UNTIL_BYTES, at, value)
@@ -161,7 +173,7 @@ class Faults(Case):
         chance = random.Random(3)
         whole = M_BYTES + UNTIL_BYTES
         for _ in range(1000):
-            data = self.change(whole, chance.randrange(len(whole)), chance.choice((0, 1, 2, 3, 9, 10, 255)))
+            data = self.change(whole, chance.randrange(len(whole)), chance.choice((0, 1, 2, 3, 9, 10, 11, 12, 255)))
             try:
                 shown, understood = decode(data, "x")
             except Mistake:

@@ -7,7 +7,7 @@ from otzarvim_tools.formula import Formula
 from otzarvim_tools.mistakes import Mistake, Place
 from otzarvim_tools.model import Transition
 from otzarvim_tools.names import Names
-from otzarvim_tools.paper import UNTILS, Operator
+from otzarvim_tools.paper import NEXTS, UNTILS, Operator
 from otzarvim_tools.question import Question, read_question
 from otzarvim_tools.compiler import compile_formula, compile_model
 from otzarvim_tools.runs import Run, Runs
@@ -59,7 +59,7 @@ class Reasons(Case):
         """The states and the sums at the positions of a run, along transitions of the model."""
         states, sums = [run.start], [0]
         for step in run.steps:
-            self.assertIn((step.source, step.weight, step.target), {(each.source, each.weight, each.target) for each in question.model.transitions})
+            self.assertIn(step, question.model.transitions)
             self.assertEqual(step.source, states[-1])
             states.append(step.target)
             sums.append(sums[-1] + step.weight)
@@ -94,9 +94,9 @@ class Reasons(Case):
         return self.saw(kind + ", ends")
 
     def test_against_brute_force(self):
-        for question, explainer in explained(21, 900):
-            leads, labels = leads_of(question.model), question.model.labels
-            satisfied = [satisfying(leads, labels, part) for part in explainer.values.parts]
+        for question, explainer in explained(21, 1000):
+            leads = leads_of(question.model)
+            satisfied = [satisfying(question.model, part) for part in explainer.values.parts]
             for state in leads:
                 steps = explainer.steps(state)
                 claims = [step.claim for step in steps]
@@ -106,16 +106,16 @@ class Reasons(Case):
                     row, at = step.claim
                     part, holds = explainer.values.parts[row], at in satisfied[row]
                     self.assertEqual(explainer.values.holds(row, at), holds)
-                    self.decided(explainer, step, satisfied, leads)
+                    self.decided(explainer, step, satisfied)
                     if part.operator in UNTILS:
                         left, right = (satisfied[operand] for operand in explainer.values.operands(row))
                         self.until_step(question, part, step, holds, left, right, leads)
                     for need in step.needs:
                         self.assertTrue(need in claims or explainer.values.parts[need[0]].operator <= Operator.NOT_PROPOSITION)
-        for kind in ("E_UNTIL yes, cost", "E_UNTIL no, cost", "E_UNTIL no, states", "A_UNTIL yes, cost", "A_UNTIL no, cost", "A_UNTIL no, endless", "A_UNTIL no, left", "A_UNTIL no, ends"):
+        for kind in ("EX_ACTION", "AX_ACTION", "EX_ACTION, no transition", "AX_ACTION, no transition", "E_UNTIL yes, cost", "E_UNTIL no, cost", "E_UNTIL no, states", "A_UNTIL yes, cost", "A_UNTIL no, cost", "A_UNTIL no, endless", "A_UNTIL no, left", "A_UNTIL no, ends"):
             self.assertGreater(self.kinds.get(kind, 0), 25, kind)
 
-    def decided(self, explainer, step, satisfied, leads):
+    def decided(self, explainer, step, satisfied):
         """Of and, or, EX, AX: what a step rests on decides it."""
         row, at = step.claim
         part, holds = explainer.values.parts[row], at in satisfied[row]
@@ -124,8 +124,10 @@ class Reasons(Case):
             self.assertEqual({state for _, state in step.needs}, {at})
             self.assertEqual(set(said), {holds})
             self.assertEqual(len(said), 1 if holds == (part.operator is Operator.OR) else 2)
-        elif part.operator in (Operator.EX, Operator.AX):
+        elif part.operator in NEXTS:
+            leads = leads_of(explainer.question.model, part.action)
             near = {after for weight, after in leads[at] if part.bound is None or weight <= part.bound}
+            self.saw(f"{part.operator.name}{'' if near else ', no transition'}")
             if step.run is None:
                 self.assertEqual({state for _, state in step.needs}, near)
                 self.assertTrue(all(each == holds for each in said))
@@ -133,6 +135,7 @@ class Reasons(Case):
                 states, _ = self.walk(explainer.question, step.run)
                 self.assertEqual((states[0], said), (at, [holds]))
                 self.assertIn(states[1], near)
+                self.assertIn(part.action, (None, step.run.steps[0].action))
 
     def test_runs_that_show_nothing_are_caught(self):
         over = model("a: l\nb: l\nc: r\na -> b 2\nb -> c 3\nb -> a 1\nc -> d 1\na -> d 9")
@@ -155,7 +158,7 @@ class Reasons(Case):
         chance, caught, given = random.Random(5), 0, 0
         for question, explainer in explained(22, 150):
             values = explainer.values
-            leads, labels = leads_of(question.model), question.model.labels
+            leads = leads_of(question.model)
             node = chance.randrange(len(values.settled.values))
             lied = list(values.settled.values)
             lied[node] = 0 if lied[node] else 2**64 - 1
@@ -183,20 +186,20 @@ class Said(Case):
         self.assertEqual(self.why("A[true U<=41 interpreted]", "guard_failed"), (
             "formula  A[true U<=41 interpreted]\nrounds   4\nby       the library\n\nguard_failed  no\n\n"
             "1. guard_failed doesn't satisfy A[true U<=41 interpreted]: this run comes to interpreted only at a cost of more than 41\n"
-            "      state         weight  sum\n"
+            "      state         weight  sum  by\n"
             "      guard_failed            0\n"
-            "      cold              12   12\n"
-            "      interpreted       30   42\n"
+            "      cold              12   12  #discard\n"
+            "      interpreted       30   42  #load\n"
             "      interpreted holds in interpreted, at a cost of 42\n"
         ))
 
     def test_an_endless_run(self):
         self.assertTrue(self.why("A[true U interpreted]", "speculated").endswith(
-            "this run breaks it\n      state       weight  sum\n   -> speculated            0\n      speculated       4    4\n      and so for ever, from speculated to speculated: interpreted never holds\n"
+            "this run breaks it\n      state       weight  sum  by\n   -> speculated            0\n      speculated       4    4  #stay\n      and so for ever, from speculated to speculated: interpreted never holds\n"
         ))
 
     def test_a_run_that_ends_and_one_that_leaves(self):
-        self.assertIn("retired       6    6\n      nothing follows retired, and (compiled | interpreted) has not held\n", self.why("A[true U (compiled | interpreted)]", "hot"))
+        self.assertIn("retired       6    6  #retire\n      nothing follows retired, and (compiled | interpreted) has not held\n", self.why("A[true U (compiled | interpreted)]", "hot"))
         self.assertTrue(self.why("A[!compiled U interpreted]", "hot").endswith("neither !compiled nor interpreted holds in speculated\n"))
 
     def test_states_that_decide(self):
@@ -206,6 +209,18 @@ class Said(Case):
         self.assertIn("speculated has the propositions compiled", self.why("compiled", "speculated"))
         self.assertIn("cold has no proposition", self.why("!compiled", "cold"))
         self.assertIn("true holds everywhere", self.why("true", "cold"))
+
+    def test_of_an_action_only_its_transitions_decide(self):
+        self.assertIn("each transition #fail from speculated leads to where !compiled holds: guard_failed", self.why("AX#fail !compiled", "speculated"))
+        self.assertIn("no transition #fail from speculated of weight at most 9 leads to where compiled holds: guard_failed", self.why("EX#fail<=9 compiled", "speculated"))
+        self.assertIn("hot has no transition #compile of weight at most 89\n", self.why("EX#compile<=89 true", "hot"))
+        self.assertIn("cold has no transition #compile\n", self.why("AX#compile false", "cold"))
+        self.assertIn("cold has no transition #77\n", self.why("AX#77 false", "cold"))
+        self.assertTrue(self.why("EX#compile compiled", "hot").endswith("leads to where compiled holds\n      state       weight  sum  by\n      hot                   0\n      speculated      90   90  #compile\n"))
+
+    def test_a_run_without_actions_has_no_column_for_them(self):
+        path = self.write("m.otz", "a -> b 1\nb -> c 2\nc -> c 0 #stay")
+        self.assertIn("      state  weight  sum\n      a                0\n      b           1    1\n      c           2    3\n", self.otz("why", path, "E[true U c]", "--state", "a")[1])
 
     def test_step_by_step(self):
         said = [line for line in self.why("(compiled | EX E[AX<=30 !compiled U compiled])", "cold").splitlines() if line[:1].isdigit()]
@@ -224,11 +239,11 @@ class Said(Case):
         out = self.why("A[true U<=41 interpreted]", "guard_failed", "--draw", "-")
         self.assertTrue(out.startswith("digraph "))
         self.assertEqual([line.strip() for line in out.splitlines() if "penwidth" in line], [
-            '"cold" -> "interpreted" [label="30", style=bold, penwidth=3];', '"guard_failed" -> "cold" [label="12", style=bold, penwidth=3];',
+            '"cold" -> "interpreted" [label="30 #load", style=bold, penwidth=3];', '"guard_failed" -> "cold" [label="12 #discard", style=bold, penwidth=3];',
         ])
         path = self.folder / "run.dot"
         table_too = self.why("A[true U<=41 interpreted]", "guard_failed", "--draw", path)
-        self.assertIn("      cold              12   12\n", table_too)
+        self.assertIn("      cold              12   12  #discard\n", table_too)
         self.assertEqual(path.read_text(), out)
 
     def test_mistakes(self):
@@ -239,4 +254,4 @@ class Said(Case):
 
     def test_the_stand_in_is_a_library(self):
         self.assertIsInstance(quick_library(str(ROOT / "tools/tests/fake_library.py")), QuickLibrary)
-        self.assertEqual(table(Run(0), ["a"]), ["   state  weight  sum", "   a                0"])
+        self.assertEqual(table(Run(0), model("state a")), ["   state  weight  sum", "   a                0"])

@@ -1,5 +1,6 @@
 // The page: reads what is typed, asks the library, and shows its answer. Every text goes in as text, never as markup.
 import { load, MOST } from "./otzarvim.mjs";
+import { content } from "./language/model.mjs";
 import { compileQuestion } from "./language/question.mjs";
 import { draw, mark, tooLarge } from "./picture.mjs";
 
@@ -20,7 +21,7 @@ function element(name, text = "", ...classes) {
     return made;
 }
 
-// Colours of the text: comments, words of the language, numbers.
+// Colours of the text: comments, words of the language, numbers, actions.
 function mode(keywords, comment) {
     return () => ({
         startState: () => ({}),
@@ -32,6 +33,7 @@ function mode(keywords, comment) {
             if (stream.eatSpace()) return null;
             if (stream.match(/^[A-Za-z_]\w*/)) return keywords.includes(stream.current()) ? "keyword" : null;
             if (stream.match(/^[0-9]+/)) return "number";
+            if (stream.match(/^#\w+/)) return "action";
             stream.next();
             return null;
         },
@@ -49,7 +51,7 @@ function editor(id, said, name) {
     return made;
 }
 
-globalThis.CodeMirror.defineMode("otz-model", mode(["state", "propositions"], (stream) => stream.peek() === "#"));
+globalThis.CodeMirror.defineMode("otz-model", mode(["state", "propositions"], (stream) => stream.peek() === "#" && stream.pos === content(stream.string).length));
 globalThis.CodeMirror.defineMode("otz-formula", mode(["true", "false", "E", "A", "U", "EX", "AX"], (stream) => stream.sol() && /^\s*#/.test(stream.string)));
 const editors = { model: editor("model", "Model", "otz-model"), formula: editor("formula", "Formula", "otz-formula") };
 const text = (name) => editors[name].getValue("\n");
@@ -60,20 +62,21 @@ let asked = ""; // the name of the asked state
 let drawn = { key: "", svg: null };
 
 /** The answers of the library for two messages: for every state, and the formula's text; or what it refused. */
-function ask([model, formula], propositions) {
+function ask([model, formula], propositions, actions) {
     const settled = library.otzarvim_settle({ model, formula, budget: MOST.NODES, ...rooms });
     if (settled.name !== "OK") return { refused: `refused ${settled.number}, ${settled.name}${settled.offset ? ` at ${settled.offset}` : ""}${MEANING[settled.name] ? `: ${MEANING[settled.name]}` : ""}` };
     const { first, count } = settled.states;
     const answers = Array.from({ length: count }, (_, a) => settled.values[first + a] === 0n);
     const written = library.otzarvim_formula_text({ message: formula, p: propositions.length });
     const text = new TextDecoder().decode(written.room.subarray(0, written.length)); // what was answered, by the library's own reading
-    return { answers, rounds: settled.count, text: text.replace(/p([0-9]+)/g, (_, number) => propositions[number]) };
+    const named = text.replace(/p([0-9]+)|#([0-9]+)/g, (_, number, action) => (number ? propositions[number] : `#${actions.get(Number(action)) ?? action}`));
+    return { answers, rounds: settled.count, text: named };
 }
 
 /** The same; a module that could not end its call is told, and never taken for an answer. */
-function attempt(messages, propositions) {
+function attempt(messages, propositions, actions) {
     try {
-        return ask(messages, propositions);
+        return ask(messages, propositions, actions);
     } catch (error) {
         return { refused: `No answer: the library could not end its call (${error.message}). Load the page again.` };
     }
@@ -111,7 +114,7 @@ function showPicture(model, answers, state) {
         return;
     }
     const narrow = $("figure").parentElement.clientWidth < 640;
-    const key = JSON.stringify([narrow, model.states, model.labels.map((label) => [...label]), model.transitions]);
+    const key = JSON.stringify([narrow, model.states, model.labels.map((label) => [...label]), model.transitions, [...model.actions]]);
     if (key !== drawn.key) {
         drawn = { key, svg: model.states.length ? draw(model, narrow, choose) : null };
         $("figure").replaceChildren(...(drawn.svg ? [drawn.svg] : []));
@@ -168,7 +171,7 @@ function showVerdict(model, found, state) {
 /** Reads, asks and shows. */
 function answer() {
     const { model, messages, mistakes, propositions } = compileQuestion(text("model"), text("formula"));
-    const found = messages ? attempt(messages, propositions) : null;
+    const found = messages ? attempt(messages, propositions, model.actions) : null;
     const state = model ? Math.max(0, model.states.indexOf(asked)) : -1;
     showMistakes(mistakes);
     showVerdict(model, found, state);

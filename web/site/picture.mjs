@@ -1,4 +1,5 @@
 // The model as a picture: boxes and arrows in SVG, laid out by dagre. Every text goes in as text, never as markup.
+import { by } from "./language/model.mjs";
 
 const SVG = "http://www.w3.org/2000/svg";
 const MOST_STATES = 60;
@@ -15,13 +16,14 @@ function element(name, attributes = {}, ...inner) {
     return made;
 }
 
-/** The arrows of a model: one from a state to another, with all their weights in the text's order. */
-function arrowsOf({ transitions }) {
+/** The arrows of a model: one from a state to another, with all their weights and actions in the text's order. */
+function arrowsOf(model) {
     const arrows = new Map();
-    for (const { source, weight, target } of transitions) {
+    for (const step of model.transitions) {
+        const { source, target } = step;
         const key = `${source} ${target}`;
         if (!arrows.has(key)) arrows.set(key, { source, target, weights: [] });
-        arrows.get(key).weights.push(weight);
+        arrows.get(key).weights.push(`${step.weight}${by(model, step)}`);
     }
     return [...arrows.values()].map(({ source, target, weights }) => ({ source, target, label: cut(weights.join(", ")), whole: cut(weights.join(", "), 400) }));
 }

@@ -5,8 +5,8 @@
 //! [`settled`], [`text_of`], [`satisfies`] and [`satisfying`].
 //!
 //! ```
-//! // A state without propositions, and a transition to itself of weight 5.
-//! let model = [0, 0, 0, 25, 1, 2, 0, 1, 0, 0, 0, 0, 1, 0, 0, 0, 0, 0, 0, 0, 0, 0, 5, 0, 0];
+//! // A state without propositions, and a transition to itself of weight 5 and action 7.
+//! let model = [0, 0, 0, 27, 2, 2, 0, 1, 0, 0, 0, 0, 1, 0, 0, 0, 0, 0, 0, 0, 0, 0, 5, 0, 7, 0, 0];
 //! let formula = [0, 0, 0, 23, 1, 3, 2, 0, 0, 0, 0, 0, 0, 0, 0, 6, 0, 0, 0, 0, 0, 0, 5]; // EX<=5 true
 //! assert_eq!(otzarvim::satisfies(&model, &formula, 0), Ok(true));
 //! assert_eq!(otzarvim::satisfies(&model, &formula, 1), Err(otzarvim::Refusal::Name.at(0)));
@@ -117,6 +117,9 @@ pub const INFINITE: u64 = u64::MAX;
 
 /// The bound, in a message, that means no bound.
 pub const NO_BOUND: u32 = u32::MAX;
+
+/// The version byte of a model message; version 1 had no actions, and is refused. Graphs and formulas have version 1.
+pub const MODEL_VERSION: u8 = 2;
 
 /// How many bytes the claim of a node has: its value (8), then its rank (8), big-endian.
 pub const CLAIM: usize = 16;
@@ -229,11 +232,11 @@ impl Error for Refusal {}
 /// Why a call is refused: what is wrong, and where.
 ///
 /// ```
-/// // A state without propositions, and a transition of weight 5 to state 1.
-/// let model = [0, 0, 0, 25, 1, 2, 0, 1, 0, 0, 0, 0, 1, 0, 0, 0, 0, 0, 0, 0, 0, 0, 5, 0, 1];
+/// // A state without propositions, and a transition of weight 5 and action 7 to state 1.
+/// let model = [0, 0, 0, 27, 2, 2, 0, 1, 0, 0, 0, 0, 1, 0, 0, 0, 0, 0, 0, 0, 0, 0, 5, 0, 7, 0, 1];
 /// let fault = otzarvim::check_model(&model).unwrap_err();
-/// assert_eq!((fault.refusal, fault.offset), (otzarvim::Refusal::Name, 23));
-/// assert_eq!(fault.to_string(), "a node, state, proposition or operand that doesn't exist, at byte 23");
+/// assert_eq!((fault.refusal, fault.offset), (otzarvim::Refusal::Name, 25));
+/// assert_eq!(fault.to_string(), "a node, state, proposition or operand that doesn't exist, at byte 25");
 ///
 /// // Every function says it: here of that model, of a row with no operator, and of a hyperedge whose source doesn't exist.
 /// let formula = [0, 0, 0, 15, 1, 3, 1, 77, 0, 0, 0, 0, 0, 0, 0];
@@ -400,18 +403,21 @@ pub fn check_graph(message: &[u8]) -> Result<Graph, Fault> {
     }
 }
 
-/// Checks a model message.
+/// Checks a model message: version 2, and 13 + 4s + 10t bytes for s states and t transitions. A transition is from (2 bytes), weight (4),
+/// action (2) and to (2); any action is taken.
 ///
 /// ```
 /// use otzarvim::{Model, Refusal};
 ///
-/// // A state without propositions, and a transition to itself of weight 5.
-/// let mut model = [0, 0, 0, 25, 1, 2, 0, 1, 0, 0, 0, 0, 1, 0, 0, 0, 0, 0, 0, 0, 0, 0, 5, 0, 0];
+/// // A state without propositions, and a transition to itself of weight 5 and action 7.
+/// let mut model = [0, 0, 0, 27, 2, 2, 0, 1, 0, 0, 0, 0, 1, 0, 0, 0, 0, 0, 0, 0, 0, 0, 5, 0, 7, 0, 0];
 /// assert_eq!(otzarvim::check_model(&model), Ok(Model { states: 1, propositions: 0, transitions: 1 }));
-/// model[24] = 1;
-/// assert_eq!(otzarvim::check_model(&model), Err(Refusal::Name.at(23)));
+/// model[26] = 1; // to state 1
+/// assert_eq!(otzarvim::check_model(&model), Err(Refusal::Name.at(25)));
+/// model[4] = 1; // a version without actions
+/// assert_eq!(otzarvim::check_model(&model), Err(Refusal::Version.at(4)));
 /// // The same state without a transition: runs end there.
-/// let model = [0, 0, 0, 17, 1, 2, 0, 1, 0, 0, 0, 0, 0, 0, 0, 0, 0];
+/// let model = [0, 0, 0, 17, 2, 2, 0, 1, 0, 0, 0, 0, 0, 0, 0, 0, 0];
 /// assert_eq!(otzarvim::check_model(&model), Ok(Model { states: 1, propositions: 0, transitions: 0 }));
 /// ```
 pub fn check_model(message: &[u8]) -> Result<Model, Fault> {
@@ -426,7 +432,8 @@ pub fn check_model(message: &[u8]) -> Result<Model, Fault> {
     }
 }
 
-/// Checks a formula message, whose propositions must be below a number of them; returns how many rows it has.
+/// Checks a formula message, whose propositions must be below a number of them; returns how many rows it has. Operators 10 and 11 are EX
+/// and AX that look only at transitions of the action in the row's right field.
 ///
 /// ```
 /// use otzarvim::Refusal;
@@ -617,6 +624,9 @@ pub fn write_claims(message: &[u8], claims: &mut [u8], words: &mut [u64]) -> Res
 /// let mut room = [0; 3];
 /// assert_eq!(otzarvim::text(&formula, 32, &mut room[..2]), Err(Refusal::Room.at(0)));
 /// assert_eq!(otzarvim::text(&formula, 32, &mut room), Ok("!p7"));
+///
+/// let formula = [0, 0, 0, 23, 1, 3, 2, 0, 0, 0, 0, 0, 0, 0, 0, 11, 0, 255, 0, 0, 0, 0, 3];
+/// assert_eq!(otzarvim::text_of(&formula, 0).as_deref(), Ok("AX#255<=3 true"));
 /// ```
 pub fn text<'a>(message: &[u8], propositions: u32, room: &'a mut [u8]) -> Result<&'a str, Fault> {
     let (mut length, mut offset) = (0, 0);
@@ -663,11 +673,11 @@ pub fn text_of(message: &[u8], propositions: u32) -> Result<String, Fault> {
 ///
 /// // State 0 has p0 and goes to itself with weight 3 and to state 1 with weight 2; state 1 has p1 and goes to itself.
 /// let model = [
-///     0, 0, 0, 45, 1, 2, 0, 2, 2, 0, 0, 0, 3, //
+///     0, 0, 0, 51, 2, 2, 0, 2, 2, 0, 0, 0, 3, //
 ///     0, 0, 0, 1, 0, 0, 0, 2, //
-///     0, 0, 0, 0, 0, 3, 0, 0, //
-///     0, 0, 0, 0, 0, 2, 0, 1, //
-///     0, 1, 0, 0, 0, 0, 0, 1,
+///     0, 0, 0, 0, 0, 3, 0, 0, 0, 0, //
+///     0, 0, 0, 0, 0, 2, 0, 0, 0, 1, //
+///     0, 1, 0, 0, 0, 0, 0, 0, 0, 1,
 /// ];
 /// // E[p0 U<=2 p1]
 /// let mut formula = [
@@ -734,7 +744,7 @@ pub fn verdict(
 /// ```
 /// use otzarvim::{Graph, Refusal};
 ///
-/// let model = [0, 0, 0, 25, 1, 2, 0, 1, 0, 0, 0, 0, 1, 0, 0, 0, 0, 0, 0, 0, 0, 0, 5, 0, 0];
+/// let model = [0, 0, 0, 27, 2, 2, 0, 1, 0, 0, 0, 0, 1, 0, 0, 0, 0, 0, 0, 0, 0, 0, 5, 0, 7, 0, 0];
 /// let formula = [0, 0, 0, 23, 1, 3, 2, 0, 0, 0, 0, 0, 0, 0, 0, 6, 0, 0, 0, 0, 0, 0, 5]; // EX<=5 true
 /// let mut bytes = [7; 30];
 /// assert_eq!(otzarvim::graph(&model, &formula, &mut bytes[..27]), Err(Refusal::Room.at(0)));
@@ -771,11 +781,11 @@ pub fn graph<'a>(model: &[u8], formula: &[u8], bytes: &'a mut [u8]) -> Result<&'
 /// use otzarvim::Answers;
 ///
 /// let model = [
-///     0, 0, 0, 45, 1, 2, 0, 2, 2, 0, 0, 0, 3, //
+///     0, 0, 0, 51, 2, 2, 0, 2, 2, 0, 0, 0, 3, //
 ///     0, 0, 0, 1, 0, 0, 0, 2, //
-///     0, 0, 0, 0, 0, 3, 0, 0, //
-///     0, 0, 0, 0, 0, 2, 0, 1, //
-///     0, 1, 0, 0, 0, 0, 0, 1,
+///     0, 0, 0, 0, 0, 3, 0, 0, 0, 0, //
+///     0, 0, 0, 0, 0, 2, 0, 0, 0, 1, //
+///     0, 1, 0, 0, 0, 0, 0, 0, 0, 1,
 /// ];
 /// let formula = [0, 0, 0, 15, 1, 3, 1, 2, 1, 0, 0, 0, 0, 0, 0]; // p1
 /// let (mut bytes, mut values) = (vec![0; otzarvim::MOST_GRAPH], vec![0; otzarvim::MOST_VALUES]);
@@ -828,11 +838,17 @@ pub fn settle<'a>(
 /// ```
 /// use otzarvim::Refusal;
 ///
-/// let model = [0, 0, 0, 25, 1, 2, 0, 1, 0, 0, 0, 0, 1, 0, 0, 0, 0, 0, 0, 0, 0, 0, 5, 0, 0];
+/// let model = [0, 0, 0, 27, 2, 2, 0, 1, 0, 0, 0, 0, 1, 0, 0, 0, 0, 0, 0, 0, 0, 0, 5, 0, 7, 0, 0];
 /// let formula = [0, 0, 0, 23, 1, 3, 2, 0, 0, 0, 0, 0, 0, 0, 0, 6, 0, 0, 0, 0, 0, 0, 4]; // EX<=4 true
 /// assert_eq!(otzarvim::satisfies(&model, &formula, 0), Ok(false));
 /// assert_eq!(otzarvim::satisfies(&model, &formula, 1), Err(Refusal::Name.at(0)));
-/// assert_eq!(otzarvim::satisfies(&model[..24], &formula, 0), Err(Refusal::Length.at(0)));
+///
+/// // EX#7<=5 true and EX#8<=5 true: the transition has action 7.
+/// let mut formula = [0, 0, 0, 23, 1, 3, 2, 0, 0, 0, 0, 0, 0, 0, 0, 10, 0, 7, 0, 0, 0, 0, 5];
+/// assert_eq!(otzarvim::satisfies(&model, &formula, 0), Ok(true));
+/// formula[17] = 8;
+/// assert_eq!(otzarvim::satisfies(&model, &formula, 0), Ok(false));
+/// assert_eq!(otzarvim::satisfies(&model[..26], &formula, 0), Err(Refusal::Length.at(0)));
 /// ```
 pub fn satisfies(model: &[u8], formula: &[u8], state: u32) -> Result<bool, Fault> {
     let (mut bytes, mut values) = rooms();
@@ -847,10 +863,10 @@ pub fn satisfies(model: &[u8], formula: &[u8], state: u32) -> Result<bool, Fault
 /// ```
 /// // State 0 goes to itself with weight 1, state 1 to state 0 with weight 2.
 /// let model = [
-///     0, 0, 0, 37, 1, 2, 0, 2, 0, 0, 0, 0, 2, //
+///     0, 0, 0, 41, 2, 2, 0, 2, 0, 0, 0, 0, 2, //
 ///     0, 0, 0, 0, 0, 0, 0, 0, //
-///     0, 0, 0, 0, 0, 1, 0, 0, //
-///     0, 1, 0, 0, 0, 2, 0, 0,
+///     0, 0, 0, 0, 0, 1, 0, 0, 0, 0, //
+///     0, 1, 0, 0, 0, 2, 0, 0, 0, 0,
 /// ];
 /// let formula = [0, 0, 0, 23, 1, 3, 2, 0, 0, 0, 0, 0, 0, 0, 0, 6, 0, 0, 0, 0, 0, 0, 1]; // EX<=1 true
 /// assert_eq!(otzarvim::satisfying(&model, &formula), Ok(vec![true, false]));

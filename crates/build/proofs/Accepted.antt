@@ -5,11 +5,11 @@ use mathlib.Core.Path.{_≡_, refl, ap, _∙_}
 use lib.ListN.{length, getD}
 use Rattle.lists.specs.Making.{keep}
 use Rattle.value.specs.declared.Bound.{Bound}
-use Rattle.value.specs.Value.{inside}
+use Rattle.formula.specs.declared.Action.{Action}
 use Rattle.wire.specs.Bytes.{number}
 use Rattle.formula.specs.Format.{formulaHeader}
 use Rattle.formula.specs.Layouts.{rowLayout}
-use Rattle.reduction.specs.Built.{out, near}
+use Rattle.reduction.specs.Built.{out, looksAt, near}
 use Rattle.model.specs.Format.{modelHeader, labelWidth, labelAt, transitionAt}
 use Rattle.build.specs.Held.{labelLayout, transitionLayout, transitionsFrom, heldModel, heldRows, HoldsModel, Own, RiseFrom}
 use Rattle.wire.proofs.Layouts.{items-length}
@@ -29,15 +29,15 @@ module _ {m : List ℕ} {n p t : ℕ} (h : HoldsModel m n p t) where
   unfolding heldModel
   label-at a below = items-at (labelLayout m) labelWidth (λ at. refl) 0 n modelHeader a below
 
-  -- the transitions of a state, and those within a bound
+  -- the transitions of a state, and those that EX or AX looks at
   module _ {a first many : ℕ} (o : Own m n t a first many) where
     pub out-own : length (out (heldModel m n p t) a) ≡ many
     unfolding heldModel
     out-own = out-length (heldModel m n p t) a ∙ ap length (o .are) ∙ items-length (transitionLayout m) many (transitionAt n first)
 
-    pub near-own : (b : Bound) → length (near (heldModel m n p t) b a) ≡ length (keep (λ u. inside b (u .weight)) (transitionsFrom m n first many))
+    pub near-own : (A : Action) (b : Bound) → length (near (heldModel m n p t) A b a) ≡ length (keep (looksAt A b) (transitionsFrom m n first many))
     unfolding heldModel
-    near-own b = near-length (heldModel m n p t) b a ∙ ap (λ us. length (keep (λ u. inside b (u .weight)) us)) (o .are)
+    near-own A b = near-length (heldModel m n p t) A b a ∙ ap (λ us. length (keep (looksAt A b) us)) (o .are)
 
   pub transitions-few : length (heldModel m n p t .transitions) ≤ 65535
   transitions-few = h .well-formed .transitions-fit

@@ -7,7 +7,6 @@ use lib.ListN.{length, length-append, length-map}
 use Rattle.lists.specs.Lists.{_∈_}
 use Rattle.lists.specs.Making.{keep}
 use Rattle.value.specs.declared.Bound.{Bound}
-use Rattle.value.specs.Value.{inside}
 use Rattle.wire.specs.Bytes.{bytes, number}
 use Rattle.wire.specs.Laid.{Laid}
 use Rattle.wire.specs.Layout.{items}
@@ -19,9 +18,10 @@ use Rattle.rules.specs.Graph.{Target}
 use Rattle.graph.proofs.Exact.{hyper-length}
 use Rattle.graph.specs.Format.{hyperWidth}
 use Rattle.graph.specs.Write.{writeTarget, writeHyper}
-use Rattle.model.specs.Format.{weightAt, toAt, transitionWidth, transitionAt}
+use Rattle.model.specs.Format.{weightAt, actionAt, toAt, transitionWidth, transitionAt}
 use Rattle.model.specs.Model.{Transition}
-use Rattle.reduction.specs.Built.{to, hyper}
+use Rattle.formula.specs.declared.Action.{Action}
+use Rattle.reduction.specs.Built.{to, hyper, looksAt}
 use Rattle.build.specs.Held.{transitionLayout, transitionsFrom, Reads}
 use Rattle.build.specs.Bytes.{singleWidth, pairWidth, hypersBytes, everyNext}
 
@@ -91,7 +91,7 @@ module _ (m : List ℕ) (n : ℕ) (one : Transition → List ℕ) where
       -- with its weight and the state that it leads to as they were read
       module _ {w v : ℕ} (weight-is : w ≡ number 4 m (p + weightAt)) (to-is : v ≡ number 2 m (p + toAt)) where
         abbrev made : List ℕ
-        made = one (record { from = number 2 m p; weight = w; to = v })
+        made = one (record { from = number 2 m p; weight = w; action = number 2 m (p + actionAt); to = v })
 
         parts : writeAll one (items (transitionLayout m) i p) ≡ made ++ writeAll one (items (transitionLayout m) (i - 1) (p + transitionWidth))
         unfolding writeAll
@@ -139,6 +139,6 @@ pub none-laid : (v : ℕ) (b : List ℕ) (at : ℕ) → at + length (hypersBytes
 unfolding writeAll
 none-laid v b at h = nothing b at (omega arith)
 
--- an AX has a target for each transition within the bound
-pub every-count : (us : List Transition) (b : Bound) (shift : ℕ) → length (everyNext us b shift) ≡ length (keep (λ u. inside b (u .weight)) us)
-every-count us b shift = length-map (keep (λ u. inside b (u .weight)) us) (λ u. to 0 (u .to + shift))
+-- an AX has a target for each transition that it looks at
+pub every-count : (us : List Transition) (A : Action) (b : Bound) (shift : ℕ) → length (everyNext us A b shift) ≡ length (keep (looksAt A b) us)
+every-count us A b shift = length-map (keep (looksAt A b) us) (λ u. to 0 (u .to + shift))

@@ -10,7 +10,7 @@ use Rattle.wire.specs.Layout.{items}
 use Rattle.wire.specs.declared.State.{State}
 use Rattle.wire.proofs.Fields.{value-inside, value-is}
 use Rattle.wire.proofs.Layouts.{Reads, reads-all}
-use Rattle.model.specs.Format.{modelHeader, weightAt, toAt, labelAt, transitionAt}
+use Rattle.model.specs.Format.{modelHeader, weightAt, actionAt, toAt, labelAt, transitionAt}
 use Rattle.model.specs.Model.{Model, Transition}
 use Rattle.wire.specs.Step.{start}
 use Rattle.model.specs.Message.{readLabel, readTransition, readModel, labels, transitions}
@@ -36,9 +36,10 @@ module _ (m : List ℕ) where
       let g = transition-good m n st u e in
       let from : number 2 m (st .at) ≡ u .from = value-is 2 m _ (g .from-there) in
       let weight : number 4 m (st .at + weightAt) ≡ u .weight = value-is 4 m _ (g .weight-there) in
+      let action : number 2 m (st .at + actionAt) ≡ u .action = value-is 2 m _ (g .action-there) in
       let to : number 2 m (st .at + toAt) ≡ u .to = value-is 2 m _ (g .to-there) in
       record {
-        item-is = λ i. record { from = sym from i; weight = sym weight i; to = sym to i };
+        item-is = λ i. record { from = sym from i; weight = sym weight i; action = sym action i; to = sym to i };
         next-is = refl;
         ok = omega (arith, value-inside 2 m (st .at + toAt) (g .to-there));
       }

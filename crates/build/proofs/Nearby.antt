@@ -1,18 +1,16 @@
--- A loop that lays in what one makes of each transition within a bound: what it makes of any is written where the next belongs, and
--- stays there where the weight is within the bound. Assumes nothing.
+-- A loop that lays in what one makes of each transition that passes a test: what it makes of any is written where the next belongs, and
+-- stays there where the transition passes. Assumes nothing.
 use Prim.Native.Nat.{ℕ, zero, suc, _+_, _*_, _-_, _<_, _≤_}
 use mathlib.Core.List.{List, [], _∷_, _++_, append-assoc}
-use mathlib.Core.Bool.{Bool, cond}
+use mathlib.Core.Bool.{Bool, true, false, cond}
 use mathlib.Core.Path.{_≡_, refl, sym, ap, ap₂, _∙_}
 use native.Mathlib.Nat.{suc-mul}
 use native.Mathlib.Omega.{arith}
 use lib.ListN.{length, take, drop, length-append}
-use lib.Dec.{leb}
 use lib.Seq.{length-take-le, take-at, drop-drop, drop-append-add}
-use borrow.Author.Tests.{le-leb, lt-leb}
 use Rattle.lists.specs.Making.{keep}
 use Rattle.value.specs.declared.Bound.{Bound}
-use Rattle.value.specs.Value.{inside}
+use Rattle.formula.specs.declared.Action.{Action}
 use Rattle.wire.specs.Bytes.{number}
 use Rattle.wire.specs.Laid.{laid, Laid}
 use Rattle.wire.specs.Layout.{items}
@@ -22,13 +20,13 @@ use Rattle.wire.proofs.Laid.{Left, none-left, same-length, nothing, said}
 use Rattle.wire.proofs.Written.{writeAll-map, writeAll-keep}
 use Rattle.graph.specs.Write.{writeTarget}
 use Rattle.graph.proofs.Exact.{target-length}
-use Rattle.model.specs.Format.{weightAt, toAt, transitionWidth}
+use Rattle.model.specs.Format.{weightAt, actionAt, toAt, transitionWidth}
 use Rattle.model.specs.Model.{Transition}
 use Rattle.formula.specs.declared.Quantifier.{Quantifier}
 use Rattle.formula.specs.declared.Quantifier.the-variants.{Some, Every}
-use Rattle.reduction.specs.Built.{to}
+use Rattle.reduction.specs.Built.{to, looksAt}
 use Rattle.build.specs.Held.{transitionLayout}
-use Rattle.build.specs.Bytes.{hypersBytes, someNext, everyNext, nearBytes, nearWidth, nearbyBytes}
+use Rattle.build.specs.Bytes.{hypersBytes, someNext, everyNext, nearBytes, nearWidth, isNear, nearbyBytes}
 use Rattle.build.proofs.Counting.{passing-le}
 use Rattle.build.proofs.Edges.{single-length, Filling, next-filled}
 
@@ -66,36 +64,35 @@ unfolding nearBytes nearWidth
 near-long Some v node = single-length v (to 0 node)
 near-long Every v node = target-length (to 0 node)
 
--- for those within a bound it is the hyperedges of EX, or the targets of that of AX
-module _ {q : Quantifier} (v most shift : ℕ) (us : List Transition) (b : Bound)
-    (kept : keep (λ u. inside b (u .weight)) us ≡ keep (λ u. leb (u .weight) most) us) where
-  pub some-nearby : q ≡ Some → hypersBytes v (someNext us b shift) ≡ nearbyBytes q v most shift us
+-- for those that are looked at it is the hyperedges of EX, or the targets of that of AX
+module _ {q : Quantifier} (v most shift : ℕ) (us : List Transition) (A : Action) (b : Bound) (kept : keep (looksAt A b) us ≡ keep (isNear A most) us) where
+  pub some-nearby : q ≡ Some → hypersBytes v (someNext us A b shift) ≡ nearbyBytes q A v most shift us
   unfolding nearBytes
   some-nearby e = rw e (simp writeAll-map (ap (writeAll (λ u. nearBytes Some v (u .to + shift))) kept))
 
-  pub every-nearby : q ≡ Every → writeAll writeTarget (everyNext us b shift) ≡ nearbyBytes q v most shift us
+  pub every-nearby : q ≡ Every → writeAll writeTarget (everyNext us A b shift) ≡ nearbyBytes q A v most shift us
   unfolding nearBytes
   every-nearby e = rw e (simp writeAll-map (ap (writeAll (λ u. nearBytes Every v (u .to + shift))) kept))
 
 -- ---- the loop
 
--- what is made of a transition within the bound
-unfoldable pub near : ℕ → (Transition → List ℕ) → Transition → List ℕ
-near most one u = cond (leb (u .weight) most) (one u) []
+-- what is made of a transition that passes
+unfoldable pub near : (Transition → Bool) → (Transition → List ℕ) → Transition → List ℕ
+near test one u = cond (test u) (one u) []
 
--- as many bytes as transitions within the bound ask for
-pub near-length : (one : Transition → List ℕ) (most k : ℕ) → ((u : Transition) → length (one u) ≡ k) → (us : List Transition)
-    → length (writeAll (near most one) us) ≡ length (keep (λ u. leb (u .weight) most) us) * k
+-- as many bytes as the transitions that pass ask for
+pub near-length : (test : Transition → Bool) (one : Transition → List ℕ) (k : ℕ) → ((u : Transition) → length (one u) ≡ k) → (us : List Transition)
+    → length (writeAll (near test one) us) ≡ length (keep test us) * k
 unfolding near
-near-length one most k each us = ap length (sym (writeAll-keep one (λ u. leb (u .weight) most) us)) ∙ length-writeAll one k each (keep (λ u. leb (u .weight) most) us)
+near-length test one k each us = ap length (sym (writeAll-keep one test us)) ∙ length-writeAll one k each (keep test us)
 
-module _ (m : List ℕ) (n : ℕ) (one : Transition → List ℕ) (most k : ℕ) (each : (u : Transition) → length (one u) ≡ k) where
-  module _ {b : List ℕ} {at : ℕ} {whole b′ : List ℕ} {next p i : ℕ} (f : Filling m n (near most one) b at whole b′ next p i) where
+module _ (m : List ℕ) (n : ℕ) (test : Transition → Bool) (one : Transition → List ℕ) (k : ℕ) (each : (u : Transition) → length (one u) ≡ k) where
+  module _ {b : List ℕ} {at : ℕ} {whole b′ : List ℕ} {next p i : ℕ} (f : Filling m n (near test one) b at whole b′ next p i) where
     abbrev left : ℕ
-    left = length (keep (λ u. leb (u .weight) most) (items (transitionLayout m) i p))
+    left = length (keep test (items (transitionLayout m) i p))
 
     ends : next + left * k ≡ at + length whole
-    ends = ap (λ (l : ℕ). next + l) (sym (near-length one most k each (items (transitionLayout m) i p))) ∙ f .left .next-is
+    ends = ap (λ (l : ℕ). next + l) (sym (near-length test one k each (items (transitionLayout m) i p))) ∙ f .left .next-is
 
     -- with no byte left, the whole is laid in
     pub near-none : at + length whole ≤ next → Laid b at whole b′ next
@@ -106,39 +103,39 @@ module _ (m : List ℕ) (n : ℕ) (one : Transition → List ℕ) (most k : ℕ)
         go (a ∷ rest) l e = absurd (omega arith)
 
     module _ (h : next < at + length whole) where
-      -- with bytes left, there is a transition within the bound
+      -- with bytes left, there is a transition that passes
       some : (l : ℕ) → next + l * k ≡ at + length whole → (1 ≤ l) × (k ≤ l * k)
       some zero e = absurd (omega arith)
       some (suc l) e = (omega arith, rw suc-mul (omega arith))
 
       pub near-some : 0 < i
-      near-some = omega (arith, some left ends .0, passing-le (transitionLayout m) (λ u. leb (u .weight) most) i p)
+      near-some = omega (arith, some left ends .0, passing-le (transitionLayout m) test i p)
 
       pub near-fits : next + k ≤ length b′
       near-fits = omega (arith, some left ends .1, ends, f .left .length-is, f .left .whole-fits)
 
       -- with its weight and the state that it leads to as they were read
       module _ {w v : ℕ} (weight-is : w ≡ number 4 m (p + weightAt)) (to-is : v ≡ number 2 m (p + toAt)) {b″ : List ℕ} {end : ℕ}
-          (put : Laid b′ next (one (record { from = number 2 m p; weight = w; to = v })) b″ end) where
-        abbrev it : List ℕ
-        it = one (record { from = number 2 m p; weight = w; to = v })
+          (put : Laid b′ next (one (record { from = number 2 m p; weight = w; action = number 2 m (p + actionAt); to = v })) b″ end) where
+        abbrev it : Transition
+        it = record { from = number 2 m p; weight = w; action = number 2 m (p + actionAt); to = v }
 
-        bytes-are : {t : Bool} → leb w most ≡ t → cond (leb w most) it [] ≡ cond t it []
-        bytes-are e = ap (λ (t : Bool). cond t it []) e
+        bytes-are : {t : Bool} → test it ≡ t → cond (test it) (one it) [] ≡ cond t (one it) []
+        bytes-are e = ap (λ (t : Bool). cond t (one it) []) e
 
-        -- within the bound, what was made of it stays
-        pub near-stays : w ≤ most → Filling m n (near most one) b at whole b″ end (p + transitionWidth) (i - 1)
+        -- where it passes, what was made of it stays
+        pub near-stays : test it ≡ true → Filling m n (near test one) b at whole b″ end (p + transitionWidth) (i - 1)
         unfolding near
-        near-stays e = next-filled m n (near most one) f near-some weight-is to-is (said put (bytes-are (le-leb w most e)) refl refl)
+        near-stays e = next-filled m n (near test one) f near-some weight-is to-is (said put (bytes-are e) refl refl)
 
-        -- beyond, it will be laid over
-        pub near-goes : most < w → Filling m n (near most one) b at whole b″ next (p + transitionWidth) (i - 1)
+        -- where it doesn't, it will be laid over
+        pub near-goes : test it ≡ false → Filling m n (near test one) b at whole b″ next (p + transitionWidth) (i - 1)
         unfolding near
         near-goes e =
             let none = nothing b′ next (omega (arith, f .left .next-is, f .left .length-is, f .left .whole-fits)) in
-            let on = next-filled m n (near most one) f near-some weight-is to-is (said none (bytes-are (lt-leb w most e)) refl refl) in
+            let on = next-filled m n (near test one) f near-some weight-is to-is (said none (bytes-are e) refl refl) in
             record {
               readable = on .readable;
               named = on .named;
-              left = left-over (on .left) put (omega (arith, each (record { from = number 2 m p; weight = w; to = v }), on .left .next-is, some left ends .1, ends));
+              left = left-over (on .left) put (omega (arith, each it, on .left .next-is, some left ends .1, ends));
             }

@@ -10,9 +10,8 @@ use lib.Dec.{eqb}
 use Rattle.lists.specs.Lists.{_∈_}
 use Rattle.lists.specs.Making.{keep, span}
 use Rattle.lists.proofs.Making.{∈-keep}
-use Rattle.lists.proofs.Kept.{keep-map}
 use Rattle.value.specs.declared.Bound.{Bound}
-use Rattle.value.specs.Value.{inside}
+use Rattle.formula.specs.declared.Action.{Action}
 use Rattle.wire.specs.Laid.{Laid}
 use Rattle.wire.specs.Write.{writeAll}
 use Rattle.wire.proofs.Laid.{nothing, said}
@@ -27,7 +26,7 @@ use Rattle.formula.specs.declared.Row.the-variants.{Next, Until}
 use Rattle.formula.specs.Layouts.{rowAt, rowLayout}
 use Rattle.formula.specs.Rows.{operands}
 use Rattle.formula.specs.WellFormed.{RowAt}
-use Rattle.reduction.specs.Built.{to, hyper, out, near, rowEdges, ifAny, stepEdges, layout}
+use Rattle.reduction.specs.Built.{to, endOf, hyper, out, looksAt, near, rowEdges, ifAny, stepEdges, layout}
 use Rattle.build.specs.Held.{transitionsFrom, heldModel, heldRows, HoldsModel, HoldsRows, Own, Reads}
 use Rattle.build.specs.Bytes.{hypersBytes, nextEdges, helperList, rowBytes, rowsBytes, RowFits}
 use Rattle.wire.proofs.Written.{writeAll-append}
@@ -51,19 +50,19 @@ operand-fits {n} {r} f l m = place-fits n r l (f .node) (f .operands m)
 
 -- with p propositions, which don't matter here
 module _ (p : ℕ) {m : List ℕ} {n t a first many : ℕ} (o : Own m n t a first many) where
-  out-are : out (heldModel m n p t) a ≡ map (λ (u : Transition). to (u .weight) (u .to)) (transitionsFrom m n first many)
+  out-are : out (heldModel m n p t) a ≡ map endOf (transitionsFrom m n first many)
   unfolding out heldModel
-  out-are = ap (map (λ (u : Transition). to (u .weight) (u .to))) (o .are)
+  out-are = ap (map endOf) (o .are)
 
-  near-are : (b : Bound) → near (heldModel m n p t) b a ≡ map (λ (u : Transition). to (u .weight) (u .to)) (keep (λ u. inside b (u .weight)) (transitionsFrom m n first many))
-  unfolding near
-  near-are b = ap (keep (λ (t : Target). inside b (t .weight))) out-are ∙ keep-map (λ (t : Target). inside b (t .weight)) (λ (u : Transition). to (u .weight) (u .to)) (transitionsFrom m n first many)
+  near-are : (A : Action) (b : Bound) → near (heldModel m n p t) A b a ≡ map endOf (keep (looksAt A b) (transitionsFrom m n first many))
+  unfolding near heldModel
+  near-are A b = ap (λ us. map endOf (keep (looksAt A b) us)) (o .are)
 
   -- EX and AX, over the state's transitions
-  pub next-are : (q : Quantifier) (l : ℕ) (b : Bound) → rowEdges (heldModel m n p t) (Next q l b) a ≡ nextEdges q (transitionsFrom m n first many) b (n * l)
+  pub next-are : (q : Quantifier) (A : Action) (l : ℕ) (b : Bound) → rowEdges (heldModel m n p t) (Next q A l b) a ≡ nextEdges q (transitionsFrom m n first many) A b (n * l)
   unfolding heldModel
-  next-are Some l b = rw (near-are b, map-map)
-  next-are Every l b = rw (near-are b, map-map)
+  next-are Some A l b = rw (near-are A b, map-map)
+  next-are Every A l b = rw (near-are A b, map-map)
 
   -- an until's helper, over the state's transitions
   pub helper-are : (q : Quantifier) (l r h : ℕ)

@@ -12,16 +12,16 @@ use Rattle.lists.specs.Lists.{_∈_}
 use Rattle.lists.specs.Making.{keep, span}
 use Rattle.lists.proofs.Making.{∈-keep}
 use Rattle.lists.proofs.Tests.{by-test, clash}
-use Rattle.lists.proofs.Kept.{keep-length, keep-map}
+use Rattle.lists.proofs.Kept.{keep-length}
 use Rattle.value.specs.declared.Bound.{Bound}
-use Rattle.value.specs.Value.{inside}
+use Rattle.formula.specs.declared.Action.{Action}
 use Rattle.rules.specs.Graph.{Target}
 use Rattle.model.specs.Model.{Model, Transition, holds}
 use Rattle.formula.specs.declared.Quantifier.{Quantifier}
 use Rattle.formula.specs.declared.Quantifier.the-variants.{Some, Every}
 use Rattle.formula.specs.declared.Row.{Row}
 use Rattle.formula.specs.declared.Row.the-variants.{True, False, Proposition, Negation, And, Or, Next, Until}
-use Rattle.reduction.specs.Built.{to, out, near, rowEdges, ifAny, helperEdges, isUntil, untils}
+use Rattle.reduction.specs.Built.{to, endOf, out, looksAt, near, rowEdges, ifAny, helperEdges, isUntil, untils}
 use Rattle.build.specs.declared.sizing.Size.{Size}
 use Rattle.build.specs.Size.{noSize, addSize, sizeOf, stateEdges, rowsEdges, leafEdges, nextSize, stepSize, helperSize}
 use Rattle.build.specs.Bytes.{Narrow}
@@ -125,18 +125,18 @@ pub out-length : (M : Model) (a : ℕ) → length (out M a) ≡ length (keep (λ
 unfolding out
 out-length M a = length-map (own M a) _
 
-pub near-length : (M : Model) (b : Bound) (a : ℕ) → length (near M b a) ≡ length (keep (λ u. inside b (u .weight)) (keep (λ u. eqb (u .from) a) (M .transitions)))
-unfolding near out
-near-length M b a = ap length (keep-map (λ t. inside b (t .weight)) _ (own M a)) ∙ length-map (keep (λ u. inside b (u .weight)) (own M a)) _
+pub near-length : (M : Model) (A : Action) (b : Bound) (a : ℕ) → length (near M A b a) ≡ length (keep (looksAt A b) (keep (λ u. eqb (u .from) a) (M .transitions)))
+unfolding near
+near-length M A b a = length-map (keep (looksAt A b) (own M a)) endOf
 
--- EX and AX, from the number of transitions within the bound
-pub next-size : (M : Model) (q : Quantifier) (l : ℕ) (b : Bound) (a : ℕ) → sizeOf (rowEdges M (Next q l b) a) ≡ nextSize q (length (near M b a))
+-- EX and AX, from the number of transitions that they look at
+pub next-size : (M : Model) (q : Quantifier) (A : Action) (l : ℕ) (b : Bound) (a : ℕ) → sizeOf (rowEdges M (Next q A l b) a) ≡ nextSize q (length (near M A b a))
 unfolding sizeOf
-next-size M Some l b a =
-    let n = length (near M b a) in
+next-size M Some A l b a =
+    let n = length (near M A b a) in
     let most : cond (ltb n 1) 0 1 ≡ min n 1 = by-test (ltb n 1) (λ e. rw e (omega (arith, ltb-true))) (λ e. rw e (omega (arith, ltb-false))) in
-    size-map _ 1 (λ t. refl) (near M b a) ∙ same refl (omega arith) most
-next-size M Every l b a = let n = length-map (near M b a) (λ (t : Target). to 0 (t .node + M .states * l)) in same refl (omega arith) (omega arith)
+    size-map _ 1 (λ t. refl) (near M A b a) ∙ same refl (omega arith) most
+next-size M Every A l b a = let n = length-map (near M A b a) (λ (t : Target). to 0 (t .node + M .states * l)) in same refl (omega arith) (omega arith)
 
 -- a helper, from the number of transitions; where it stands does not matter
 pub helper-size : (M : Model) (row : Row) (h a : ℕ) → sizeOf (helperEdges M row h a) ≡ helperSize row (length (out M a))
@@ -184,12 +184,12 @@ module _ (M : Model) (few : length (M .transitions) ≤ 65535) where
   out-few : (a : ℕ) → length (out M a) ≤ 65535
   out-few a = omega (arith, out-length M a, keep-length (λ u. eqb (u .from) a) (M .transitions))
 
-  near-few : (b : Bound) (a : ℕ) → length (near M b a) ≤ 65535
-  near-few b a = omega (arith, near-length M b a, keep-length (λ u. inside b (u .weight)) (own M a), keep-length (λ u. eqb (u .from) a) (M .transitions))
+  near-few : (A : Action) (b : Bound) (a : ℕ) → length (near M A b a) ≤ 65535
+  near-few A b a = omega (arith, near-length M A b a, keep-length (looksAt A b) (own M a), keep-length (λ u. eqb (u .from) a) (M .transitions))
 
-  next-small : (q : Quantifier) (b : Bound) (a : ℕ) → Small 65535 (nextSize q (length (near M b a)))
-  next-small Some b a = omega (arith, near-few b a)
-  next-small Every b a = omega (arith, near-few b a)
+  next-small : (q : Quantifier) (A : Action) (b : Bound) (a : ℕ) → Small 65535 (nextSize q (length (near M A b a)))
+  next-small Some A b a = omega (arith, near-few A b a)
+  next-small Every A b a = omega (arith, near-few A b a)
 
   leaf-small : (t : Bool) → Small 65535 (sizeOf (leafEdges t))
   unfolding sizeOf
@@ -204,7 +204,7 @@ module _ (M : Model) (few : length (M .transitions) ≤ 65535) where
   row-small (Negation i) a = leaf-small (not (holds M i a))
   row-small (And l r) a = omega arith
   row-small (Or l r) a = omega arith
-  row-small (Next q l b) a = rw (next-size M q l b a) (next-small q b a)
+  row-small (Next q A l b) a = rw (next-size M q A l b a) (next-small q A b a)
   row-small (Until q l r b) a = omega arith
 
   step-small : (q : Quantifier) (a : ℕ) → Small 131071 (stepSize q (length (out M a)))

@@ -20,7 +20,7 @@ other-row (Proposition i) f x e = refl
 other-row (Negation i) f x e = refl
 other-row (And l r) f x e = refl
 other-row (Or l r) f x e = refl
-other-row (Next q l b) f x e = refl
+other-row (Next q A l b) f x e = refl
 other-row (Until q l r b) f x e = clash refl e
 
 -- by whether a row is an until
@@ -31,7 +31,7 @@ by-row C until other (Proposition i) = other (Proposition i) refl
 by-row C until other (Negation i) = other (Negation i) refl
 by-row C until other (And l r) = other (And l r) refl
 by-row C until other (Or l r) = other (Or l r) refl
-by-row C until other (Next q l b) = other (Next q l b) refl
+by-row C until other (Next q A l b) = other (Next q A l b) refl
 by-row C until other (Until q l r b) = until q l r b
 
 -- the tags of the others, and what a match knows in their arm

@@ -1,12 +1,12 @@
 -- The bytes of a graph's parts as the builder writes them.
 use Prim.Native.Nat.{ℕ, suc, _+_, _*_, _≤_, _<_}
 use mathlib.Core.List.{List, [], _∷_, _++_, map}
+use mathlib.Core.Bool.{Bool, _&&_}
 use lib.ListN.{length}
 use lib.Dec.{leb}
 use Rattle.lists.specs.Lists.{_∈_}
 use Rattle.lists.specs.Making.{keep, span}
 use Rattle.value.specs.declared.Bound.{Bound}
-use Rattle.value.specs.Value.{inside}
 use Rattle.wire.specs.Bytes.{bytes}
 use Rattle.wire.specs.Write.{writeAll}
 use Rattle.graph.specs.Format.{hyperWidth, targetWidth}
@@ -15,9 +15,10 @@ use Rattle.rules.specs.Graph.{Target}
 use Rattle.model.specs.Model.{Model, Transition}
 use Rattle.formula.specs.declared.Quantifier.{Quantifier}
 use Rattle.formula.specs.declared.Quantifier.the-variants.{Some, Every}
+use Rattle.formula.specs.declared.Action.{Action}
 use Rattle.formula.specs.declared.Row.{Row}
-use Rattle.formula.specs.Rows.{operands}
-use Rattle.reduction.specs.Built.{to, hyper, out, rowEdges, ifAny, stepEdges, helperEdges, ifUntil, layout}
+use Rattle.formula.specs.Rows.{allows, operands}
+use Rattle.reduction.specs.Built.{to, hyper, out, looksAt, rowEdges, ifAny, stepEdges, helperEdges, ifUntil, layout}
 
 -- how wide a hyperedge with one target and one with two are
 abbrev pub singleWidth : ℕ
@@ -31,11 +32,11 @@ abbrev pub hypersBytes : ℕ → List (List Target) → List ℕ
 hypersBytes v tss = writeAll writeHyper (map (hyper v) tss)
 
 -- what a row makes of a list of transitions, with the nodes of its operand or helper that far behind the states
-abbrev pub someNext : List Transition → Bound → ℕ → List (List Target)
-someNext us b shift = map (λ u. to 0 (u .to + shift) ∷ []) (keep (λ u. inside b (u .weight)) us)
+abbrev pub someNext : List Transition → Action → Bound → ℕ → List (List Target)
+someNext us A b shift = map (λ u. to 0 (u .to + shift) ∷ []) (keep (looksAt A b) us)
 
-abbrev pub everyNext : List Transition → Bound → ℕ → List Target
-everyNext us b shift = map (λ u. to 0 (u .to + shift)) (keep (λ u. inside b (u .weight)) us)
+abbrev pub everyNext : List Transition → Action → Bound → ℕ → List Target
+everyNext us A b shift = map (λ u. to 0 (u .to + shift)) (keep (looksAt A b) us)
 
 abbrev pub someSteps : List Transition → ℕ → ℕ → List (List Target)
 someSteps us left shift = map (λ u. to 0 left ∷ to (u .weight) (u .to + shift) ∷ []) us
@@ -44,11 +45,15 @@ abbrev pub everySteps : List Transition → ℕ → List Target
 everySteps us shift = map (λ u. to (u .weight) (u .to + shift)) us
 
 -- EX or AX over a list of transitions
-abbrev pub nextEdges : Quantifier → List Transition → Bound → ℕ → List (List Target)
-nextEdges Some us b shift = someNext us b shift
-nextEdges Every us b shift = everyNext us b shift ∷ []
+abbrev pub nextEdges : Quantifier → List Transition → Action → Bound → ℕ → List (List Target)
+nextEdges Some us A b shift = someNext us A b shift
+nextEdges Every us A b shift = everyNext us A b shift ∷ []
 
--- what EX or AX writes for a transition to this node, how long that is, and what it writes for those of a list within a bound
+-- it looks at a transition, with the bound as the number that says it
+abbrev pub isNear : Action → (most : ℕ) → Transition → Bool
+isNear A most u = allows A (u .action) && leb (u .weight) most
+
+-- what EX or AX writes for a transition to this node, how long that is, and what it writes for those of a list that it looks at
 unfoldable pub nearBytes : Quantifier → (v node : ℕ) → List ℕ
 nearBytes Some v node = writeHyper (hyper v (to 0 node ∷ []))
 nearBytes Every v node = writeTarget (to 0 node)
@@ -57,8 +62,8 @@ unfoldable pub nearWidth : Quantifier → ℕ
 nearWidth Some = singleWidth
 nearWidth Every = targetWidth
 
-abbrev pub nearbyBytes : Quantifier → (v most shift : ℕ) → List Transition → List ℕ
-nearbyBytes q v most shift us = writeAll (λ u. nearBytes q v (u .to + shift)) (keep (λ u. leb (u .weight) most) us)
+abbrev pub nearbyBytes : Quantifier → Action → (v most shift : ℕ) → List Transition → List ℕ
+nearbyBytes q A v most shift us = writeAll (λ u. nearBytes q v (u .to + shift)) (keep (isNear A most) us)
 
 -- the helper of state a at place h over a list of transitions: first {right at weight 0}
 abbrev pub helperList : (n a : ℕ) → Quantifier → (l r h : ℕ) → List Transition → List (List Target)

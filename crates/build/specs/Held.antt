@@ -10,7 +10,7 @@ use Rattle.lists.specs.Making.{keep}
 use Rattle.lists.specs.Order.{RisingFrom}
 use Rattle.wire.specs.Bytes.{number}
 use Rattle.wire.specs.Layout.{Layout, items}
-use Rattle.model.specs.Format.{modelHeader, labelWidth, weightAt, toAt, transitionWidth, transitionAt, modelLength}
+use Rattle.model.specs.Format.{modelHeader, labelWidth, weightAt, actionAt, toAt, transitionWidth, transitionAt, modelLength}
 use Rattle.model.specs.Model.{Model, Transition}
 use Rattle.model.specs.WellFormed as model
 use Rattle.formula.specs.Format.{formulaHeader, formulaLength}
@@ -21,7 +21,7 @@ use Rattle.formula.specs.WellFormed as formula
 -- a transition and a label at a position
 abbrev pub transitionLayout : List ℕ → Layout Transition
 transitionLayout m = record {
-  item = λ at. record { from = number 2 m at; weight = number 4 m (at + weightAt); to = number 2 m (at + toAt) };
+  item = λ at. record { from = number 2 m at; weight = number 4 m (at + weightAt); action = number 2 m (at + actionAt); to = number 2 m (at + toAt) };
   next = λ at. at + transitionWidth;
   Ok = λ at. at + transitionWidth ≤ length m;
 }

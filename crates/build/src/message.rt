@@ -48,7 +48,9 @@ fn put_row(
             let second = records::put_single(room, at, v, a + n * l);
             records::put_single(room, second, v, a + n * k)
         }
-        Row::Next(q, l, b) => records::put_next(room, at, m, n, v, first, many, q, b, n * l),
+        Row::Next(q, i, l, b) => {
+            records::put_next(room, at, m, n, v, first, many, q, i, b, n * l)
+        }
         Row::Until(_, _, _, _) => at,
     }
 }

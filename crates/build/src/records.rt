@@ -3,7 +3,6 @@ ghost use mathlib.Core.Path.{_≡_};
 ghost use Prim.Native.Nat.{_+_, _≤_};
 ghost use mathlib.Core.List.{_++_, _∷_, []};
 ghost use lib.ListN.{length};
-ghost use lib.Dec.{leb};
 ghost use Rattle.lists.specs.Making.{keep};
 ghost use Rattle.wire.specs.Bytes.{bytes};
 ghost use Rattle.wire.specs.Laid.{Laid};
@@ -12,8 +11,9 @@ ghost use Rattle.graph.specs.Write.{writeTarget, writeHyper};
 ghost use Rattle.reduction.specs.Built as built;
 ghost use Rattle.build.specs.Held.{transitionsFrom, Reads};
 ghost use Rattle.build.specs.Size.{leafEdges};
-ghost use Rattle.build.specs.Bytes.{singleWidth, pairWidth, hypersBytes, nearBytes, nearWidth, nearbyBytes, stepBytes, stepsBytes, nextEdges};
+ghost use Rattle.build.specs.Bytes.{singleWidth, pairWidth, hypersBytes, nearBytes, nearWidth, isNear, nearbyBytes, stepBytes, stepsBytes, nextEdges};
 use crate::transitions;
+use formula::Action;
 use formula::Quantifier;
 use value::Bound;
 use wire::Width;
@@ -81,8 +81,8 @@ fn near_width(q: Quantifier) -> usize
     }
 }
 
-// What EX or AX writes for each of these transitions within the bound, near of them; a successor's node stands shift further on. That of
-// every transition is written where the next one belongs, and stays there if it is within the bound: no jump waits for a weight.
+// What EX or AX writes for each of these transitions that it looks at, near of them; a successor's node stands shift further on. That of
+// every transition is written where the next one belongs, and stays there if it is looked at: no jump waits for a weight.
 fn put_nearby(
     room: &mut [u8],
     at: usize,
@@ -93,13 +93,14 @@ fn put_nearby(
     first: u32,
     many: u32,
     near: u64,
+    action: Action,
     most: u32,
     shift: u32,
 ) -> usize
     requires { ⌜ Reads (now m) n first many shift ⌝ }
-    requires { ⌜ near ≡ length (keep (λ u. leb (u .weight) most) (transitionsFrom (now m) n first many)) ⌝ }
-    requires { ⌜ at + length (nearbyBytes q v most shift (transitionsFrom (now m) n first many)) ≤ length (now room) ⌝ }
-    ensures { λ r. ⌜ Laid (now (room .entry)) at (nearbyBytes q v most shift (transitionsFrom (now (m .entry)) n first many)) (now (room .exit)) r ⌝ }
+    requires { ⌜ near ≡ length (keep (isNear action most) (transitionsFrom (now m) n first many)) ⌝ }
+    requires { ⌜ at + length (nearbyBytes q action v most shift (transitionsFrom (now m) n first many)) ≤ length (now room) ⌝ }
+    ensures { λ r. ⌜ Laid (now (room .entry)) at (nearbyBytes q action v most shift (transitionsFrom (now (m .entry)) n first many)) (now (room .exit)) r ⌝ }
 {
     let width = near_width(q);
     let end = at + (near as usize) * width;
@@ -107,12 +108,12 @@ fn put_nearby(
     let mut p = transitions::transition_at(n, first);
     let mut i = many;
     while next < end {
-        let weight = wire::number_at(m, p + model::WEIGHT_AT, Width::Four);
+        let here = transitions::is_near(m, p, action, most);
         let to = wire::number_at(m, p + model::TO_AT, Width::Two);
         p += model::TRANSITION;
         i -= 1;
         let past = put_near(room, next, q, v, to + shift);
-        if weight <= most {
+        if here {
             next = past;
         }
     }
@@ -179,7 +180,7 @@ pub fn put_leaf(room: &mut [u8], at: usize, v: u32, one: bool) -> usize
     at
 }
 
-// EX has a hyperedge for each transition within the bound, AX one with all.
+// EX has a hyperedge for each transition that it looks at, AX one with all.
 pub fn put_next(
     room: &mut [u8],
     at: usize,
@@ -189,21 +190,48 @@ pub fn put_next(
     first: u32,
     many: u32,
     q: Quantifier,
+    action: Action,
     bound: Bound,
     shift: u32,
 ) -> usize
     requires { ⌜ Reads (now m) n first many shift ⌝ }
-    requires { ⌜ at + length (hypersBytes v (nextEdges q (transitionsFrom (now m) n first many) bound shift)) ≤ length (now room) ⌝ }
-    ensures { λ r. ⌜ Laid (now (room .entry)) at (hypersBytes v (nextEdges q (transitionsFrom (now (m .entry)) n first many) bound shift))
+    requires { ⌜ at + length (hypersBytes v (nextEdges q (transitionsFrom (now m) n first many) action bound shift)) ≤ length (now room) ⌝ }
+    ensures { λ r. ⌜ Laid (now (room .entry)) at (hypersBytes v (nextEdges q (transitionsFrom (now (m .entry)) n first many) action bound shift))
         (now (room .exit)) r ⌝ }
 {
-    let near = transitions::near_count(m, n, first, many, bound);
+    let near = transitions::near_count(m, n, first, many, action, bound);
     let most = bound.code();
     match q {
-        Quantifier::Some => put_nearby(room, at, m, n, q, v, first, many, near, most, shift),
+        Quantifier::Some => put_nearby(
+            room,
+            at,
+            m,
+            n,
+            q,
+            v,
+            first,
+            many,
+            near,
+            action,
+            most,
+            shift,
+        ),
         Quantifier::Every => {
             let targets = put_head(room, at, v, near as u32);
-            put_nearby(room, targets, m, n, q, v, first, many, near, most, shift)
+            put_nearby(
+                room,
+                targets,
+                m,
+                n,
+                q,
+                v,
+                first,
+                many,
+                near,
+                action,
+                most,
+                shift,
+            )
         }
     }
 }

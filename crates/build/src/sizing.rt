@@ -69,7 +69,7 @@ fn row_size(m: &[u8], n: u32, p: u32, t: u32, a: u32, first: u32, many: u32, row
             targets: 2,
             most: 1,
         },
-        Row::Next(q, _, b) => next_size(q, transitions::near_count(m, n, first, many, b)),
+        Row::Next(q, k, _, b) => next_size(q, transitions::near_count(m, n, first, many, k, b)),
         Row::Until(_, _, _, _) => Size::NONE,
     }
 }

@@ -3,10 +3,12 @@ ghost use mathlib.Core.Path.{_≡_};
 ghost use Prim.Native.Nat.{_+_, _-_, _≤_, _<_};
 ghost use lib.ListN.{length};
 ghost use Rattle.lists.specs.Making.{keep};
-ghost use Rattle.value.specs.Value.{inside};
-ghost use Rattle.model.specs.Format.{transitionAt};
+ghost use Rattle.model.specs.Format.{transitionWidth, transitionAt};
 ghost use Rattle.model.specs.Model as model;
-ghost use Rattle.build.specs.Held.{transitionsFrom, heldModel, HoldsModel, Starts, RiseFrom, leading};
+ghost use Rattle.reduction.specs.Built.{looksAt};
+ghost use Rattle.build.specs.Bytes.{isNear};
+ghost use Rattle.build.specs.Held.{transitionLayout, transitionsFrom, heldModel, HoldsModel, Starts, RiseFrom, leading};
+use formula::Action;
 use value::Bound;
 use wire::Width;
 
@@ -93,24 +95,47 @@ pub fn starts(m: &[u8], n: u32, p: u32, t: u32) -> [u32; 257]
     table
 }
 
-// How many of these transitions are within the bound. A count of 32 bits would have the compiler gather the weights byte by byte.
-pub fn near_count(m: &[u8], n: u32, first: u32, many: u32, bound: Bound) -> u64
-    requires { ⌜ transitionAt n (first + many) ≤ length (now m) ⌝ }
-    ensures { λ r. ⌜ r ≡ length (keep (λ u. inside bound (u .weight)) (transitionsFrom (now (m .entry)) n first many)) ⌝ }
+// Whether EX or AX looks at the transition at a position: its action is allowed, and its weight is at most this.
+pub fn is_near(m: &[u8], at: usize, action: Action, most: u32) -> bool
+    requires { ⌜ at + transitionWidth ≤ length (now m) ⌝ }
+    ensures { λ r. ⌜ r ≡ isNear action most (transitionLayout (now (m .entry)) .item at) ⌝ }
 {
-    let Bound::Within(most) = bound else {
-        return many as u64;
-    };
+    let own = wire::number_at(m, at + model::ACTION_AT, Width::Two);
+    let weight = wire::number_at(m, at + model::WEIGHT_AT, Width::Four);
+    if action.allows(own) {
+        return weight <= most;
+    }
+    false
+}
+
+// How many of these transitions it looks at. A count of 32 bits would have the compiler gather the weights byte by byte.
+fn count_near(m: &[u8], n: u32, first: u32, many: u32, action: Action, most: u32) -> u64
+    requires { ⌜ transitionAt n (first + many) ≤ length (now m) ⌝ }
+    ensures { λ r. ⌜ r ≡ length (keep (isNear action most) (transitionsFrom (now (m .entry)) n first many)) ⌝ }
+{
     let mut at = transition_at(n, first);
     let mut i = many;
     let mut near: u64 = 0;
     while 0 < i {
-        let weight = wire::number_at(m, at + model::WEIGHT_AT, Width::Four);
+        let here = is_near(m, at, action, most);
         at += model::TRANSITION;
         i -= 1;
-        if weight <= most {
+        if here {
             near += 1;
         }
     }
     near
+}
+
+// The same, by the bound; with no action and no bound it is all of them.
+pub fn near_count(m: &[u8], n: u32, first: u32, many: u32, action: Action, bound: Bound) -> u64
+    requires { ⌜ transitionAt n (first + many) ≤ length (now m) ⌝ }
+    ensures { λ r. ⌜ r ≡ length (keep (looksAt action bound) (transitionsFrom (now (m .entry)) n first many)) ⌝ }
+{
+    if let Action::Any = action {
+        if let Bound::Unbounded = bound {
+            return many as u64;
+        }
+    }
+    count_near(m, n, first, many, action, bound.code())
 }

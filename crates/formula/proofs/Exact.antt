@@ -25,14 +25,14 @@ use Rattle.wire.proofs.Counts.{good-count}
 use Rattle.wire.proofs.Exact.{good-bind, good-after, good-demand, length-writeAll, Exact, FitsAll, none, more, all-reads, all-written, message-length, message-rest, start-reads, start-written}
 use Rattle.formula.specs.Format.{formulaHeader, formulaHead, rowsCount, leftAt, rightAt, zeroAt, boundAt, rowWidth, formulaLength}
 use Rattle.formula.specs.declared.Row.{Row}
-use Rattle.formula.specs.Rows.{rowOf, usesLeft, usesRight, usesBound, operands, propositions, uses, usedOnce}
+use Rattle.formula.specs.Rows.{rowOf, usesLeft, usesRight, usesBound, operands, propositions, actions, uses, usedOnce}
 use Rattle.formula.specs.Message.{rowFrom, fieldsFrom, rows, readHeader, readFormula}
 use Rattle.formula.specs.Write.{fields, writeRow, writeFormula}
 use Rattle.formula.specs.WellFormed.{SayableRow, RowAt, WellFormed}
 use Rattle.formula.proofs.Good.{row-good, header-good, formula-good, good-formula}
 use Rattle.formula.proofs.Judging.{Named, spare-fields, named-fields}
 use Rattle.formula.proofs.Using.{good-spare, good-operand}
-use Rattle.formula.proofs.Spelt.{left, right, spelt, row-length, said}
+use Rattle.formula.proofs.Spelt.{names, left, right, spelt, row-length, said}
 
 -- ---- rows
 
@@ -162,13 +162,14 @@ name-below k (l ∷ ls) (suc i) p f = name-below k ls i p (λ m e. f m (List·Me
 well-fits : (p : ℕ) (rs : List Row) → WellFormed p rs → (i : ℕ) (row : Row) → RowAt rs i row → RowFits p i row
 well-fits p rs w i row e =
     let place = place-lt rs i e in
-    let names : (l : ℕ) → l ∈ (propositions row ++ operands row) → l < 256 =
-    λ l m. ⊎-elim (λ q. omega (arith, w .propositions-named i e q, w .propositions-fit)) (λ q. omega (arith, w .earlier i e q, w .rows-fit)) (List·Memᴰ·append-cases (propositions row) m) in
+    let bytes : (l : ℕ) → l ∈ names row → l < 256 =
+    λ l m. ⊎-elim (λ front. ⊎-elim (λ q. omega (arith, w .propositions-named i e q, w .propositions-fit)) (λ q. omega (arith, w .earlier i e q, w .rows-fit)) (List·Memᴰ·append-cases (propositions row) front))
+    (λ q. w .actions-fit (place-∈ rs i e) q) (List·Memᴰ·append-cases (propositions row ++ operands row) m) in
     record {
-      names = record { existing = w .propositions-named i e; earlier = w .earlier i e };
+      names = record { existing = w .propositions-named i e; earlier = w .earlier i e; acting = w .actions-fit (place-∈ rs i e) };
       sayable = w .sayable (place-∈ rs i e);
-      left-byte = name-below 256 _ 0 (omega arith) names;
-      right-byte = name-below 256 _ 1 (omega arith) names;
+      left-byte = name-below 256 _ 0 (omega arith) bytes;
+      right-byte = name-below 256 _ 1 (omega arith) bytes;
     }
 
 pub accepted-written : (p : ℕ) (s : List ℕ) (rs : List Row) → Bytes s → readFormula p s ≡ good rs → (s ≡ writeFormula rs) × WellFormed p rs
@@ -189,6 +190,7 @@ accepted-written p s rs b e =
         propositions-named = λ i {row} e m. at i row e .names .existing m;
         earlier = λ i {row} e m. at i row e .names .earlier m;
         sayable = λ {row} m. let place = ∈-place m in at (place .0) row (place .1) .sayable;
+        actions-fit = λ {row} m k. let place = ∈-place m in at (place .0) row (place .1) .names .acting k;
         used-once = used-each rs (g .used);
       },
     )
@@ -223,6 +225,7 @@ widest w = record {
   propositions-named = λ i e m. omega (arith, w .propositions-named i e m, w .propositions-fit);
   earlier = λ i e m. w .earlier i e m;
   sayable = λ m. w .sayable m;
+  actions-fit = λ m k. w .actions-fit m k;
   used-once = w .used-once;
 }
 

@@ -23,16 +23,16 @@ use Rattle.wire.proofs.Readers.{all-length}
 use Rattle.wire.proofs.Exact.{good-bind, good-demand, all-there}
 use Rattle.formula.specs.Format.{formulaHeader, formulaHead, rowsCount, leftAt, rightAt, zeroAt, boundAt, rowWidth, formulaLength}
 use Rattle.formula.specs.declared.Row.{Row}
-use Rattle.formula.specs.Rows.{rowOf, usesLeft, usesRight, usesBound, leftLimit, usedOnce}
+use Rattle.formula.specs.Rows.{rowOf, usesLeft, usesRight, usesBound, leftLimit, rightLimit, usedOnce}
 use Rattle.formula.specs.Message.{illFormed, spare, operand, fieldsFrom, rowFrom, readRow, rows, readHeader, readFormula}
 use Rattle.formula.proofs.Spelt.{spareZero}
 use Rattle.formula.proofs.Judging.{named, Idle, Named, fields-spare, fields-named}
 use Rattle.formula.proofs.Using.{spare-good, operand-good, zero-good}
 
 -- a row of a known operator is read by its fields
-pub row-known : (s : List ℕ) (at offset p place : ℕ) {o : ℕ} → fieldAt 1 s at ≡ Number o → o ≤ 9 → rowFrom s at offset p place ≡ fieldsFrom s at offset p place o
+pub row-known : (s : List ℕ) (at offset p place : ℕ) {o : ℕ} → fieldAt 1 s at ≡ Number o → o ≤ 11 → rowFrom s at offset p place ≡ fieldsFrom s at offset p place o
 unfolding rowFrom
-row-known s at offset p place {o} there known = simp (reading, there, le-leb o 9 known)
+row-known s at offset p place {o} there known = simp (reading, there, le-leb o 11 known)
 
 -- a row is read from its part of the message as from the message
 module _ (s : List ℕ) (at : ℕ) (inside : at + rowWidth ≤ length s) where
@@ -52,7 +52,7 @@ module _ (s : List ℕ) (at : ℕ) (inside : at + rowWidth ≤ length s) where
     spare-part false 1 zeroAt (offset + zeroAt) (omega arith),
     spare-part (usesBound o) 4 boundAt (offset + boundAt) (omega arith),
     operand-part (usesLeft o) leftAt (leftLimit p place o) (offset + leftAt) (omega arith),
-    operand-part (usesRight o) rightAt place (offset + rightAt) (omega arith),
+    operand-part (usesRight o) rightAt (rightLimit place o) (offset + rightAt) (omega arith),
     part-field s at rowWidth 4 boundAt inside (omega arith),
   ) refl
 
@@ -60,19 +60,19 @@ module _ (s : List ℕ) (at : ℕ) (inside : at + rowWidth ≤ length s) where
   unfolding rowFrom _>>=_
   row-part offset p place = rw (part-field s at rowWidth 1 0 inside (omega arith), add-zero) (go (field 1 s at))
     where
-      go : (x : Read ℕ) → (x >>= λ o. demand (leb o 9) Form offset >> fieldsFrom (take rowWidth (drop at s)) 0 offset p place o) ≡ (x >>= λ o. demand (leb o 9) Form offset >> fieldsFrom s at offset p place o)
+      go : (x : Read ℕ) → (x >>= λ o. demand (leb o 11) Form offset >> fieldsFrom (take rowWidth (drop at s)) 0 offset p place o) ≡ (x >>= λ o. demand (leb o 11) Form offset >> fieldsFrom s at offset p place o)
       go (good o) = rw (fields-part offset p place o) refl
       go (bad e) = refl
 
 -- what a good row says of its fields
 pub record Fine (p place operator left right zero bound : ℕ) (row : Row) : Type 0 where
-  pub known : operator ≤ 9
+  pub known : operator ≤ 11
   pub is : rowOf operator left right bound ≡ row
   pub spare : spareZero row left right zero bound ≡ true
   pub names : Named p place row
 
-fields-fine : (p place o l r z b : ℕ) {row : Row} → o ≤ 9 → rowOf o l r b ≡ row → Idle o l r z b
-    → named (usesLeft o) l (leftLimit p place o) ≡ true → named (usesRight o) r place ≡ true → Fine p place o l r z b row
+fields-fine : (p place o l r z b : ℕ) {row : Row} → o ≤ 11 → rowOf o l r b ≡ row → Idle o l r z b
+    → named (usesLeft o) l (leftLimit p place o) ≡ true → named (usesRight o) r (rightLimit place o) ≡ true → Fine p place o l r z b row
 fields-fine p place o l r z b known same idle left right =
     record { known = known; is = same; spare = rw (← same) (fields-spare o l r z b known idle); names = rw (← same) (fields-named p place o l r b known left right) }
 

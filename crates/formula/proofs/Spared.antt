@@ -15,7 +15,7 @@ use Rattle.wire.proofs.Reading.{reading}
 use Rattle.formula.specs.declared.Fields.{Fields}
 use Rattle.formula.specs.declared.Row.{Row}
 use Rattle.formula.specs.Format.{leftAt, rightAt, zeroAt, boundAt}
-use Rattle.formula.specs.Rows.{rowOf, usesLeft, usesRight, usesBound, leftLimit}
+use Rattle.formula.specs.Rows.{rowOf, usesLeft, usesRight, usesBound, leftLimit, rightLimit}
 use Rattle.formula.specs.Message.{illFormed, spare, operand, fieldsFrom}
 use Rattle.formula.specs.Told.{Told, unused}
 use Rattle.formula.proofs.Using.{Uses}
@@ -41,7 +41,7 @@ spare-told false k s at offset {n} there e = simp (there, reading, demand-then, 
 unfoldable pub namesFrom : List ℕ → (offset p place operator : ℕ) → Read Row
 namesFrom s offset p place o = do
   left ← operand (usesLeft o) s leftAt (leftLimit p place o) (offset + leftAt)
-  right ← operand (usesRight o) s rightAt place (offset + rightAt)
+  right ← operand (usesRight o) s rightAt (rightLimit place o) (offset + rightAt)
   bound ← field 4 s boundAt
   good (rowOf o left right bound)
 

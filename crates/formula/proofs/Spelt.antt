@@ -1,7 +1,7 @@
 -- The fields of a row: those that it is written with, and that fields without a fault are those of their row. Assumes nothing.
 use Prim.Native.Nat.{ℕ, zero, suc, _^_, _≤_, _<_}
 use mathlib.Core.Bool.{Bool, true, _&&_}
-use mathlib.Core.List.{_++_}
+use mathlib.Core.List.{List, _++_}
 use mathlib.Core.Path.{_≡_, refl, ap}
 use native.Mathlib.Omega.{arith}
 use lib.Dec.{eqb}
@@ -13,18 +13,22 @@ use Rattle.value.proofs.Coded.{code-bound, bound-sayable, bound-code, code-fits
 use Rattle.wire.proofs.Bytes.{length-bytes}
 use Rattle.formula.specs.Format.{rowWidth}
 use Rattle.formula.specs.declared.Quantifier.the-variants.{Some, Every}
+use Rattle.formula.specs.declared.Action.the-variants.{Any, Only}
 use Rattle.formula.specs.declared.Row.{Row}
 use Rattle.formula.specs.declared.Row.the-variants.{True, False, Proposition, Negation, And, Or, Next, Until}
-use Rattle.formula.specs.Rows.{rowOf, operands, propositions}
+use Rattle.formula.specs.Rows.{rowOf, operands, propositions, actions}
 use Rattle.formula.specs.Write.{fields, writeRow}
 use Rattle.formula.specs.WellFormed.{SayableRow}
 
 -- left and right are the names that the row has, and zero where it has none
+abbrev pub names : Row → List ℕ
+names row = propositions row ++ operands row ++ actions row
+
 abbrev pub left : Row → ℕ
-left row = getD (propositions row ++ operands row) 0 0
+left row = getD (names row) 0 0
 
 abbrev pub right : Row → ℕ
-right row = getD (propositions row ++ operands row) 1 0
+right row = getD (names row) 1 0
 
 -- the fields that the row doesn't use, of left, right, zero and bound, are zero; zero is never used
 abbrev pub spareZero : Row → (left right zero bound : ℕ) → Bool
@@ -34,7 +38,8 @@ spareZero (Proposition i) l r z b = eqb r 0 && (eqb z 0 && eqb b 0)
 spareZero (Negation i) l r z b = eqb r 0 && (eqb z 0 && eqb b 0)
 spareZero (And x y) l r z b = eqb z 0 && eqb b 0
 spareZero (Or x y) l r z b = eqb z 0 && eqb b 0
-spareZero (Next q x k) l r z b = eqb r 0 && eqb z 0
+spareZero (Next q Any x k) l r z b = eqb r 0 && eqb z 0
+spareZero (Next q (Only a) x k) l r z b = eqb z 0
 spareZero (Until q x y k) l r z b = eqb z 0
 
 -- the fields that a row is written with give the row back, and those that it doesn't use are zero
@@ -42,7 +47,7 @@ pub record Spelt (row : Row) : Type 0 where
   pub operator : ℕ
   pub code : ℕ
   pub written : writeRow row ≡ fields operator (left row) (right row) 0 code
-  pub known : operator ≤ 9
+  pub known : operator ≤ 11
   pub spare : spareZero row (left row) (right row) 0 code ≡ true
   pub is : SayableRow row → rowOf operator (left row) (right row) code ≡ row
   pub fits : SayableRow row → code < 2 ^ 32
@@ -55,14 +60,18 @@ spelt (Proposition q) = record { operator = 2; code = 0; written = refl; known =
 spelt (Negation q) = record { operator = 3; code = 0; written = refl; known = omega arith; spare = refl; is = λ s. refl; fits = λ s. omega arith }
 spelt (And l r) = record { operator = 4; code = 0; written = refl; known = omega arith; spare = refl; is = λ s. refl; fits = λ s. omega arith }
 spelt (Or l r) = record { operator = 5; code = 0; written = refl; known = omega arith; spare = refl; is = λ s. refl; fits = λ s. omega arith }
-spelt (Next Some l b) =
-    record { operator = 6; code = codeOf b; written = refl; known = omega arith; spare = refl; is = λ s. ap (Next Some l) (bound-code b s); fits = code-fits b }
-spelt (Next Every l b) =
-    record { operator = 7; code = codeOf b; written = refl; known = omega arith; spare = refl; is = λ s. ap (Next Every l) (bound-code b s); fits = code-fits b }
+spelt (Next Some Any l b) =
+    record { operator = 6; code = codeOf b; written = refl; known = omega arith; spare = refl; is = λ s. ap (Next Some Any l) (bound-code b s); fits = code-fits b }
+spelt (Next Every Any l b) =
+    record { operator = 7; code = codeOf b; written = refl; known = omega arith; spare = refl; is = λ s. ap (Next Every Any l) (bound-code b s); fits = code-fits b }
 spelt (Until Some l r b) =
     record { operator = 8; code = codeOf b; written = refl; known = omega arith; spare = refl; is = λ s. ap (Until Some l r) (bound-code b s); fits = code-fits b }
 spelt (Until Every l r b) =
     record { operator = 9; code = codeOf b; written = refl; known = omega arith; spare = refl; is = λ s. ap (Until Every l r) (bound-code b s); fits = code-fits b }
+spelt (Next Some (Only k) l b) =
+    record { operator = 10; code = codeOf b; written = refl; known = omega arith; spare = refl; is = λ s. ap (Next Some (Only k) l) (bound-code b s); fits = code-fits b }
+spelt (Next Every (Only k) l b) =
+    record { operator = 11; code = codeOf b; written = refl; known = omega arith; spare = refl; is = λ s. ap (Next Every (Only k) l) (bound-code b s); fits = code-fits b }
 
 pub row-length : (row : Row) → length (writeRow row) ≡ rowWidth
 row-length row = rw (spelt row .written) (simp (length-append, length-bytes))
@@ -75,18 +84,20 @@ pub record Said (o l r z b : ℕ) (row : Row) : Type 0 where
   pub right-below : (k : ℕ) → 0 < k → r < k → right row < k
 
 -- by which operator it is
-pub by-operator : (P : ℕ → Type 0) → P 0 → P 1 → P 2 → P 3 → P 4 → P 5 → P 6 → P 7 → P 8 → P 9 → (o : ℕ) → o ≤ 9 → P o
-by-operator P p0 p1 p2 p3 p4 p5 p6 p7 p8 p9 zero h = p0
-by-operator P p0 p1 p2 p3 p4 p5 p6 p7 p8 p9 (suc zero) h = p1
-by-operator P p0 p1 p2 p3 p4 p5 p6 p7 p8 p9 (suc (suc zero)) h = p2
-by-operator P p0 p1 p2 p3 p4 p5 p6 p7 p8 p9 (suc (suc (suc zero))) h = p3
-by-operator P p0 p1 p2 p3 p4 p5 p6 p7 p8 p9 (suc (suc (suc (suc zero)))) h = p4
-by-operator P p0 p1 p2 p3 p4 p5 p6 p7 p8 p9 (suc (suc (suc (suc (suc zero))))) h = p5
-by-operator P p0 p1 p2 p3 p4 p5 p6 p7 p8 p9 (suc (suc (suc (suc (suc (suc zero)))))) h = p6
-by-operator P p0 p1 p2 p3 p4 p5 p6 p7 p8 p9 (suc (suc (suc (suc (suc (suc (suc zero))))))) h = p7
-by-operator P p0 p1 p2 p3 p4 p5 p6 p7 p8 p9 (suc (suc (suc (suc (suc (suc (suc (suc zero)))))))) h = p8
-by-operator P p0 p1 p2 p3 p4 p5 p6 p7 p8 p9 (suc (suc (suc (suc (suc (suc (suc (suc (suc zero))))))))) h = p9
-by-operator P p0 p1 p2 p3 p4 p5 p6 p7 p8 p9 (suc (suc (suc (suc (suc (suc (suc (suc (suc (suc n)))))))))) h = absurd (omega arith)
+pub by-operator : (P : ℕ → Type 0) → P 0 → P 1 → P 2 → P 3 → P 4 → P 5 → P 6 → P 7 → P 8 → P 9 → P 10 → P 11 → (o : ℕ) → o ≤ 11 → P o
+by-operator P p0 p1 p2 p3 p4 p5 p6 p7 p8 p9 p10 p11 zero h = p0
+by-operator P p0 p1 p2 p3 p4 p5 p6 p7 p8 p9 p10 p11 (suc zero) h = p1
+by-operator P p0 p1 p2 p3 p4 p5 p6 p7 p8 p9 p10 p11 (suc (suc zero)) h = p2
+by-operator P p0 p1 p2 p3 p4 p5 p6 p7 p8 p9 p10 p11 (suc (suc (suc zero))) h = p3
+by-operator P p0 p1 p2 p3 p4 p5 p6 p7 p8 p9 p10 p11 (suc (suc (suc (suc zero)))) h = p4
+by-operator P p0 p1 p2 p3 p4 p5 p6 p7 p8 p9 p10 p11 (suc (suc (suc (suc (suc zero))))) h = p5
+by-operator P p0 p1 p2 p3 p4 p5 p6 p7 p8 p9 p10 p11 (suc (suc (suc (suc (suc (suc zero)))))) h = p6
+by-operator P p0 p1 p2 p3 p4 p5 p6 p7 p8 p9 p10 p11 (suc (suc (suc (suc (suc (suc (suc zero))))))) h = p7
+by-operator P p0 p1 p2 p3 p4 p5 p6 p7 p8 p9 p10 p11 (suc (suc (suc (suc (suc (suc (suc (suc zero)))))))) h = p8
+by-operator P p0 p1 p2 p3 p4 p5 p6 p7 p8 p9 p10 p11 (suc (suc (suc (suc (suc (suc (suc (suc (suc zero))))))))) h = p9
+by-operator P p0 p1 p2 p3 p4 p5 p6 p7 p8 p9 p10 p11 (suc (suc (suc (suc (suc (suc (suc (suc (suc (suc zero)))))))))) h = p10
+by-operator P p0 p1 p2 p3 p4 p5 p6 p7 p8 p9 p10 p11 (suc (suc (suc (suc (suc (suc (suc (suc (suc (suc (suc zero))))))))))) h = p11
+by-operator P p0 p1 p2 p3 p4 p5 p6 p7 p8 p9 p10 p11 (suc (suc (suc (suc (suc (suc (suc (suc (suc (suc (suc (suc n)))))))))))) h = absurd (omega arith)
 
 -- all of four fields are zero
 zeros : (l r z b : ℕ) → (eqb l 0 && (eqb r 0 && (eqb z 0 && eqb b 0))) ≡ true → (l ≡ 0) × (r ≡ 0) × (z ≡ 0) × (b ≡ 0)
@@ -99,7 +110,7 @@ zeros l r z b e =
       eqb-true b 0 (and-right (eqb z 0) (eqb b 0) last),
     )
 
-pub said : (o l r z b : ℕ) → o ≤ 9 → spareZero (rowOf o l r b) l r z b ≡ true → Said o l r z b (rowOf o l r b)
+pub said : (o l r z b : ℕ) → o ≤ 11 → spareZero (rowOf o l r b) l r z b ≡ true → Said o l r z b (rowOf o l r b)
 unfolding rowOf writeRow
 said o l r z b =
     by-operator (λ (o : ℕ). spareZero (rowOf o l r b) l r z b ≡ true → Said o l r z b (rowOf o l r b))
@@ -111,6 +122,8 @@ said o l r z b =
     (λ e. let n = zeros 0 0 z b e in record { written = rw (n .2, n .3); sayable = λ h. tt; left-below = λ k p h. h; right-below = λ k p h. h })
     (λ e. let z-is = eqb-true z 0 (and-right (eqb r 0) (eqb z 0) e) in let r-is = eqb-true r 0 (and-left (eqb r 0) (eqb z 0) e) in record { written = rw (z-is, r-is, code-bound); sayable = bound-sayable b; left-below = λ k p h. h; right-below = λ k p h. p })
     (λ e. let z-is = eqb-true z 0 (and-right (eqb r 0) (eqb z 0) e) in let r-is = eqb-true r 0 (and-left (eqb r 0) (eqb z 0) e) in record { written = rw (z-is, r-is, code-bound); sayable = bound-sayable b; left-below = λ k p h. h; right-below = λ k p h. p })
+    (λ e. let z-is = eqb-true z 0 e in record { written = rw (z-is, code-bound); sayable = bound-sayable b; left-below = λ k p h. h; right-below = λ k p h. h })
+    (λ e. let z-is = eqb-true z 0 e in record { written = rw (z-is, code-bound); sayable = bound-sayable b; left-below = λ k p h. h; right-below = λ k p h. h })
     (λ e. let z-is = eqb-true z 0 e in record { written = rw (z-is, code-bound); sayable = bound-sayable b; left-below = λ k p h. h; right-below = λ k p h. h })
     (λ e. let z-is = eqb-true z 0 e in record { written = rw (z-is, code-bound); sayable = bound-sayable b; left-below = λ k p h. h; right-below = λ k p h. h })
     o

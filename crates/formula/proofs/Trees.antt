@@ -33,7 +33,7 @@ grow-same (Proposition i) φ ψ q = refl
 grow-same (Negation i) φ ψ q = refl
 grow-same (And l k) φ ψ q = ap₂ and (q l first) (q k second)
 grow-same (Or l k) φ ψ q = ap₂ or (q l first) (q k second)
-grow-same (Next c l b) φ ψ q = ap (λ x. next c x b) (q l first)
+grow-same (Next c a l b) φ ψ q = ap (λ x. next c a x b) (q l first)
 grow-same (Until c l k b) φ ψ q = ap₂ (λ x y. until c x y b) (q l first) (q k second)
 
 module _ (rows : List Row) (ok : Ordered rows) where
@@ -90,7 +90,7 @@ size-grow (Proposition i) φ = refl
 size-grow (Negation i) φ = refl
 size-grow (And l r) φ = omega arith
 size-grow (Or l r) φ = omega arith
-size-grow (Next q l b) φ = omega arith
+size-grow (Next q k l b) φ = omega arith
 size-grow (Until q l r b) φ = omega arith
 
 -- the rows from place k on have one operator or proposition each, and those of their operands

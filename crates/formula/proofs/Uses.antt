@@ -52,7 +52,7 @@ operands-few (Proposition q) = omega arith
 operands-few (Negation q) = omega arith
 operands-few (And l r) = omega arith
 operands-few (Or l r) = omega arith
-operands-few (Next q l b) = omega arith
+operands-few (Next q k l b) = omega arith
 operands-few (Until q l r b) = omega arith
 
 pub row-few : (i : ℕ) (row : Row) → times i (operands row) ≤ 2

@@ -53,8 +53,8 @@ next-uses o l h = record {
   names = le-ltb o 4 (omega arith);
 }
 
-pub until-uses : (o : ℕ) → 8 ≤ o → Uses o true true true false
-until-uses o l = record {
+pub full-uses : (o : ℕ) → 8 ≤ o → Uses o true true true false
+full-uses o l = record {
   of-left = le-leb 2 o (omega arith);
   of-right = rw (le-ltb o 6 (omega arith)) (le-leb 8 o l);
   of-bound = le-leb 6 o (omega arith);

@@ -7,16 +7,18 @@ use lib.ListN.{getElem?, length}
 use Rattle.lists.specs.Lists.{_∈_}
 use Rattle.value.specs.declared.Bound.{Bound}
 use Rattle.formula.specs.declared.Quantifier.{Quantifier}
+use Rattle.formula.specs.declared.Action.{Action}
 use Rattle.formula.specs.declared.Row.{Row}
 use Rattle.formula.specs.declared.Row.the-variants as Row
 use Rattle.formula.specs.Rows.{operands}
 
--- the operators, with formulas for operands; an until carries its quantifier and a bound that is a number or none
+-- the operators, with formulas for operands; EX, AX and the untils carry a quantifier and a bound that is a number or none, EX and AX also
+-- an action that is given or not
 pub data Formula : Type 0 where
   true′ false′ : Formula
   prop not-prop : ℕ → Formula
   and or : Formula → Formula → Formula
-  next : Quantifier → Formula → Bound → Formula
+  next : Quantifier → Action → Formula → Bound → Formula
   until : Quantifier → Formula → Formula → Bound → Formula
 
 -- the formula of a row, from the formulas of its operands
@@ -28,7 +30,7 @@ grow (some (Row.Proposition i)) φ = prop i
 grow (some (Row.Negation i)) φ = not-prop i
 grow (some (Row.And l r)) φ = and (φ l) (φ r)
 grow (some (Row.Or l r)) φ = or (φ l) (φ r)
-grow (some (Row.Next q l b)) φ = next q (φ l) b
+grow (some (Row.Next q k l b)) φ = next q k (φ l) b
 grow (some (Row.Until q l r b)) φ = until q (φ l) (φ r) b
 
 -- the formula of row i, to a depth of n operators; operands are earlier rows, so any n above i gives the whole tree
@@ -52,7 +54,7 @@ size (prop i) = 1
 size (not-prop i) = 1
 size (and x y) = 1 + size x + size y
 size (or x y) = 1 + size x + size y
-size (next q x b) = 1 + size x
+size (next q k x b) = 1 + size x
 size (until q x y b) = 1 + size x + size y
 
 -- row i reaches a row: it is that row, or it reaches one that has it for an operand

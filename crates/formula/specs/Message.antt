@@ -16,7 +16,7 @@ use Rattle.wire.specs.Step.{start}
 use Rattle.wire.specs.declared.State.{State}
 use Rattle.formula.specs.declared.Row.{Row}
 use Rattle.formula.specs.Format.{formulaHeader, formulaHead, rowsCount, leftAt, rightAt, zeroAt, boundAt, rowWidth, formulaLength}
-use Rattle.formula.specs.Rows.{rowOf, usesLeft, usesRight, usesBound, leftLimit, usedOnce}
+use Rattle.formula.specs.Rows.{rowOf, usesLeft, usesRight, usesBound, leftLimit, rightLimit, usedOnce}
 
 -- the fault of a field that breaks the rules of formulas
 abbrev pub illFormed : (offset : ℕ) → Fault
@@ -40,7 +40,7 @@ fieldsFrom s at offset p place operator = do
   z ← spare false 1 s (at + zeroAt) (offset + zeroAt)
   b ← spare (usesBound operator) 4 s (at + boundAt) (offset + boundAt)
   left ← operand (usesLeft operator) s (at + leftAt) (leftLimit p place operator) (offset + leftAt)
-  right ← operand (usesRight operator) s (at + rightAt) place (offset + rightAt)
+  right ← operand (usesRight operator) s (at + rightAt) (rightLimit place operator) (offset + rightAt)
   bound ← field 4 s (at + boundAt)
   good (rowOf operator left right bound)
 
@@ -48,7 +48,7 @@ fieldsFrom s at offset p place operator = do
 unfoldable pub rowFrom : List ℕ → (at offset p place : ℕ) → Read Row
 rowFrom s at offset p place = do
   operator ← field 1 s at
-  demand (leb operator 9) Form offset
+  demand (leb operator 11) Form offset
   fieldsFrom s at offset p place operator
 
 -- the row of a message at a state

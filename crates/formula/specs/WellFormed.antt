@@ -8,7 +8,7 @@ use Rattle.lists.specs.Lists.{_∈_}
 use Rattle.value.specs.Coded.{Sayable}
 use Rattle.formula.specs.declared.Row.{Row}
 use Rattle.formula.specs.declared.Row.the-variants.{True, False, Proposition, Negation, And, Or, Next, Until}
-use Rattle.formula.specs.Rows.{operands, propositions, uses}
+use Rattle.formula.specs.Rows.{operands, propositions, actions, uses}
 
 -- a row's bound, where it has one, is one that 4 bytes can say
 abbrev pub SayableRow : Row → Type 0
@@ -18,7 +18,7 @@ SayableRow (Proposition i) = Unit
 SayableRow (Negation i) = Unit
 SayableRow (And l r) = Unit
 SayableRow (Or l r) = Unit
-SayableRow (Next q l b) = Sayable b
+SayableRow (Next q k l b) = Sayable b
 SayableRow (Until q l r b) = Sayable b
 
 -- the row at a place
@@ -33,5 +33,7 @@ pub record WellFormed (p : ℕ) (rows : List Row) : Type 0 where
   pub propositions-named : (i : ℕ) {row : Row} → RowAt rows i row → {q : ℕ} → q ∈ propositions row → q < p
   pub earlier : (i : ℕ) {row : Row} → RowAt rows i row → {l : ℕ} → l ∈ operands row → l < i
   pub sayable : {row : Row} → row ∈ rows → SayableRow row
+  -- an action is a number of a byte
+  pub actions-fit : {row : Row} → row ∈ rows → {k : ℕ} → k ∈ actions row → k < 256
   -- every row but the last is an operand exactly once
   pub used-once : (i : ℕ) → suc i < length rows → uses i rows ≡ 1

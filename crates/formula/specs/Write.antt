@@ -7,6 +7,7 @@ use Rattle.wire.specs.Bytes.{bytes}
 use Rattle.wire.specs.Write.{writeAll, message}
 use Rattle.formula.specs.Format.{formulaHead}
 use Rattle.formula.specs.declared.Quantifier.the-variants.{Some, Every}
+use Rattle.formula.specs.declared.Action.the-variants.{Any, Only}
 use Rattle.formula.specs.declared.Row.{Row}
 use Rattle.formula.specs.declared.Row.the-variants.{True, False, Proposition, Negation, And, Or, Next, Until}
 
@@ -22,10 +23,12 @@ writeRow (Proposition i) = fields 2 i 0 0 0
 writeRow (Negation i) = fields 3 i 0 0 0
 writeRow (And l r) = fields 4 l r 0 0
 writeRow (Or l r) = fields 5 l r 0 0
-writeRow (Next Some l b) = fields 6 l 0 0 (codeOf b)
-writeRow (Next Every l b) = fields 7 l 0 0 (codeOf b)
+writeRow (Next Some Any l b) = fields 6 l 0 0 (codeOf b)
+writeRow (Next Every Any l b) = fields 7 l 0 0 (codeOf b)
 writeRow (Until Some l r b) = fields 8 l r 0 (codeOf b)
 writeRow (Until Every l r b) = fields 9 l r 0 (codeOf b)
+writeRow (Next Some (Only k) l b) = fields 10 l k 0 (codeOf b)
+writeRow (Next Every (Only k) l b) = fields 11 l k 0 (codeOf b)
 
 -- the row count (1), and the rows
 unfoldable pub writeFormula : List Row → List ℕ

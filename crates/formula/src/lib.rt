@@ -70,6 +70,24 @@ pub enum Quantifier {
     Every,
 }
 
+// Which transitions EX and AX look at: those of any action, or only those of one.
+pub enum Action {
+    Any,
+    Only(u32),
+}
+
+impl Action {
+    // Whether a transition of this action is looked at.
+    pub fn allows(self, action: u32) -> bool
+        ensures { λ r. ⌜ r ≡ rows.allows self action ⌝ }
+    {
+        match self {
+            Action::Any => true,
+            Action::Only(k) => action == k,
+        }
+    }
+}
+
 // A row: an operator, with propositions or earlier rows for its operands.
 pub enum Row {
     True,
@@ -78,7 +96,7 @@ pub enum Row {
     Negation(u32),
     And(u32, u32),
     Or(u32, u32),
-    Next(Quantifier, u32, Bound),
+    Next(Quantifier, Action, u32, Bound),
     Until(Quantifier, u32, u32, Bound),
 }
 
@@ -128,6 +146,7 @@ impl Checked {
 fn row_of(operator: u32, left: u32, right: u32, bound: u32) -> Row
     ensures { λ r. ⌜ r ≡ rows.rowOf operator left right bound ⌝ }
 {
+    let within = Bound::coded(bound);
     match operator {
         0 => Row::True,
         1 => Row::False,
@@ -135,10 +154,12 @@ fn row_of(operator: u32, left: u32, right: u32, bound: u32) -> Row
         3 => Row::Negation(left),
         4 => Row::And(left, right),
         5 => Row::Or(left, right),
-        6 => Row::Next(Quantifier::Some, left, Bound::coded(bound)),
-        7 => Row::Next(Quantifier::Every, left, Bound::coded(bound)),
-        8 => Row::Until(Quantifier::Some, left, right, Bound::coded(bound)),
-        _ => Row::Until(Quantifier::Every, left, right, Bound::coded(bound)),
+        6 => Row::Next(Quantifier::Some, Action::Any, left, within),
+        7 => Row::Next(Quantifier::Every, Action::Any, left, within),
+        8 => Row::Until(Quantifier::Some, left, right, within),
+        9 => Row::Until(Quantifier::Every, left, right, within),
+        10 => Row::Next(Quantifier::Some, Action::Only(right), left, within),
+        _ => Row::Next(Quantifier::Every, Action::Only(right), left, within),
     }
 }
 
@@ -278,7 +299,7 @@ fn read_pair(row: &[u8], offset: usize, operator: u32, place: u32, told: Fields)
     Judged::Fine(Row::Or(left, right))
 }
 
-// EX and AX use left and the bound.
+// EX and AX of any action use left and the bound.
 fn read_next(row: &[u8], offset: usize, operator: u32, place: u32, told: Fields) -> Judged
     requires { ⌜ (offset + rowWidth < 2 ^ 64) × (6 ≤ operator) × (operator ≤ 7) × spare.Told (now row) told ⌝ }
     ensures { λ r. ⌜ ((p : ℕ) → r ≡ answers.judged (m.fieldsFrom (now (row .entry)) 0 offset p place operator)) ⌝ }
@@ -305,9 +326,9 @@ fn read_next(row: &[u8], offset: usize, operator: u32, place: u32, told: Fields)
     };
     let within = Bound::coded(bound);
     if operator == 6 {
-        return Judged::Fine(Row::Next(Quantifier::Some, left, within));
+        return Judged::Fine(Row::Next(Quantifier::Some, Action::Any, left, within));
     }
-    Judged::Fine(Row::Next(Quantifier::Every, left, within))
+    Judged::Fine(Row::Next(Quantifier::Every, Action::Any, left, within))
 }
 
 // The untils use left, right and the bound.
@@ -344,6 +365,43 @@ fn read_until(row: &[u8], offset: usize, operator: u32, place: u32, told: Fields
         return Judged::Fine(Row::Until(Quantifier::Some, left, right, within));
     }
     Judged::Fine(Row::Until(Quantifier::Every, left, right, within))
+}
+
+// EX and AX of an action use them too; the action, in right, is any number of a byte.
+fn read_acting(row: &[u8], offset: usize, operator: u32, place: u32, told: Fields) -> Judged
+    requires { ⌜ (offset + rowWidth < 2 ^ 64) × (10 ≤ operator) × (operator ≤ 11) × spare.Told (now row) told ⌝ }
+    ensures { λ r. ⌜ ((p : ℕ) → r ≡ answers.judged (m.fieldsFrom (now (row .entry)) 0 offset p place operator)) ⌝ }
+{
+    let idle = unused(
+        offset,
+        Fields {
+            left: 0,
+            right: 0,
+            zero: told.zero,
+            bound: 0,
+        },
+    );
+    let Field::Number(_) = idle else {
+        return Judged::Refused(idle.fault());
+    };
+    let first = named(row, offset, LEFT_AT, place);
+    let Field::Number(left) = first else {
+        return Judged::Refused(first.fault());
+    };
+    let second = named(row, offset, RIGHT_AT, 256);
+    let Field::Number(right) = second else {
+        return Judged::Refused(second.fault());
+    };
+    let last = wire::read(row, BOUND_AT, Width::Four);
+    let Field::Number(bound) = last else {
+        return Judged::Refused(last.fault());
+    };
+    let within = Bound::coded(bound);
+    let only = Action::Only(right);
+    if operator == 10 {
+        return Judged::Fine(Row::Next(Quantifier::Some, only, left, within));
+    }
+    Judged::Fine(Row::Next(Quantifier::Every, only, left, within))
 }
 
 // A row that stands here in its message: its fields, and what they are by the kind of its operator. All are read before any is judged,
@@ -401,6 +459,9 @@ fn read_kind(row: &[u8], offset: usize, p: u32, place: u32, operator: u32, told:
     if operator < 10 {
         return read_until(row, offset, operator, place, told);
     }
+    if operator < 12 {
+        return read_acting(row, offset, operator, place, told);
+    }
     Judged::Refused(Fault {
         refusal: Refusal::Form,
         offset,
@@ -452,7 +513,7 @@ fn count_row(counts: &mut [u8], row: Row)
 {
     match row {
         Row::True | Row::False | Row::Proposition(_) | Row::Negation(_) => {}
-        Row::Next(_, l, _) => count_use(counts, l),
+        Row::Next(_, _, l, _) => count_use(counts, l),
         Row::And(l, r) | Row::Or(l, r) | Row::Until(_, l, r, _) => {
             count_use(counts, l);
             count_use(counts, r);

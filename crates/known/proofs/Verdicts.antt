@@ -38,7 +38,7 @@ use Rattle.known.proofs.Table.{row-within, row-verdict}
 
 -- M is proper
 proper-M : Proper M
-proper-M = record { target = λ m. targets .at _ m }
+proper-M = record { target = λ (k, m). targets .at _ m }
   where
     targets : Each (λ (t : Transition). t .to < 2) (M .transitions)
     targets = each-more (lit< tt) (each-more (lit< tt) (each-more (lit< tt) each-none))

@@ -10,9 +10,9 @@ use Rattle.formula.specs.declared.Row.{Row}
 use Rattle.formula.specs.declared.Row.the-variants.{Proposition, Until}
 use Rattle.verdict.specs.Question.{Question}
 
--- a transition by its parts
+-- a transition by its parts, with action 0
 abbrev transition : (from weight to : ℕ) → Transition
-transition a w c = record { from = a; weight = w; to = c }
+transition a w c = record { from = a; weight = w; action = 0; to = c }
 
 -- state 0 has p0, state 1 has p1; transitions 0 to 0 weight 3, 0 to 1 weight 2, 1 to 1 weight 0
 abbrev pub M : Model

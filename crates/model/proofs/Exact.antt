@@ -20,7 +20,7 @@ use Rattle.wire.proofs.Counts.{good-count}
 use Rattle.wire.proofs.Exact.{good-bind, good-after, good-demand, length-writeAll, Exact, FitsAll, all-reads, all-written, fits-map, fits-both, fits-each, each-fits, fits-rising, rising-fits, message-length, message-rest, start-reads, start-written}
 use Rattle.model.specs.Model.{Model, Transition}
 use Rattle.wire.specs.Step.{start}
-use Rattle.model.specs.Format.{modelHeader, modelHead, statesCount, propositionsCount, transitionsCount, labelWidth, weightAt, toAt, transitionWidth, labelAt, modelLength}
+use Rattle.model.specs.Format.{modelHeader, modelHead, statesCount, propositionsCount, transitionsCount, labelWidth, weightAt, actionAt, toAt, transitionWidth, labelAt, modelLength}
 use Rattle.model.specs.Message.{readLabel, readTransition, readHeader, readModel, labels, transitions}
 use Rattle.model.specs.Write.{writeTransition, writeBody, writeModel}
 use Rattle.model.specs.WellFormed.{WellFormed}
@@ -32,6 +32,7 @@ pub record TransitionFits (n : ℕ) (t : Transition) : Type 0 where
   pub from-named : t .from < n
   pub to-named : t .to < n
   pub weight-fits : t .weight < 2 ^ 32
+  pub action-fits : t .action < 2 ^ 16
 
 -- what a state demands of a transition
 abbrev pub TransitionNext : ℕ → State → Transition → Type 0
@@ -63,22 +64,26 @@ module _ (s : List ℕ) where
         let g = transition-good s n st t e in
         let from = value-stands 2 b (g .from-there) in
         let weight = value-stands 4 b (g .weight-there) in
+        let action = value-stands 2 b (g .action-there) in
         let to = value-stands 2 b (g .to-there) in (
-          stands-both (simp (length-append, length-bytes) (omega arith)) (stands-both (simp length-bytes) (from .0) (weight .0)) (to .0),
+          stands-both (simp (length-append, length-bytes) (omega arith)) (stands-both (simp (length-append, length-bytes) (omega arith)) (stands-both (simp length-bytes) (from .0) (weight .0)) (action .0)) (to .0),
           (
             g .ordered,
-            record { from-named = g .from-named; to-named = g .to-named; weight-fits = weight .1 },
+            record { from-named = g .from-named; to-named = g .to-named; weight-fits = weight .1; action-fits = action .1 },
           ),
         );
     written = λ st t stands f.
-        let front : Stands s (st .at) (bytes 2 (t .from) ++ bytes 4 (t .weight)) = stands-first _ _ stands in
+        let three : Stands s (st .at) (bytes 2 (t .from) ++ bytes 4 (t .weight) ++ bytes 2 (t .action)) = stands-first _ _ stands in
+        let front : Stands s (st .at) (bytes 2 (t .from) ++ bytes 4 (t .weight)) = stands-first _ _ three in
         let from-there : field 2 s (st .at) ≡ good (t .from) = stands-field 2 (omega arith) (stands-first _ _ front) (omega arith) in
         let weight-there : field 4 s (st .at + weightAt) ≡ good (t .weight) =
         stands-field 4 (omega arith) (stands-second (bytes 2 (t .from)) _ (simp length-bytes) front) (f .1 .weight-fits) in
+        let action-there : field 2 s (st .at + actionAt) ≡ good (t .action) =
+        stands-field 2 (omega arith) (stands-second (bytes 2 (t .from) ++ bytes 4 (t .weight)) _ (simp (length-append, length-bytes) (omega arith)) three) (f .1 .action-fits) in
         let to-there : field 2 s (st .at + toAt) ≡ good (t .to) =
-        stands-field 2 (omega arith) (stands-second (bytes 2 (t .from) ++ bytes 4 (t .weight)) _ (simp (length-append, length-bytes) (omega arith)) stands) (omega arith) in
+        stands-field 2 (omega arith) (stands-second (bytes 2 (t .from) ++ bytes 4 (t .weight) ++ bytes 2 (t .action)) _ (simp (length-append, length-bytes) (omega arith)) stands) (omega arith) in
         good-bind _ (good-source s (st .at) n (st .prev) (st .at) from-there (f .1 .from-named) (f .0))
-        (good-bind _ weight-there (good-bind _ (good-below 2 s (st .at + toAt) n _ to-there (f .1 .to-named)) refl));
+        (good-bind _ weight-there (good-bind _ action-there (good-bind _ (good-below 2 s (st .at + toAt) n _ to-there (f .1 .to-named)) refl)));
     moves = λ st t. rw transition-length;
   }
 
@@ -147,6 +152,7 @@ fits-well {s} {M} header labelled ls ts =
       from-named = λ m. each _ m .from-named;
       to-named = λ m. each _ m .to-named;
       weights-fit = λ m. each _ m .weight-fits;
+      actions-fit = λ m. each _ m .action-fits;
     }
 
 -- and the other way round
@@ -162,6 +168,7 @@ module _ (s : List ℕ) (M : Model) (w : WellFormed M) where
         from-named = w .from-named m;
         to-named = w .to-named m;
         weight-fits = w .weights-fit m;
+        action-fits = w .actions-fit m;
       }))
 
 pub accepted-written : (s : List ℕ) (M : Model) → Bytes s → readModel s ≡ good M → (s ≡ writeModel M) × WellFormed M

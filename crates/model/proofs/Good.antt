@@ -21,7 +21,7 @@ use Rattle.wire.proofs.Reading.{reading, bind-good, and-good, demand-good, fiel
 use Rattle.wire.proofs.Readers.{all-length}
 use Rattle.model.specs.Model.{Model, Transition}
 use Rattle.wire.specs.Step.{start}
-use Rattle.model.specs.Format.{modelHeader, modelHead, statesCount, propositionsCount, transitionsCount, labelWidth, weightAt, toAt, transitionWidth, labelAt, modelLength}
+use Rattle.model.specs.Format.{modelHeader, modelHead, statesCount, propositionsCount, transitionsCount, labelWidth, weightAt, actionAt, toAt, transitionWidth, labelAt, modelLength}
 use Rattle.model.specs.Message.{readLabel, readTransition, readHeader, readModel, labels, transitions, Counts}
 
 module _ (s : List ℕ) where
@@ -40,6 +40,7 @@ module _ (s : List ℕ) where
   pub record TransitionAt (n : ℕ) (st : State) (t : Transition) : Type 0 where
     pub from-there : fieldAt 2 s (st .at) ≡ Number (t .from)
     pub weight-there : fieldAt 4 s (st .at + weightAt) ≡ Number (t .weight)
+    pub action-there : fieldAt 2 s (st .at + actionAt) ≡ Number (t .action)
     pub to-there : fieldAt 2 s (st .at + toAt) ≡ Number (t .to)
     pub from-named : t .from < n
     pub ordered : st .prev ≤ t .from
@@ -51,12 +52,14 @@ module _ (s : List ℕ) where
       let f = bind-good _ _ e in
       let from = source-good s (st .at) n (st .prev) (st .at) (f .first) in
       let w = bind-good _ _ (f .rest) in
-      let v = bind-good _ _ (w .rest) in
+      let k = bind-good _ _ (w .rest) in
+      let v = bind-good _ _ (k .rest) in
       let to = below-good 2 s (st .at + toAt) n _ (v .first) in
-      let same : record { from = f .value; weight = w .value; to = v .value } ≡ t = good-same (v .rest) in
+      let same : record { from = f .value; weight = w .value; action = k .value; to = v .value } ≡ t = good-same (v .rest) in
       record {
         from-there = from .0 ∙ ap (λ (u : Transition). Number (u .from)) same;
         weight-there = field-good 4 s _ (w .first) ∙ ap (λ (u : Transition). Number (u .weight)) same;
+        action-there = field-good 2 s _ (k .first) ∙ ap (λ (u : Transition). Number (u .action)) same;
         to-there = to .0 ∙ ap (λ (u : Transition). Number (u .to)) same;
         from-named = rw (← same) (from .1 .0);
         ordered = rw (← same) (from .1 .1);

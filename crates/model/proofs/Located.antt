@@ -16,7 +16,7 @@ use Rattle.wire.specs.Located.{told, Located, From, SameBefore, Mendable}
 use Rattle.wire.proofs.Fields.{value-is}
 use Rattle.wire.proofs.Readers.{all-length, past-wide}
 use Rattle.wire.proofs.Onward.{Onward, Reached, onward-sooner, onward-on, onward-good, onward-demand, onward-free, onward-below, onward-named, onward-source, onward-count, onward-bind, onward-then, onward-and, onward-start, onward-all, placed, none-before, mendable}
-use Rattle.model.specs.Format.{modelHeader, modelHead, statesCount, propositionsCount, transitionsCount, labelWidth, weightAt, toAt, transitionWidth, labelAt, transitionAt, modelLength}
+use Rattle.model.specs.Format.{modelHeader, modelHead, statesCount, propositionsCount, transitionsCount, labelWidth, weightAt, actionAt, toAt, transitionWidth, labelAt, transitionAt, modelLength}
 use Rattle.model.specs.Message.{readLabel, readTransition, readHeader, readModel, labels, transitions, Counts}
 use Rattle.model.specs.Located.{FieldStart, version, kind, state-count, proposition-count, transition-count, label, from, to}
 use Rattle.model.proofs.Good.{transition-good, header-good}
@@ -44,7 +44,8 @@ module _ {On : List ℕ → Type 0} (st : State) where
   transition-onward n few named from-starts to-starts =
       onward-then (onward-source (st .at) n (st .prev) (omega arith) named few from-starts) _ (λ v h₀.
       onward-then (onward-free Four (st .at + weightAt) (omega arith)) _ (λ w h₁.
-      onward-then (onward-named (st .at + toAt) n (omega arith) (omega arith) to-starts) _ (λ t h₂. onward-good _ _ (omega arith))))
+      onward-then (onward-free Two (st .at + actionAt) (omega arith)) _ (λ k h₂.
+      onward-then (onward-named (st .at + toAt) n (omega arith) (omega arith) to-starts) _ (λ t h₃. onward-good _ _ (omega arith)))))
 
 -- in a message with this header
 module _ (k : Counts) (reached : Reached readHeader k) where

@@ -4,12 +4,12 @@ use Rattle.wire.specs.declared.Head.{Head}
 use Rattle.wire.specs.declared.Count.{Count}
 use Rattle.wire.specs.declared.Width.the-variants.{One, Two, Four}
 
--- the header, 13 bytes, version 1, kind 2
+-- the header, 13 bytes, version 2, kind 2
 abbrev pub modelHeader : ℕ
 modelHeader = 13
 
 abbrev pub modelHead : Head
-modelHead = record { length = modelHeader; version = 1; kind = 2 }
+modelHead = record { length = modelHeader; version = 2; kind = 2 }
 
 -- its counts: states (2), propositions (1), transitions (4)
 abbrev pub statesCount : Count
@@ -25,12 +25,15 @@ transitionsCount = record { at = 9; width = Four; least = 0; most = 65535 }
 abbrev pub labelWidth : ℕ
 labelWidth = 4
 
--- a transition: from (2), weight (4), to (2), so 8 bytes
+-- a transition: from (2), weight (4), action (2), to (2), so 10 bytes
 abbrev pub weightAt : ℕ
 weightAt = 2
 
+abbrev pub actionAt : ℕ
+actionAt = weightAt + 4
+
 abbrev pub toAt : ℕ
-toAt = weightAt + 4
+toAt = actionAt + 2
 
 abbrev pub transitionWidth : ℕ
 transitionWidth = toAt + 2

@@ -1,4 +1,4 @@
--- Where a fault of a model message can lie: where the fields start whose numbers are not free. A weight is: any 4-byte number.
+-- Where a fault of a model message can lie: where the fields start whose numbers are not free. A weight is, and an action: any number of its width.
 use Prim.Native.Nat.{ℕ, _+_, _<_}
 use mathlib.Core.List.{List}
 use mathlib.Core.Path.{_≡_}

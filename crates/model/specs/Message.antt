@@ -13,7 +13,7 @@ use Rattle.wire.specs.Counts.{readCount}
 use Rattle.wire.specs.Step.{start}
 use Rattle.wire.specs.declared.State.{State}
 use Rattle.model.specs.Model.{Model, Transition}
-use Rattle.model.specs.Format.{modelHeader, modelHead, statesCount, propositionsCount, transitionsCount, labelWidth, weightAt, toAt, transitionWidth, labelAt, modelLength}
+use Rattle.model.specs.Format.{modelHeader, modelHead, statesCount, propositionsCount, transitionsCount, labelWidth, weightAt, actionAt, toAt, transitionWidth, labelAt, modelLength}
 
 module _ (s : List ℕ) where
   -- a label (4): a bit at p or above is FORM
@@ -28,13 +28,14 @@ module _ (s : List ℕ) where
     next = λ st label. record { at = st .at + labelWidth; prev = st .prev; seen = st .seen };
   }
 
-  -- a transition of a model with n states: from (2), weight (4), to (2)
+  -- a transition of a model with n states: from (2), weight (4), action (2), to (2)
   unfoldable pub readTransition : ℕ → State → Read Transition
   readTransition n st = do
     from ← source s (st .at) n (st .prev)
     weight ← field 4 s (st .at + weightAt)
+    action ← field 2 s (st .at + actionAt)
     to ← named 2 s (st .at + toAt) n
-    good (record { from = from; weight = weight; to = to })
+    good (record { from = from; weight = weight; action = action; to = to })
 
   -- the transitions, one behind another
   abbrev pub transitions : ℕ → Reader State Transition

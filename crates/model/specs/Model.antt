@@ -1,14 +1,15 @@
--- A weighted Kripke structure: states with labels, and weighted transitions between them.
+-- A weighted Kripke structure: states with labels, and transitions between them, with weights and actions.
 use Prim.Native.Nat.{ℕ, _/_, _%_, _^_}
 use mathlib.Core.List.{List}
 use mathlib.Core.Bool.{Bool}
 use lib.ListN.{getD}
 use lib.Dec.{eqb}
 
--- a step from one state to another, with its weight
+-- a step from one state to another, with its weight and its action
 pub record Transition : Type 0 where
   pub from : ℕ
   pub weight : ℕ
+  pub action : ℕ
   pub to : ℕ
 
 -- the states are the numbers below `states`, and so are the propositions; a label is a number of 32 bits

@@ -16,8 +16,9 @@ pub record WellFormed (M : Model) : Type 0 where
   -- a label for each state, with no bit at p or above
   pub labelled : length (M .labels) ≡ M .states
   pub labels-fit : {l : ℕ} → l ∈ M .labels → l < 2 ^ M .propositions
-  -- no `from` is below the one before it, every state that is named exists, and a weight is any 4-byte number
+  -- no `from` is below the one before it, every state that is named exists; a weight is any 4-byte number, and an action any 2-byte number
   pub ordered : Rising (map (λ t. t .from) (M .transitions))
   pub from-named : {t : Transition} → t ∈ M .transitions → t .from < M .states
   pub to-named : {t : Transition} → t ∈ M .transitions → t .to < M .states
   pub weights-fit : {t : Transition} → t ∈ M .transitions → t .weight < 2 ^ 32
+  pub actions-fit : {t : Transition} → t ∈ M .transitions → t .action < 2 ^ 16

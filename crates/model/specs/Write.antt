@@ -7,9 +7,9 @@ use Rattle.wire.specs.Write.{writeAll, message}
 use Rattle.model.specs.Model.{Model, Transition}
 use Rattle.model.specs.Format.{modelHead}
 
--- from (2), weight (4), to (2)
+-- from (2), weight (4), action (2), to (2)
 unfoldable pub writeTransition : Transition → List ℕ
-writeTransition t = bytes 2 (t .from) ++ bytes 4 (t .weight) ++ bytes 2 (t .to)
+writeTransition t = bytes 2 (t .from) ++ bytes 4 (t .weight) ++ bytes 2 (t .action) ++ bytes 2 (t .to)
 
 -- states (2), propositions (1), transitions (4), the labels (4 each), the transitions
 unfoldable pub writeBody : Model → List ℕ

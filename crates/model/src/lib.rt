@@ -23,7 +23,7 @@ pub const HEADER: usize = 13;
 
 const HEAD: Head = Head {
     length: HEADER,
-    version: 1,
+    version: 2,
     kind: 2,
 };
 
@@ -51,12 +51,14 @@ const TRANSITIONS: Count = Count {
     most: 65535,
 };
 
-// How wide a label is; where the weight and the `to` of a transition stand, and how wide it is.
+// How wide a label is; where the weight, the action and the `to` of a transition stand, and how wide it is.
 pub const LABEL: usize = 4;
 
 pub const WEIGHT_AT: usize = 2;
 
-pub const TO_AT: usize = WEIGHT_AT + 4;
+pub const ACTION_AT: usize = WEIGHT_AT + 4;
+
+pub const TO_AT: usize = ACTION_AT + 2;
 
 pub const TRANSITION: usize = TO_AT + 2;
 

@@ -22,7 +22,7 @@ use Rattle.formula.specs.declared.Row.{Row}
 use Rattle.formula.specs.Rows.{operands}
 use Rattle.formula.specs.WellFormed as formula
 use Rattle.formula.proofs.Trees.{Ordered, ordered}
-use Rattle.runs.specs.Systems.{Leads}
+use Rattle.runs.specs.Systems.{Leads, systemOf}
 use Rattle.runs.proofs.Proper.{Proper, proper}
 use Rattle.reduction.specs.Built.{to, stepEdges, helperEdges, rowCovers, isUntil, untils, layout, hyper, cover, graphOf, Fits}
 use Rattle.reduction.proofs.Targets.{row-each, step-each}
@@ -69,7 +69,7 @@ module _ (M : Model) (rows : List Row) where
 
   data Made : Target → Type 0 where
     still : {a r : ℕ} → a < s → r < places M rows → Made (to 0 (a + s * r))
-    moved : {a w c r : ℕ} → Leads M a w c → r < places M rows → Made (to w (c + s * r))
+    moved : {a w c r : ℕ} → Leads (systemOf M) a w c → r < places M rows → Made (to w (c + s * r))
 
   module _ (ok : Proper M) where
     module _ (order : Ordered rows) where
@@ -136,4 +136,4 @@ built-well-formed {M} {p} {rows} m r fits = record {
   where
     light : {t : Target} → Made M rows t → t .weight < 2 ^ 32
     light (still l p) = omega arith
-    light (moved t p) = m .weights-fit t
+    light (moved (k, t) p) = m .weights-fit t

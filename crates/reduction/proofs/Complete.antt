@@ -34,7 +34,7 @@ use Rattle.runs.proofs.Proper.{Proper}
 use Rattle.runs.proofs.Strategies.{Choice, go, stop, Strategy, price, onward, stops, first-step}
 use Rattle.runs.proofs.Walks.{Climbs, E-value, A-value}
 use Rattle.reduction.specs.Built.{to, out, near, helperEdges, helperAt, graphOf}
-use Rattle.reduction.proofs.Out.{any-∈, leads-out, out-leads, leads-near, near-leads}
+use Rattle.reduction.proofs.Out.{any-∈, leads-out, out-leads, step-near, near-step}
 use Rattle.reduction.proofs.Stands.{node-lt, helper-lt}
 use Rattle.reduction.proofs.Blocks.{Cheap, Why, by-limit, by-edge, row-why, helper-why}
 use Rattle.reduction.proofs.Sound.{Holds}
@@ -69,7 +69,7 @@ module _ (M : Model) (rows : List Row) (ok : Proper M) (order : Ordered rows) (x
     start q at a l h = value-≼ q at l (to 0 (a + s * k) ∷ []) first (each-more (zero-sum 0 k right a l h) each-none)
 
     -- where left holds it climbs by no more than the weight. E: along each step
-    E-climb : RowAt rows r (Until Some j k b) → (a w c : ℕ) → a < s → Leads M a w c → Climbs (Holds M rows j) value a w c
+    E-climb : RowAt rows r (Until Some j k b) → (a w c : ℕ) → a < s → Leads (systemOf M) a w c → Climbs (Holds M rows j) value a w c
     E-climb at a w c l m h e p =
         let d = w + e in
         value-≼ Some at l (to 0 (a + s * j) ∷ to w (c + s * H) ∷ [])
@@ -116,13 +116,14 @@ module _ (M : Model) (rows : List Row) (ok : Proper M) (order : Ordered rows) (x
       (each-more (zero-sum 0 j (op j first) a l (h .0)) (each-more (zero-sum 0 k (op k second) a l (h .1)) each-none))
   row-complete r (Or j k) at op a l (inl h) = by-edge (to 0 (a + s * j) ∷ []) first (each-more (zero-sum 0 j (op j first) a l h) each-none)
   row-complete r (Or j k) at op a l (inr h) = by-edge (to 0 (a + s * k) ∷ []) second (each-more (zero-sum 0 k (op k second) a l h) each-none)
-  row-complete r (Next Some j b) at op a l (w, c, m, i, h) =
-      by-edge (to 0 (c + s * j) ∷ []) (Memᴰ·map (λ (t : Target). to 0 (t .node + s * j) ∷ []) (leads-near M a b m i))
-      (each-more (zero-sum 0 j (op j first) c (ok .target m) h) each-none)
-  row-complete r (Next Every j b) at op a l h =
-      by-edge (map (λ (t : Target). to 0 (t .node + s * j)) (near M b a)) first
-      (each-map (λ (t : Target). to 0 (t .node + s * j)) (near M b a)
-      (λ t n. let (m, i) = near-leads M a b n in zero-sum 0 j (op j first) (t .node) (ok .target m) (h (t .weight) (t .node) m i)))
+  row-complete r (Next Some A j b) at op a l (w, k, c, m, t, i, h) =
+      by-edge (to 0 (c + s * j) ∷ []) (Memᴰ·map (λ (t : Target). to 0 (t .node + s * j) ∷ []) (step-near M a A b m t i))
+      (each-more (zero-sum 0 j (op j first) c (ok .target (k, m)) h) each-none)
+  row-complete r (Next Every A j b) at op a l h =
+      by-edge (map (λ (t : Target). to 0 (t .node + s * j)) (near M A b a)) first
+      (each-map (λ (t : Target). to 0 (t .node + s * j)) (near M A b a)
+      (λ t n. let u = near-step M a A b n in
+      zero-sum 0 j (op j first) (t .node) (ok .target (u .action, u .step)) (h (t .weight) (u .action) (t .node) (u .step) (u .allowed) (u .near))))
   row-complete r (Until q j k b) at op a l h = by-limit q j k b refl (helper-complete r j k b (op j first) (op k second) q at a l h)
 
   from-rows : (n r : ℕ) → r < n → r < length rows → RowZero r

@@ -33,7 +33,7 @@ use Rattle.runs.proofs.Proper.{Proper}
 use Rattle.runs.proofs.Untils.{E-later, A-later, weaken}
 use Rattle.runs.proofs.Walks.{until-now}
 use Rattle.reduction.specs.Built.{to, out, near, rowEdges, stepEdges, helperEdges, helperAt, graphOf}
-use Rattle.reduction.proofs.Out.{∈-any, leads-out, out-leads, leads-near, near-leads}
+use Rattle.reduction.proofs.Out.{∈-any, leads-out, out-leads, step-near, near-step}
 use Rattle.reduction.proofs.Blocks.{Cheap, Why, by-limit, by-edge, why-row, why-helper}
 
 -- a hyperedge that stands only where a test passes
@@ -77,13 +77,13 @@ module _ (M : Model) (rows : List Row) where
         (target-sound j (op j first) l p first, target-sound k (op k second) l p second)
     edge-sound (Or j k) op a l d ts (List·Memᴰ·head e) p = inl (target-sound j (op j first) l (rw e at p) first)
     edge-sound (Or j k) op a l d ts (List·Memᴰ·tail m) p = inr (target-sound k (op k second) l (rw (List·Memᴰ·eq-of-singleton m) at p) first)
-    edge-sound (Next Some j b) op a l d ts m p =
-        let (t, n, e) = Memᴰ·of-map (λ (t : Target). to 0 (t .node + s * j) ∷ []) (near M b a) m in
-        let (h, i) = near-leads M a b n in
-        (t .weight, t .node, h, i, target-sound j (op j first) (ok .target h) (rw (← e) at p) first)
-    edge-sound (Next Every j b) op a l d ts m p = λ w c h i.
-        target-sound j (op j first) (ok .target h) (rw (List·Memᴰ·eq-of-singleton m) at p)
-        (Memᴰ·map (λ (t : Target). to 0 (t .node + s * j)) (leads-near M a b h i))
+    edge-sound (Next Some A j b) op a l d ts m p =
+        let (t, n, e) = Memᴰ·of-map (λ (t : Target). to 0 (t .node + s * j) ∷ []) (near M A b a) m in
+        let u = near-step M a A b n in
+        (t .weight, u .action, t .node, u .step, u .allowed, u .near, target-sound j (op j first) (ok .target (u .action, u .step)) (rw (← e) at p) first)
+    edge-sound (Next Every A j b) op a l d ts m p = λ w k c h t i.
+        target-sound j (op j first) (ok .target (k, h)) (rw (List·Memᴰ·eq-of-singleton m) at p)
+        (Memᴰ·map (λ (t : Target). to 0 (t .node + s * j)) (step-near M a A b h t i))
     edge-sound (Until q j k b) op a l d ts m p = elim m [ ]
 
     module _ (r j k : ℕ) where
@@ -91,7 +91,7 @@ module _ (M : Model) (rows : List Row) where
       H = helperAt rows r
 
       -- a helper's target at the weight of a transition
-      next-sound : (q : Quantifier) → HelperSound y r q j k → {a w c d : ℕ} {ts : List Target} → Leads M a w c → Cheap y d ts
+      next-sound : (q : Quantifier) → HelperSound y r q j k → {a w c d : ℕ} {ts : List Target} → Leads S a w c → Cheap y d ts
           → to w (c + s * H) ∈ ts → (e : ℕ) × sat.Until S q (Holds j) (Holds k) (Within e) c × (w + e ≤ d)
       next-sound q hp {w = w} {c} {d} h p m =
           let u = ≼-plus w (y (c + s * H)) (p .at (to w (c + s * H)) m) in

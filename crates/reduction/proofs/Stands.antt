@@ -96,7 +96,7 @@ of-until (Proposition i) f m = elim m [ ]
 of-until (Negation i) f m = elim m [ ]
 of-until (And l k) f m = elim m [ ]
 of-until (Or l k) f m = elim m [ ]
-of-until (Next q l b) f m = elim m [ ]
+of-until (Next q A l b) f m = elim m [ ]
 of-until (Until q l k b) f m = record { quantifier = q; left = l; right = k; bound = b; same = refl; there = m }
 
 -- an until row stands among the until rows behind those before it

@@ -13,10 +13,10 @@ use Rattle.formula.specs.declared.Quantifier.the-variants.{Some, Every}
 use Rattle.formula.specs.declared.Row.{Row}
 use Rattle.formula.specs.declared.Row.the-variants.{True, False, Proposition, Negation, And, Or, Next, Until}
 use Rattle.formula.specs.Rows.{operands}
-use Rattle.runs.specs.Systems.{Leads}
+use Rattle.runs.specs.Systems.{Leads, systemOf}
 use Rattle.runs.proofs.Proper.{Proper}
 use Rattle.reduction.specs.Built.{to, out, near, rowEdges, stepEdges}
-use Rattle.reduction.proofs.Out.{∈-any, out-leads, near-leads}
+use Rattle.reduction.proofs.Out.{∈-any, out-leads, near-step}
 
 module _ (M : Model) (ok : Proper M) (P : Target → Type 0) where
   abbrev s : ℕ
@@ -33,16 +33,16 @@ module _ (M : Model) (ok : Proper M) (P : Target → Type 0) where
   row-each (Negation i) op {a} l = test-each (not (holds M i a))
   row-each (And j k) op {a} l = each-more (each-more (op j first a l) (each-more (op k second a l) each-none)) each-none
   row-each (Or j k) op {a} l = each-more (each-more (op j first a l) each-none) (each-more (each-more (op k second a l) each-none) each-none)
-  row-each (Next Some j b) op {a} l =
-      each-map (λ (t : Target). to 0 (t .node + s * j) ∷ []) (near M b a)
-      (λ t m. each-more (op j first (t .node) (ok .target (near-leads M a b m .0))) each-none)
-  row-each (Next Every j b) op {a} l =
+  row-each (Next Some A j b) op {a} l =
+      each-map (λ (t : Target). to 0 (t .node + s * j) ∷ []) (near M A b a)
+      (λ t m. each-more (op j first (t .node) (let u = near-step M a A b m in ok .target (u .action, u .step))) each-none)
+  row-each (Next Every A j b) op {a} l =
       each-more
-      (each-map (λ (t : Target). to 0 (t .node + s * j)) (near M b a) (λ t m. op j first (t .node) (ok .target (near-leads M a b m .0))))
+      (each-map (λ (t : Target). to 0 (t .node + s * j)) (near M A b a) (λ t m. op j first (t .node) (let u = near-step M a A b m in ok .target (u .action, u .step))))
       each-none
   row-each (Until q j k b) op l = each-none
 
-  pub step-each : (q : Quantifier) (j h : ℕ) {a : ℕ} → P (to 0 (a + s * j)) → ((w c : ℕ) → Leads M a w c → P (to w (c + s * h))) → Each (Each P) (stepEdges M q j h a)
+  pub step-each : (q : Quantifier) (j h : ℕ) {a : ℕ} → P (to 0 (a + s * j)) → ((w c : ℕ) → Leads (systemOf M) a w c → P (to w (c + s * h))) → Each (Each P) (stepEdges M q j h a)
   step-each Some j h {a} p p′ =
       each-map (λ (t : Target). to 0 (a + s * j) ∷ to (t .weight) (t .node + s * h) ∷ []) (out M a)
       (λ t m. each-more p (each-more (p′ (t .weight) (t .node) (out-leads M a m)) each-none))

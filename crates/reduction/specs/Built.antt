@@ -2,7 +2,7 @@
 -- the helper node a + s·(f + j).
 use Prim.Native.Nat.{ℕ, suc, _+_, _*_}
 use mathlib.Core.List.{List, [], _∷_, _++_, map}
-use mathlib.Core.Bool.{Bool, true, false, not, cond}
+use mathlib.Core.Bool.{Bool, true, false, not, cond, _&&_}
 use lib.Dec.{eqb}
 use lib.ListN.{length, take}
 use Rattle.lists.specs.Making.{keep, span}
@@ -12,6 +12,8 @@ use Rattle.rules.specs.Graph.{Graph, Hyper, Cover, Target}
 use Rattle.model.specs.Model.{Model, Transition, holds}
 use Rattle.formula.specs.declared.Quantifier.{Quantifier}
 use Rattle.formula.specs.declared.Quantifier.the-variants.{Some, Every}
+use Rattle.formula.specs.declared.Action.{Action}
+use Rattle.formula.specs.Rows.{allows}
 use Rattle.formula.specs.declared.Row.{Row}
 use Rattle.formula.specs.declared.Row.the-variants.{True, False, Proposition, Negation, And, Or, Next, Until}
 pub use Rattle.reduction.specs.Fits.{Fits}
@@ -20,17 +22,29 @@ pub use Rattle.reduction.specs.Fits.{Fits}
 abbrev pub to : ℕ → ℕ → Target
 to w v = record { weight = w; node = v }
 
--- the transitions of state a, in model order, each as its weight and the state it leads to
-unfoldable pub out : Model → ℕ → List Target
-out M a = map (λ (t : Transition). to (t .weight) (t .to)) (keep (λ (t : Transition). eqb (t .from) a) (M .transitions))
+-- a transition's weight and the state it leads to
+abbrev pub endOf : Transition → Target
+endOf t = to (t .weight) (t .to)
 
--- those within a bound
-unfoldable pub near : Model → Bound → ℕ → List Target
-near M b a = keep (λ (t : Target). inside b (t .weight)) (out M a)
+-- the transitions of state a, in model order
+abbrev pub leaving : Model → ℕ → List Transition
+leaving M a = keep (λ (t : Transition). eqb (t .from) a) (M .transitions)
+
+-- where they lead
+unfoldable pub out : Model → ℕ → List Target
+out M a = map endOf (leaving M a)
+
+-- EX or AX looks at a transition: its action is allowed, and its weight is within the bound
+abbrev pub looksAt : Action → Bound → Transition → Bool
+looksAt A b t = allows A (t .action) && inside b (t .weight)
+
+-- where those lead that it looks at
+unfoldable pub near : Model → Action → Bound → ℕ → List Target
+near M A b a = map endOf (keep (looksAt A b) (leaving M a))
 
 -- the target lists of the hyperedges of a row's node. true, and a proposition or its negation that holds: one without targets;
--- false, or one that doesn't hold: none. and: one, left then right, weights 0. or: two, left first. EX: for each transition within
--- the bound one with the successor at weight 0. AX: one with all of these. until: none
+-- false, or one that doesn't hold: none. and: one, left then right, weights 0. or: two, left first. EX: for each transition that it
+-- looks at one with the successor at weight 0. AX: one with all of these. until: none
 abbrev pub rowEdges : Model → Row → ℕ → List (List Target)
 rowEdges M True a = [] ∷ []
 rowEdges M False a = []
@@ -38,8 +52,8 @@ rowEdges M (Proposition i) a = cond (holds M i a) ([] ∷ []) []
 rowEdges M (Negation i) a = cond (not (holds M i a)) ([] ∷ []) []
 rowEdges M (And l r) a = (to 0 (a + M .states * l) ∷ to 0 (a + M .states * r) ∷ []) ∷ []
 rowEdges M (Or l r) a = (to 0 (a + M .states * l) ∷ []) ∷ (to 0 (a + M .states * r) ∷ []) ∷ []
-rowEdges M (Next Some l b) a = map (λ (t : Target). to 0 (t .node + M .states * l) ∷ []) (near M b a)
-rowEdges M (Next Every l b) a = map (λ (t : Target). to 0 (t .node + M .states * l)) (near M b a) ∷ []
+rowEdges M (Next Some A l b) a = map (λ (t : Target). to 0 (t .node + M .states * l) ∷ []) (near M A b a)
+rowEdges M (Next Every A l b) a = map (λ (t : Target). to 0 (t .node + M .states * l)) (near M A b a) ∷ []
 rowEdges M (Until q l r b) a = []
 
 -- what stands only where a list has an element
@@ -61,7 +75,7 @@ ifUntil (Proposition i) f x = x
 ifUntil (Negation i) f x = x
 ifUntil (And l r) f x = x
 ifUntil (Or l r) f x = x
-ifUntil (Next q l b) f x = x
+ifUntil (Next q A l b) f x = x
 ifUntil (Until q l r b) f x = f q l r b
 
 -- the target lists of an until's helper node: first {right at weight 0}

@@ -25,11 +25,11 @@ use Rattle.report.specs.Pieces.{statesLines, textIn}
 use Rattle.report.proofs.Lines.{rounds-length, state-length}
 
 -- no accepted formula's text is long
-pub text-short : (p : ℕ) (s : List ℕ) → Bytes s → length (textIn (readFormula p s)) ≤ 1152
+pub text-short : (p : ℕ) (s : List ℕ) → Bytes s → length (textIn (readFormula p s)) ≤ 1216
 unfolding textIn
 text-short p s bytes = go (readFormula p s) refl
   where
-    go : (x : Read (List Row)) → readFormula p s ≡ x → length (textIn x) ≤ 1152
+    go : (x : Read (List Row)) → readFormula p s ≡ x → length (textIn x) ≤ 1216
     go (good rows) e = accepted-text-length (accepted-written p s rows bytes e .1)
     go (bad r) e = omega arith
 
@@ -45,7 +45,7 @@ pub text-laid : (p : ℕ) (s o : List ℕ) {r : Written} {b : List ℕ} {n : ℕ
 unfolding textIn writtenOf textRoom laid
 text-laid p s o {r} {b} {n} bytes long answer room length-is = go (readFormula p s) (text-short p s bytes) answer room
   where
-    go : (x : Read (List Row)) → length (textIn x) ≤ 1152 → r ≡ writtenOf x (take 2048 o) → b ≡ textRoom x (take 2048 o) → Laid o 0 (textIn x) (b ++ drop 2048 o) n
+    go : (x : Read (List Row)) → length (textIn x) ≤ 1216 → r ≡ writtenOf x (take 2048 o) → b ≡ textRoom x (take 2048 o) → Laid o 0 (textIn x) (b ++ drop 2048 o) n
     go (good rows) short a l =
         let t : List ℕ = text (rootOf rows) in
         let fits = le-ltb (length (take 2048 o)) (length t) (omega (arith, length-take-le 2048 o long)) in

@@ -7,6 +7,7 @@ use mathlib.Core.Logic.{_↔_}
 use Rattle.value.specs.declared.Bound.{Bound}
 use Rattle.formula.specs.declared.Quantifier.{Quantifier}
 use Rattle.formula.specs.declared.Quantifier.the-variants.{Some, Every}
+use Rattle.formula.specs.declared.Action.{Action}
 use Rattle.formula.specs.Formula.{Formula, next, until}
 use Rattle.runs.specs.Systems.{System}
 use Rattle.runs.specs.Runs.{Dead, Ending, Run, endless, ending}
@@ -14,11 +15,11 @@ use Rattle.runs.specs.Sat.{Witness, Witnessed, Until, Sat}
 use Rattle.runs.proofs.Untils.{run-now}
 
 module _ (S : System) {a : S .State} (dead : Dead S a) where
-  pub no-next : (φ : Formula) (b : Bound) → ¬ Sat S (next Some φ b) a
-  no-next φ b (w, c, m, i, h) = dead w c m
+  pub no-next : (A : Action) (φ : Formula) (b : Bound) → ¬ Sat S (next Some A φ b) a
+  no-next A φ b (w, k, c, m, t, i, h) = dead w c (k, m)
 
-  pub all-next : (φ : Formula) (b : Bound) → Sat S (next Every φ b) a
-  all-next φ b w c m = absurd (dead w c m)
+  pub all-next : (A : Action) (φ : Formula) (b : Bound) → Sat S (next Every A φ b) a
+  all-next A φ b w k c m = absurd (dead w c (k, m))
 
   -- the one run from there
   alone : Run S a

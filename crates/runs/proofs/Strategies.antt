@@ -11,13 +11,13 @@ use Rattle.lists.specs.Lists.{any, upTo, firstFrom}
 use Rattle.lists.proofs.Tests.{by-test, clash}
 use Rattle.lists.proofs.Lists.{any-true, true-any, howMany, howMany-le, howMany-more, howMany-some, upTo-length, upTo-∈, firstFrom-before, firstFrom-passes}
 use Rattle.model.specs.Model.{Model, Transition}
-use Rattle.runs.specs.Systems.{System, systemOf}
+use Rattle.runs.specs.Systems.{System, Leads, systemOf}
 use Rattle.runs.specs.Runs.{Dead, Run, endless, ending}
 use Rattle.runs.proofs.Proper.{Proper}
 
 -- what a walk does at a state: it goes on along a step, or stops, as it may only where no step leads on
 pub data Choice (S : System) (a : S .State) : Type 0 where
-  go : (w : ℕ) (c : S .State) → S .Leads a w c → Choice S a
+  go : (w : ℕ) (c : S .State) → Leads S a w c → Choice S a
   stop : Dead S a → Choice S a
 
 module _ {S : System} {a : S .State} where
@@ -34,7 +34,7 @@ module _ {S : System} {a : S .State} where
   stops (stop d) = true
 
   -- the step that it goes, the end that it comes to
-  pub gone : (x : Choice S a) → stops x ≡ false → S .Leads a (price x) (onward x)
+  pub gone : (x : Choice S a) → stops x ≡ false → Leads S a (price x) (onward x)
   gone (go w c m) e = m
   gone (stop d) e = clash refl e
 
@@ -83,14 +83,14 @@ module _ {S : System} (f : Strategy S) where
   -- the run that it is
   abbrev pub run : {a : S .State} → Kind a → Run S a
   run {a} (goes-on on) =
-      endless (record { at = walk a; weight = paid a; starts = refl; steps = λ i. walked (S .Leads) (λ a. gone (f a)) a i (on i) })
+      endless (record { at = walk a; weight = paid a; starts = refl; steps = λ i. walked (Leads S) (λ a. gone (f a)) a i (on i) })
   run {a} (ends-at k e on) =
       ending (record {
         last = k;
         at = walk a;
         weight = paid a;
         starts = refl;
-        steps = λ i h. walked (S .Leads) (λ a. gone (f a)) a i (on i h);
+        steps = λ i h. walked (Leads S) (λ a. gone (f a)) a i (on i h);
         ends = done (f (walk a k)) e;
       })
 
@@ -104,8 +104,8 @@ module _ (M : Model) where
       let from-here : Transition → Bool = λ t. eqb (t .from) a in
       by-test (any from-here (M .transitions)) (λ e.
       let (t, m, q) = any-true from-here (M .transitions) e in
-      go (t .weight) (t .to) (Memᴰ·cast (λ i. record { from = sym (eqb-true (t .from) a q) i; weight = t .weight; to = t .to }) m))
-      (λ e. stop (λ w c m. clash (true-any from-here (M .transitions) _ m (eq-eqb a a refl)) e))
+      go (t .weight) (t .to) (t .action, Memᴰ·cast (λ i. record { from = sym (eqb-true (t .from) a q) i; weight = t .weight; action = t .action; to = t .to }) m))
+      (λ e. stop (λ w c (k, m). clash (true-any from-here (M .transitions) _ m (eq-eqb a a refl)) e))
 
   module _ (ok : Proper M) (f : Strategy S) where
     abbrev all-states : List ℕ

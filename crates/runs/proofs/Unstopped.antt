@@ -9,6 +9,7 @@ use mathlib.Core.Bool.{true, false}
 use Rattle.value.specs.declared.Bound.{Bound}
 use Rattle.formula.specs.declared.Quantifier.{Quantifier}
 use Rattle.formula.specs.declared.Quantifier.the-variants.{Some, Every}
+use Rattle.formula.specs.declared.Action.{Action}
 use Rattle.formula.specs.Formula.{Formula, true′, false′, prop, not-prop, and, or, next, until}
 use Rattle.model.specs.Model.{Model}
 use Rattle.runs.specs.Systems.{System, Leads, systemOf}
@@ -28,12 +29,12 @@ EndlessSat S (prop i) a = S .Holds i a ≡ true
 EndlessSat S (not-prop i) a = S .Holds i a ≡ false
 EndlessSat S (and φ ψ) a = EndlessSat S φ a × EndlessSat S ψ a
 EndlessSat S (or φ ψ) a = EndlessSat S φ a ⊎ EndlessSat S ψ a
-EndlessSat S (next q φ b) a = Next S q (λ c. EndlessSat S φ c) b a
+EndlessSat S (next q A φ b) a = Next S q A (λ c. EndlessSat S φ c) b a
 EndlessSat S (until q φ ψ b) a = EndlessUntil S q (λ c. EndlessSat S φ c) (λ c. EndlessSat S ψ c) b a
 
 -- states among which steps stay, and none of which is dead
 pub record Lively (S : System) (In : S .State → Type 0) : Type 0 where
-  pub onward : {a : S .State} {w : ℕ} {c : S .State} → In a → S .Leads a w c → In c
+  pub onward : {a : S .State} {w : ℕ} {c : S .State} → In a → Leads S a w c → In c
   pub live : {a : S .State} → In a → ¬ Dead S a
 
 -- the same of them satisfy the one and the other
@@ -83,9 +84,11 @@ module _ (S : System) {In : S .State → Type 0} (on : Lively S In) where
     same-until Some a l = (some-old l, λ (ρ, k). (endless ρ, to-new ρ l k))
     same-until Every a l = (λ u ρ. to-old ρ l (u (endless ρ)), every-new l)
 
-  same-next : {P Q : S .State → Type 0} → Same S In P Q → (q : Quantifier) (b : Bound) → Same S In (Next S q P b) (Next S q Q b)
-  same-next p Some b a l = (λ (w, c, m, i, h). (w, c, m, i, p c (on .onward l m) .0 h), λ (w, c, m, i, h). (w, c, m, i, p c (on .onward l m) .1 h))
-  same-next p Every b a l = (λ h w c m i. p c (on .onward l m) .0 (h w c m i), λ h w c m i. p c (on .onward l m) .1 (h w c m i))
+  same-next : {P Q : S .State → Type 0} → Same S In P Q → (q : Quantifier) (A : Action) (b : Bound) → Same S In (Next S q A P b) (Next S q A Q b)
+  same-next p Some A b a l =
+      (λ (w, k, c, m, t, i, h). (w, k, c, m, t, i, p c (on .onward l (k, m)) .0 h), λ (w, k, c, m, t, i, h). (w, k, c, m, t, i, p c (on .onward l (k, m)) .1 h))
+  same-next p Every A b a l =
+      (λ h w k c m t i. p c (on .onward l (k, m)) .0 (h w k c m t i), λ h w k c m t i. p c (on .onward l (k, m)) .1 (h w k c m t i))
 
   same-or : {A B A′ B′ : Type 0} → A ↔ A′ → B ↔ B′ → (A ⊎ B) ↔ (A′ ⊎ B′)
   same-or p q = (λ t. ⊎-map (p .0) (q .0) t, λ t. ⊎-map (p .1) (q .1) t)
@@ -97,11 +100,11 @@ module _ (S : System) {In : S .State → Type 0} (on : Lively S In) where
   same-sat (not-prop i) a l = (λ t. t, λ t. t)
   same-sat (and φ ψ) a l = let p = same-sat φ a l in let q = same-sat ψ a l in (λ t. (p .0 (t .0), q .0 (t .1)), λ t. (p .1 (t .0), q .1 (t .1)))
   same-sat (or φ ψ) a l = same-or (same-sat φ a l) (same-sat ψ a l)
-  same-sat (next q φ b) a l = same-next (same-sat φ) q b a l
+  same-sat (next q A φ b) a l = same-next (same-sat φ) q A b a l
   same-sat (until q φ ψ b) a l = same-until (same-sat φ) (same-sat ψ) b q a l
 
 -- of a model each of whose states has a transition
-pub same-model : (M : Model) → Proper M → ((a : ℕ) → a < M .states → (w : ℕ) × (c : ℕ) × Leads M a w c)
+pub same-model : (M : Model) → Proper M → ((a : ℕ) → a < M .states → (w : ℕ) × (c : ℕ) × Leads (systemOf M) a w c)
     → (φ : Formula) (a : ℕ) → a < M .states → Sat (systemOf M) φ a ↔ EndlessSat (systemOf M) φ a
 same-model M ok live =
     same-sat (systemOf M) {In = λ a. a < M .states} (record { onward = λ l m. ok .target m; live = λ {a} l dead. let (w, c, m) = live a l in dead w c m })

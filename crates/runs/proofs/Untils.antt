@@ -11,7 +11,7 @@ use Rattle.value.specs.Value.{inside}
 use Rattle.value.proofs.Values.{inside-le, inside-zero}
 use Rattle.formula.specs.declared.Quantifier.{Quantifier}
 use Rattle.formula.specs.declared.Quantifier.the-variants.{Some, Every}
-use Rattle.runs.specs.Systems.{System}
+use Rattle.runs.specs.Systems.{System, Leads}
 use Rattle.runs.specs.Runs.{Dead, Endless, Ending, Run, endless, ending, total}
 use Rattle.runs.specs.Sat.{Witness, Witnessed, Until}
 
@@ -22,16 +22,16 @@ push a f (suc i) = f i
 
 module _ (S : System) where
   -- a step in front of a run
-  prepend : {a : S .State} {w : ℕ} {c : S .State} → S .Leads a w c → Run S c → Run S a
+  prepend : {a : S .State} {w : ℕ} {c : S .State} → Leads S a w c → Run S c → Run S a
   prepend {a} {w} {c} t (endless ρ) = endless (record { at = push a (ρ .at); weight = push w (ρ .weight); starts = refl; steps = steps })
     where
-      steps : (i : ℕ) → S .Leads (push a (ρ .at) i) (push w (ρ .weight) i) (ρ .at i)
+      steps : (i : ℕ) → Leads S (push a (ρ .at) i) (push w (ρ .weight) i) (ρ .at i)
       steps zero = rw (ρ .starts) t
       steps (suc i) = ρ .steps i
   prepend {a} {w} {c} t (ending ρ) =
       ending (record { last = suc (ρ .last); at = push a (ρ .at); weight = push w (ρ .weight); starts = refl; steps = steps; ends = ρ .ends })
     where
-      steps : (i : ℕ) → i < suc (ρ .last) → S .Leads (push a (ρ .at) i) (push w (ρ .weight) i) (ρ .at i)
+      steps : (i : ℕ) → i < suc (ρ .last) → Leads S (push a (ρ .at) i) (push w (ρ .weight) i) (ρ .at i)
       steps zero h = rw (ρ .starts) t
       steps (suc i) h = ρ .steps i (omega arith)
 
@@ -74,12 +74,12 @@ module _ (S : System) where
         before (suc i) h = k .before i (omega arith)
 
     -- left holds, and after some step, or any, the until holds within what is left of d
-    pub E-later : {a : S .State} {w : ℕ} {c : S .State} {d e : ℕ} → S .Leads a w c → L a → Until S Some L R (Within e) c → w + e ≤ d → Until S Some L R (Within d) a
+    pub E-later : {a : S .State} {w : ℕ} {c : S .State} {d e : ℕ} → Leads S a w c → L a → Until S Some L R (Within e) c → w + e ≤ d → Until S Some L R (Within d) a
     unfolding prepend later
     E-later {a} {w} t l (endless ρ, k) fits = (prepend t (endless ρ), later (push a (ρ .at)) (push w (ρ .weight)) l k fits)
     E-later {a} {w} t l (ending ρ, (k, h)) fits = (prepend t (ending ρ), (later (push a (ρ .at)) (push w (ρ .weight)) l k fits, omega arith))
 
-    pub A-later : {a : S .State} {d : ℕ} → L a → ¬ Dead S a → ((w : ℕ) (c : S .State) → S .Leads a w c → (e : ℕ) × Until S Every L R (Within e) c × (w + e ≤ d))
+    pub A-later : {a : S .State} {d : ℕ} → L a → ¬ Dead S a → ((w : ℕ) (c : S .State) → Leads S a w c → (e : ℕ) × Until S Every L R (Within e) c × (w + e ≤ d))
         → Until S Every L R (Within d) a
     unfolding rest rest-ending later
     A-later l live next (endless ρ) =

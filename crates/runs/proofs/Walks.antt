@@ -56,7 +56,7 @@ module _ (M : Model) (ok : Proper M) where
           (along h at weight (k .position) (start (at (k .position)) l (k .arrives)) (λ i p. climb i p (k .before i p)))
 
       -- so where an E until holds, if they climb along each step; and where an A until does, if they climb along a strategy's
-      pub E-value : ((a w c : ℕ) → a < M .states → Leads M a w c → Climbs L h a w c) → (a : ℕ) → a < M .states → Until S Some L R b a → meets b (h a) ≡ true
+      pub E-value : ((a w c : ℕ) → a < M .states → Leads S a w c → Climbs L h a w c) → (a : ℕ) → a < M .states → Until S Some L R b a → meets b (h a) ≡ true
       E-value climb a l (endless ρ, k) =
           rw (ρ .starts) at (walk-value k (among ρ l (k .position)) (λ i p. climb (ρ .at i) (ρ .weight i) (ρ .at (suc i)) (among ρ l i) (ρ .steps i)))
       E-value climb a l (ending ρ, (k, n)) =

@@ -7,14 +7,16 @@ use Rattle.value.specs.declared.Bound.{Bound}
 use Rattle.value.specs.Value.{inside}
 use Rattle.formula.specs.declared.Quantifier.{Quantifier}
 use Rattle.formula.specs.declared.Quantifier.the-variants.{Some, Every}
+use Rattle.formula.specs.declared.Action.{Action}
+use Rattle.formula.specs.Rows.{allows}
 use Rattle.formula.specs.Formula.{Formula, true′, false′, prop, not-prop, and, or, next, until}
 use Rattle.runs.specs.Systems.{System}
 use Rattle.runs.specs.Runs.{Run, endless, ending, total}
 
--- EX: some step of weight within the bound leads to a state with P. AX: all such steps do
-abbrev pub Next : (S : System) → Quantifier → (S .State → Type 0) → Bound → S .State → Type 0
-Next S Some P b a = (w : ℕ) × (c : S .State) × S .Leads a w c × (inside b w ≡ true) × P c
-Next S Every P b a = (w : ℕ) (c : S .State) → S .Leads a w c → inside b w ≡ true → P c
+-- EX: some step of an action that is looked at and of weight within the bound leads to a state with P. AX: all such steps do
+abbrev pub Next : (S : System) → Quantifier → Action → (S .State → Type 0) → Bound → S .State → Type 0
+Next S Some A P b a = (w k : ℕ) × (c : S .State) × S .Step a w k c × (allows A k ≡ true) × (inside b w ≡ true) × P c
+Next S Every A P b a = (w k : ℕ) (c : S .State) → S .Step a w k c → allows A k ≡ true → inside b w ≡ true → P c
 
 -- a position of a run that satisfies R, with the weights before it summing to within the bound and L holding at each earlier position
 pub record Witness {A : Type 0} (L R : A → Type 0) (b : Bound) (at : ℕ → A) (weight : ℕ → ℕ) : Type 0 where
@@ -41,5 +43,5 @@ Sat S (prop i) a = S .Holds i a ≡ true
 Sat S (not-prop i) a = S .Holds i a ≡ false
 Sat S (and φ ψ) a = Sat S φ a × Sat S ψ a
 Sat S (or φ ψ) a = Sat S φ a ⊎ Sat S ψ a
-Sat S (next q φ b) a = Next S q (λ c. Sat S φ c) b a
+Sat S (next q A φ b) a = Next S q A (λ c. Sat S φ c) b a
 Sat S (until q φ ψ b) a = Until S q (λ c. Sat S φ c) (λ c. Sat S ψ c) b a

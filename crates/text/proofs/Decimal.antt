@@ -143,7 +143,11 @@ decimal-enough (suc k) (suc m) n h more =
     (λ l. let below : n / 10 < 10 ^ suc k = omega (arith, simp pow-suc at h) in
     rw (decimal-more (suc m) n l, decimal-more (suc k) n l, decimal-enough k m (n / 10) below (omega arith)))
 
--- so a 4-byte number is written as an 8-byte one
+-- so a number has no more than it needs
+pub decimal-short : (k n : ℕ) → n < 10 ^ suc k → k ≤ 9 → length (decimal n) ≤ suc k
+decimal-short k n h few = rw (decimal-enough k 9 n h few) (decimal-length (suc k) n)
+
+-- and a 4-byte number is written as an 8-byte one
 pub long-short : (n : ℕ) → n < 10 ^ 10 → longDecimal n ≡ decimal n
 long-short n h = decimal-enough 9 19 n h (omega arith)
 

@@ -1,5 +1,6 @@
 -- Laws of the text of formulas.
 --     Decimal    decimal digits make their number, and end where the digits end
+--     Small      the numbers of an accepted formula are small
 --     Length     how long a text is: 2,048 bytes suffice for an accepted formula
 --     Tells      the text determines the formula
 --     Known      the texts of the paper's examples
@@ -9,6 +10,7 @@
 --     Laws       the program's room is never too small
 --     One        one answer of each public function
 pub mod Decimal
+pub mod Small
 pub mod Length
 pub mod Tells
 pub mod Known

@@ -18,7 +18,7 @@ use Rattle.formula.specs.Rows.{operands}
 use Rattle.formula.specs.Layouts.{rowAt, rowLayout}
 use Rattle.formula.specs.WellFormed.{RowAt}
 use Rattle.formula.proofs.Trees.{formula-of-row}
-use Rattle.text.specs.Text.{word, decimal, boundText, quantifierText, text}
+use Rattle.text.specs.Text.{word, decimal, boundText, quantifierText, actionText, text}
 use Rattle.text.specs.Rows.{countOf, rowsOf, rowText, Ready}
 
 -- the text of a row, from the texts of its operands, in the pieces that are stored
@@ -29,7 +29,7 @@ made (Proposition i) t = word "p" ++ decimal i
 made (Negation i) t = word "!p" ++ decimal i
 made (And l r) t = word "(" ++ t l ++ word " & " ++ t r ++ word ")"
 made (Or l r) t = word "(" ++ t l ++ word " | " ++ t r ++ word ")"
-made (Next q l b) t = quantifierText q ++ (word "X" ++ boundText b ++ word " ") ++ t l
+made (Next q k l b) t = quantifierText q ++ word "X" ++ actionText k ++ boundText b ++ word " " ++ t l
 made (Until q l r b) t = quantifierText q ++ word "[" ++ t l ++ (word " U" ++ boundText b ++ word " ") ++ t r ++ word "]"
 
 -- and its length, from their lengths
@@ -40,10 +40,10 @@ madeLength (Proposition i) n = 1 + length (decimal i)
 madeLength (Negation i) n = 2 + length (decimal i)
 madeLength (And l r) n = 5 + n l + n r
 madeLength (Or l r) n = 5 + n l + n r
-madeLength (Next q l b) n = 3 + length (boundText b) + n l
+madeLength (Next q k l b) n = 3 + length (actionText k) + length (boundText b) + n l
 madeLength (Until q l r b) n = 6 + length (boundText b) + n l + n r
 
-one-byte : (q : Quantifier) → length (quantifierText q) ≡ 1
+pub one-byte : (q : Quantifier) → length (quantifierText q) ≡ 1
 one-byte Some = refl
 one-byte Every = refl
 
@@ -62,7 +62,7 @@ length-made (Proposition i) t = omega arith
 length-made (Negation i) t = omega arith
 length-made (And l r) t = simp length-append (omega arith)
 length-made (Or l r) t = simp length-append (omega arith)
-length-made (Next q l b) t = simp (length-append, one-byte) (omega arith)
+length-made (Next q k l b) t = simp (length-append, one-byte) (omega arith)
 length-made (Until q l r b) t = simp (length-append, one-byte) (omega arith)
 
 among : (n : ℕ → ℕ) {k l x : ℕ} {xs : List ℕ} → l ∈ (x ∷ xs) → n x ≤ k → (l ∈ xs → n l ≤ k) → n l ≤ k
@@ -77,7 +77,7 @@ operand-short (Proposition i) n l m = absurd (List·Memᴰ·not-nil m)
 operand-short (Negation i) n l m = absurd (List·Memᴰ·not-nil m)
 operand-short (And x y) n l m = among n m (omega arith) (λ o. among n o (omega arith) (λ p. absurd (List·Memᴰ·not-nil p)))
 operand-short (Or x y) n l m = among n m (omega arith) (λ o. among n o (omega arith) (λ p. absurd (List·Memᴰ·not-nil p)))
-operand-short (Next q x b) n l m = among n m (omega arith) (λ o. absurd (List·Memᴰ·not-nil o))
+operand-short (Next q k x b) n l m = among n m (omega arith) (λ o. absurd (List·Memᴰ·not-nil o))
 operand-short (Until q x y b) n l m = among n m (omega arith) (λ o. among n o (omega arith) (λ p. absurd (List·Memᴰ·not-nil p)))
 
 text-grow : (row : Row) (φ : ℕ → Formula) → text (grow (some row) φ) ≡ made row (λ l. text (φ l))
@@ -88,7 +88,7 @@ text-grow (Proposition i) φ = refl
 text-grow (Negation i) φ = refl
 text-grow (And l r) φ = refl
 text-grow (Or l r) φ = refl
-text-grow (Next q l b) φ = simp append-assoc
+text-grow (Next q k l b) φ = refl
 text-grow (Until q l r b) φ = simp append-assoc
 
 -- what is known of an operand l of row i

@@ -1,39 +1,23 @@
 -- The text determines the formula: it can be read back, whatever follows it. Assumes nothing.
-use Prim.Native.Nat.{ℕ, zero, suc, _+_, _^_, _<_, _≤_}
+use Prim.Native.Nat.{ℕ, zero, suc, _+_, _≤_}
 use mathlib.Core.List.{List, [], _∷_, _++_, append-assoc}
-use mathlib.Core.Option.{Option, some, none}
 use mathlib.Core.Path.{_≡_, refl, sym, ap, _∙_}
 use mathlib.Core.Bool.{cond}
 use native.Mathlib.Omega.{arith}
 use lib.Dec.{eqb}
-use lib.ListN.{getD, drop, getElem?}
-use Rattle.lists.proofs.Places.{first, place-∈}
-use Rattle.value.specs.Coded.{Sayable}
+use lib.ListN.{getD, drop}
 use Rattle.value.specs.declared.Bound.{Bound}
 use Rattle.value.specs.declared.Bound.the-variants.{Within, Unbounded}
 use Rattle.formula.specs.declared.Quantifier.{Quantifier}
 use Rattle.formula.specs.declared.Quantifier.the-variants.{Some, Every}
+use Rattle.formula.specs.declared.Action.{Action}
+use Rattle.formula.specs.declared.Action.the-variants.{Any, Only}
 use Rattle.formula.specs.declared.Row.{Row}
-use Rattle.formula.specs.declared.Row.the-variants as Row
-use Rattle.formula.specs.Formula.{Formula, true′, false′, prop, not-prop, and, or, next, until, grow, tree, rootOf, size}
+use Rattle.formula.specs.Formula.{Formula, true′, false′, prop, not-prop, and, or, next, until, rootOf, size}
 use Rattle.formula.specs.WellFormed.{WellFormed}
-use Rattle.text.specs.Text.{boundText, quantifierText, text}
+use Rattle.text.specs.Text.{boundText, quantifierText, actionText, text}
 use Rattle.text.proofs.Decimal.{Stops, value, leading, after, decimal-read, decimal-rest}
-
--- propositions and bounds have at most ten digits
-abbrev pub SmallBound : Bound → Type 0
-SmallBound (Within k) = k < 10 ^ 10
-SmallBound Unbounded = Unit
-
-abbrev pub Small : Formula → Type 0
-Small true′ = Unit
-Small false′ = Unit
-Small (prop i) = i < 10 ^ 10
-Small (not-prop i) = i < 10 ^ 10
-Small (and φ ψ) = Small φ × Small ψ
-Small (or φ ψ) = Small φ × Small ψ
-Small (next q φ b) = Small φ × SmallBound b
-Small (until q φ ψ b) = Small φ × Small ψ × SmallBound b
+use Rattle.text.proofs.Small.{SmallBound, SmallAction, Small, accepted-small}
 
 -- ---- reading a text back: what stands first, and the rest
 
@@ -43,6 +27,10 @@ Cut A = A × List ℕ
 -- a bound begins with `<`
 cutBound : List ℕ → Cut Bound
 cutBound s = cond (eqb (getD s 0 0) 60) (Within (value 0 (leading (drop 2 s))), after (drop 2 s)) (Unbounded, s)
+
+-- an action begins with `#`
+cutAction : List ℕ → Cut Action
+cutAction s = cond (eqb (getD s 0 0) 35) (Only (value 0 (leading (drop 1 s))), after (drop 1 s)) (Any, s)
 
 module _ (cut : List ℕ → Cut Formula) where
   -- past `(`
@@ -55,9 +43,10 @@ module _ (cut : List ℕ → Cut Formula) where
   -- past `X`
   cutNext : Quantifier → List ℕ → Cut Formula
   cutNext q s =
-      let b = cutBound s in
+      let k = cutAction s in
+      let b = cutBound (k .1) in
       let a = cut (drop 1 (b .1)) in
-      (next q (a .0) (b .0), a .1)
+      (next q (k .0) (a .0) (b .0), a .1)
 
   -- past `[`
   cutUntil : Quantifier → List ℕ → Cut Formula
@@ -88,10 +77,24 @@ unfolding cutBound
 bound-cut (Within k) r h = rw (decimal-read k (32 ∷ r) h refl, decimal-rest k (32 ∷ r) refl)
 bound-cut Unbounded r h = refl
 
+-- behind an action stands `<` or a blank, and neither is a digit
+after-action : (b : Bound) (r : List ℕ) → Stops (boundText b ++ 32 ∷ r)
+after-action (Within k) r = refl
+after-action Unbounded r = refl
+
+action-cut : (A : Action) (b : Bound) (r : List ℕ) → SmallAction A → cutAction (actionText A ++ (boundText b ++ 32 ∷ r)) ≡ (A, boundText b ++ 32 ∷ r)
+unfolding cutAction
+action-cut (Only k) b r h =
+    let rest : List ℕ = boundText b ++ 32 ∷ r in
+    rw (decimal-read k rest (omega arith) (after-action b r), decimal-rest k rest (after-action b r))
+action-cut Any (Within k) r h = refl
+action-cut Any Unbounded r h = refl
+
 module _ (cut : List ℕ → Cut Formula) (φ : Formula) (s : List ℕ) where
-  next-cut : (r : List ℕ) (q : Quantifier) (b : Bound) → SmallBound b → cut s ≡ (φ, r) → cutQuantified cut q (88 ∷ (boundText b ++ 32 ∷ s)) ≡ (next q φ b, r)
+  next-cut : (r : List ℕ) (q : Quantifier) (A : Action) (b : Bound) → SmallAction A → SmallBound b → cut s ≡ (φ, r)
+      → cutQuantified cut q (88 ∷ (actionText A ++ (boundText b ++ 32 ∷ s))) ≡ (next q A φ b, r)
   unfolding cutNext cutQuantified
-  next-cut r q b h e = rw (bound-cut b s h, e)
+  next-cut r q A b k h e = rw (action-cut A b s k, bound-cut b s h, e)
 
   module _ (t r : List ℕ) where
     both-and : {ψ : Formula} → cut s ≡ (φ, 32 ∷ 38 ∷ 32 ∷ t) → cut t ≡ (ψ, 41 ∷ r) → cutBoth cut s ≡ (and φ ψ, r)
@@ -116,9 +119,10 @@ text-or : (φ ψ : Formula) (r : List ℕ) → text (or φ ψ) ++ r ≡ 40 ∷ (
 unfolding text
 text-or φ ψ r = simp append-assoc
 
-text-next : (φ : Formula) (r : List ℕ) (q : Quantifier) (b : Bound) → text (next q φ b) ++ r ≡ quantifierText q ++ 88 ∷ (boundText b ++ 32 ∷ (text φ ++ r))
+text-next : (φ : Formula) (r : List ℕ) (q : Quantifier) (A : Action) (b : Bound)
+    → text (next q A φ b) ++ r ≡ quantifierText q ++ 88 ∷ (actionText A ++ (boundText b ++ 32 ∷ (text φ ++ r)))
 unfolding text
-text-next φ r q b = simp append-assoc
+text-next φ r q A b = simp append-assoc
 
 text-until : (φ ψ : Formula) (r : List ℕ) (q : Quantifier) (b : Bound)
     → text (until q φ ψ b) ++ r ≡ quantifierText q ++ 91 ∷ (text φ ++ 32 ∷ 85 ∷ (boundText b ++ 32 ∷ (text ψ ++ 93 ∷ r)))
@@ -138,7 +142,7 @@ size-some (prop i) = omega arith
 size-some (not-prop i) = omega arith
 size-some (and φ ψ) = omega arith
 size-some (or φ ψ) = omega arith
-size-some (next q φ b) = omega arith
+size-some (next q A φ b) = omega arith
 size-some (until q φ ψ b) = omega arith
 
 cut-text : (n : ℕ) (φ : Formula) (r : List ℕ) → size φ ≤ n → Small φ → Stops r → cut n (text φ ++ r) ≡ (φ, r)
@@ -154,8 +158,9 @@ cut-text (suc n) (and φ ψ) r h s e =
 cut-text (suc n) (or φ ψ) r h s e =
     ap (cut (suc n)) (text-or φ ψ r)
     ∙ both-or (λ t. cut n t) φ _ _ r (cut-text n φ _ (omega arith) (s .0) refl) (cut-text n ψ (41 ∷ r) (omega arith) (s .1) refl)
-cut-text (suc n) (next q φ b) r h s e =
-    ap (cut (suc n)) (text-next φ r q b) ∙ quantified n q _ ∙ next-cut (λ t. cut n t) φ _ r q b (s .1) (cut-text n φ r (omega arith) (s .0) e)
+cut-text (suc n) (next q A φ b) r h s e =
+    ap (cut (suc n)) (text-next φ r q A b) ∙ quantified n q _
+    ∙ next-cut (λ t. cut n t) φ _ r q A b (s .0) (s .2) (cut-text n φ r (omega arith) (s .1) e)
 cut-text (suc n) (until q φ ψ b) r h s e =
     ap (cut (suc n)) (text-until φ ψ r q b) ∙ quantified n q _
     ∙ until-cut (λ t. cut n t) φ _ _ r q b (s .2) (cut-text n φ _ (omega arith) (s .0) refl) (cut-text n ψ (93 ∷ r) (omega arith) (s .1) refl)
@@ -171,28 +176,6 @@ text-tells-rest φ ψ r t s s′ e e′ same =
 pub text-tells : (φ ψ : Formula) → Small φ → Small ψ → text φ ≡ text ψ → φ ≡ ψ
 text-tells φ ψ s s′ same = text-tells-rest φ ψ [] [] s s′ refl refl (ap (λ (l : List ℕ). l ++ []) same) .0
 
--- ---- accepted formulas are small
-
-sayable-small : (b : Bound) → Sayable b → SmallBound b
-sayable-small (Within k) h = omega arith
-sayable-small Unbounded h = tt
-
-small-tree : {p : ℕ} (rows : List Row) → WellFormed p rows → (n i : ℕ) → Small (tree n rows i)
-unfolding tree
-small-tree rows w zero i = tt
-small-tree {p} rows w (suc n) i = go (getElem? rows i) refl (small-tree rows w n)
-  where
-    go : (o : Option Row) → getElem? rows i ≡ o → ((l : ℕ) → Small (tree n rows l)) → Small (grow o (λ l. tree n rows l))
-    go none e small = tt
-    go (some Row.True) e small = tt
-    go (some Row.False) e small = tt
-    go (some (Row.Proposition q)) e small = omega (arith, w .propositions-named i e first, w .propositions-fit)
-    go (some (Row.Negation q)) e small = omega (arith, w .propositions-named i e first, w .propositions-fit)
-    go (some (Row.And l r)) e small = (small l, small r)
-    go (some (Row.Or l r)) e small = (small l, small r)
-    go (some (Row.Next q l b)) e small = (small l, sayable-small b (w .sayable (place-∈ rows i e)))
-    go (some (Row.Until q l r b)) e small = (small l, small r, sayable-small b (w .sayable (place-∈ rows i e)))
-
 pub accepted-text-tells : {p p′ : ℕ} {rows rows′ : List Row} → WellFormed p rows → WellFormed p′ rows′ → text (rootOf rows) ≡ text (rootOf rows′) → rootOf rows ≡ rootOf rows′
 accepted-text-tells {rows = rows} {rows′ = rows′} w w′ same =
-    text-tells (rootOf rows) (rootOf rows′) (small-tree rows w _ _) (small-tree rows′ w′ _ _) same
+    text-tells (rootOf rows) (rootOf rows′) (accepted-small w) (accepted-small w′) same

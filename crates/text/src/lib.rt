@@ -8,6 +8,7 @@ ghost use Rattle.wire.specs.Laid.{Laid};
 ghost use Rattle.text.specs.Rows.{rowText, Ready};
 ghost use Rattle.text.specs.Written.{writtenNumber, writtenOffset, writtenLength, writtenOf, textRoom};
 ghost use Rattle.formula.specs.Message.{readFormula};
+use formula::Action;
 use formula::Checked;
 use formula::Quantifier;
 use formula::Row;
@@ -128,6 +129,27 @@ fn bound_length(bound: Bound) -> usize
     }
 }
 
+// Stores an action: no action, no `#`.
+fn put_action(room: &mut [u8], at: usize, action: Action) -> usize
+    requires { ⌜ at + length (t.actionText action) ≤ length (now room) ⌝ }
+    ensures { λ r. ⌜ Laid (now (room .entry)) at (t.actionText action) (now (room .exit)) r ⌝ }
+{
+    match action {
+        Action::Only(k) => put_number(room, at, b"#", k),
+        Action::Any => at,
+    }
+}
+
+// How long the text of an action is.
+fn action_length(action: Action) -> usize
+    ensures { λ r. ⌜ r ≡ length (t.actionText action) ⌝ }
+{
+    match action {
+        Action::Only(k) => 1 + decimal_length(k),
+        Action::Any => 0,
+    }
+}
+
 // Stores a quantifier.
 fn put_quantifier(room: &mut [u8], at: usize, quantifier: Quantifier) -> usize
     requires { ⌜ at < length (now room) ⌝ }
@@ -149,6 +171,24 @@ fn put_bounded(room: &mut [u8], at: usize, sign: &[u8], bound: Bound) -> usize
     put_word(room, space, b" ")
 }
 
+// Stores what stands before the operand of EX or AX.
+fn put_next(
+    room: &mut [u8],
+    at: usize,
+    quantifier: Quantifier,
+    action: Action,
+    bound: Bound,
+) -> usize
+    requires { ⌜ at + length (t.actionText action) + length (t.boundText bound) + 3 ≤ length (now room) ⌝ }
+    ensures { λ r. ⌜ Laid (now (room .entry)) at (t.quantifierText quantifier ++ t.word "X" ++ t.actionText action ++ t.boundText bound ++ t.word " ") (now (room .exit)) r ⌝ }
+{
+    let sign = put_quantifier(room, at, quantifier);
+    let which = put_word(room, sign, b"X");
+    let within = put_action(room, which, action);
+    let space = put_bound(room, within, bound);
+    put_word(room, space, b" ")
+}
+
 // How long the text of row i is, from its operands'.
 fn row_length(s: &[u8], i: u32) -> usize
     requires { ⌜ Ready (now s) i ⌝ }
@@ -163,7 +203,7 @@ fn row_length(s: &[u8], i: u32) -> usize
         Row::Proposition(p) => 1 + decimal_length(p),
         Row::Negation(p) => 2 + decimal_length(p),
         Row::And(l, r) | Row::Or(l, r) => 5 + row_length(s, l) + row_length(s, r),
-        Row::Next(_, l, b) => 3 + bound_length(b) + row_length(s, l),
+        Row::Next(_, k, l, b) => 3 + action_length(k) + bound_length(b) + row_length(s, l),
         Row::Until(_, l, r, b) => 6 + bound_length(b) + row_length(s, l) + row_length(s, r),
     }
 }
@@ -194,9 +234,8 @@ fn put_row(s: &[u8], i: u32, room: &mut [u8], at: usize) -> usize
             let end = put_row(s, r, room, right);
             put_word(room, end, b")")
         }
-        Row::Next(q, l, b) => {
-            let sign = put_quantifier(room, at, q);
-            let operand = put_bounded(room, sign, b"X", b);
+        Row::Next(q, k, l, b) => {
+            let operand = put_next(room, at, q, k, b);
             put_row(s, l, room, operand)
         }
         Row::Until(q, l, r, b) => {

@@ -15,7 +15,9 @@ pub fn calls() -> Vec<Call> {
         propositions_handed_in(),
         propositions_named(),
         uses(),
+        actions(),
         texts(),
+        texts_of_actions(),
         large(),
     ];
     parts.into_iter().flatten().collect()
@@ -40,7 +42,9 @@ pub fn every_operator() -> Message {
         Row::Next(Runs::Some, Some(3), 6),
         Row::Until(Runs::Some, Some(2), 7, 3),
         Row::Next(Runs::All, None, 4),
-        Row::Until(Runs::All, None, 8, 9),
+        Row::NextBy(Runs::Some, 7, Some(3), 9),
+        Row::NextBy(Runs::All, 255, None, 10),
+        Row::Until(Runs::All, None, 8, 11),
     ])
 }
 
@@ -177,6 +181,48 @@ fn uses() -> Vec<Call> {
         .collect()
 }
 
+/// "the action given in the row's right field, 0 to 255": it names no row and uses none. Numbers that
+/// would name the operand, another row, the row itself, a later one and none.
+fn actions() -> Vec<Call> {
+    let mut formulas: Vec<Formula> = vec![];
+    for action in [0, 1, 2, 3, 4, 63, 64, 128, 255] {
+        for runs in [Runs::Some, Runs::All] {
+            let by = |operand: usize| Row::NextBy(runs, action, Some(2), operand);
+            formulas.push(vec![Row::True, by(0)]);
+            formulas.push(vec![Row::True, by(0), by(1), by(2)]);
+            formulas.push(vec![Row::True, Row::False, by(1), Row::Or(0, 2)]);
+            // a row that only the action would use, an operand that is no earlier row, one used twice
+            formulas.push(vec![Row::True, Row::False, by(0)]);
+            formulas.push(vec![by(0)]);
+            formulas.push(vec![Row::True, by(1)]);
+            formulas.push(vec![Row::True, by(0), by(0)]);
+        }
+    }
+    let check = |rows: &Formula| Call::formula(0, &message::formula(rows).bytes);
+    let mut calls: Vec<Call> = formulas.iter().map(check).collect();
+    let texts = formulas.iter().step_by(3);
+    calls.extend(texts.map(|rows| text_of(0, &message::formula(rows).bytes)));
+    calls
+}
+
+/// Actions of every number of digits, with bounds of every kind.
+fn texts_of_actions() -> Vec<Call> {
+    let mut calls = vec![];
+    for action in [0, 1, 7, 9, 10, 11, 99, 100, 101, 199, 200, 254, 255] {
+        for bound in [None, Some(3), Some(u32::MAX - 1)] {
+            for runs in [Runs::Some, Runs::All] {
+                let rows = vec![Row::Has(1), Row::NextBy(runs, action, bound, 0)];
+                calls.push(text_of(2, &message::formula(&rows).bytes));
+            }
+        }
+    }
+    for action in [0, 10, 255] {
+        let rows = vec![Row::Has(1), Row::NextBy(Runs::All, action, Some(3), 0)];
+        calls.extend(around(2, &rows));
+    }
+    calls
+}
+
 /// A formula's text with rooms around its length.
 fn around(p: u32, rows: &Formula) -> Vec<Call> {
     let message = message::formula(rows).bytes;
@@ -241,6 +287,13 @@ pub fn tower(runs: Runs, bound: Bound, rows: usize) -> Formula {
     formula
 }
 
+/// Unary rows of an action, one on the other.
+pub fn tower_by(runs: Runs, action: u8, bound: Bound, rows: usize) -> Formula {
+    let mut formula = vec![Row::False];
+    formula.extend((0..rows - 1).map(|operand| Row::NextBy(runs, action, bound, operand)));
+    formula
+}
+
 /// Untils nested on the right or on the left: so many untils, and a leaf more.
 pub fn nested(runs: Runs, bound: Bound, untils: usize, on_the_right: bool) -> Formula {
     let mut formula = vec![Row::True];
@@ -265,6 +318,9 @@ fn large() -> Vec<Call> {
         tower(Runs::Some, most, 63),
         tower(Runs::All, None, 64),
         nested(Runs::All, most, 31, true),
+        // the longest text of all, 1,202 bytes
+        tower_by(Runs::Some, 255, most, 64),
+        tower_by(Runs::All, 0, None, 64),
     ] {
         calls.push(Call::formula(0, &message::formula(&rows).bytes));
         calls.extend(around(0, &rows));

@@ -18,6 +18,23 @@ pub fn weight(random: &mut Random) -> u32 {
     }
 }
 
+/// Few actions, so that a row's is met; those at the ends of a byte and of two; and those that differ
+/// from the few by a multiple of 256 only.
+pub fn action(random: &mut Random) -> u16 {
+    match random.below(12) {
+        0..=5 => random.below(3) as u16,
+        6..=7 => 256 + random.below(3) as u16,
+        8 => random.pick(&[254, 255, 256 + 255, 0xff00, 0xff01]),
+        9 => 65_535 - random.below(2) as u16,
+        _ => random.next() as u16,
+    }
+}
+
+/// An action for a row: the low byte of one.
+pub fn action_asked(random: &mut Random) -> u8 {
+    action(random) as u8
+}
+
 pub fn bound(random: &mut Random) -> Bound {
     match random.below(4) {
         0 => None,
@@ -159,6 +176,7 @@ fn transition(random: &mut Random, states: usize, from: usize, forward: bool) ->
     Transition {
         from,
         weight: weight(random),
+        action: action(random),
         to,
     }
 }
@@ -188,7 +206,7 @@ fn grow(random: &mut Random, propositions: u32, rows: usize, tree: &mut Vec<Row>
         leaf(random, propositions)
     } else if rows == 2 || random.once_in(4) {
         let operand = grow(random, propositions, rows - 1, tree);
-        Row::Next(runs(random), bound(random), operand)
+        unary(random, operand)
     } else {
         let first = random.between(1, rows - 2);
         let one = grow(random, propositions, first, tree);
@@ -207,6 +225,15 @@ fn leaf(random: &mut Random, propositions: u32) -> Row {
         (true, false) => Row::HasNot(random.below(propositions as usize)),
         (false, true) => Row::True,
         (false, false) => Row::False,
+    }
+}
+
+fn unary(random: &mut Random, operand: usize) -> Row {
+    let (runs, bound) = (runs(random), bound(random));
+    if random.once_in(2) {
+        Row::Next(runs, bound, operand)
+    } else {
+        Row::NextBy(runs, action_asked(random), bound, operand)
     }
 }
 
@@ -243,6 +270,9 @@ fn renamed(row: &Row, name: &dyn Fn(usize) -> usize) -> Row {
         Row::And(left, right) => Row::And(name(left), name(right)),
         Row::Or(left, right) => Row::Or(name(left), name(right)),
         Row::Next(runs, bound, operand) => Row::Next(runs, bound, name(operand)),
+        Row::NextBy(runs, action, bound, operand) => {
+            Row::NextBy(runs, action, bound, name(operand))
+        }
         Row::Until(runs, bound, left, right) => Row::Until(runs, bound, name(left), name(right)),
         ref leaf => leaf.clone(),
     }

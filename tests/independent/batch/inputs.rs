@@ -1,13 +1,13 @@
 //! Inputs of the program `otzarvim`: a model followed by a formula, and what is none. First the
 //! systematic part, then inputs made from a seed.
 
-use super::formulas::{self, nested, tower};
-use super::verdicts::{self, loops, passing, with_unary};
+use super::formulas::{self, nested, tower, tower_by};
+use super::verdicts::{self, loops, loops_of_action, passing, with_unary};
 use super::{generate, models, offsets, wild_inputs};
 use crate::build;
 use crate::bytes::{Formula, Model, Row, Runs};
 use crate::known::{self, model};
-use crate::message::{self, mend_length};
+use crate::message::{self, mend_length, STEP};
 use crate::program::{GRAPH_ROOM, MOST_INPUT};
 use crate::random::Random;
 use std::collections::BTreeSet;
@@ -49,13 +49,13 @@ pub fn joined(model: &Model, rows: &Formula) -> Vec<u8> {
     [message::model(model).bytes, message::formula(rows).bytes].concat()
 }
 
-/// T13's input: 45 bytes of model M and 31 of the formula.
+/// T13's input: 51 bytes of model M and 31 of the formula.
 pub fn t13() -> Vec<u8> {
     joined(&known::model_m(), &known::until(Runs::Some, Some(2)))
 }
 
 /// Where T13's formula starts.
-const T13_CUT: usize = 45;
+const T13_CUT: usize = 51;
 
 fn known_questions() -> Vec<Vec<u8>> {
     let ask = |known: &known::KnownQuestion| joined(&known::model_m(), &known.rows);
@@ -189,16 +189,17 @@ fn orders() -> Vec<Vec<u8>> {
     inputs
 }
 
-/// A question of so many bytes, a multiple of 4: one or two states with as many transitions as it
+/// A question of so many bytes, a multiple of 4: one to five states with as many transitions as it
 /// takes, and T13's formula.
 fn of_length(total: usize) -> Vec<u8> {
-    let states = if total % 8 == 0 { 1 } else { 2 };
-    let transitions = (total - 13 - 4 * states - 31) / 8;
+    let rest = total - 13 - 31;
+    let states = 1 + (rest / 4 + 4) % 5;
+    let transitions = (rest - 4 * states) / STEP;
     let step = |index: usize| {
         let from = index * states / transitions;
         (from, index as u32 % 7, (from + index) % states)
     };
-    let labels = &[1, 3][..states];
+    let labels = &[1, 3, 0, 2, 1][..states];
     let steps: Vec<(usize, u32, usize)> = (0..transitions).map(step).collect();
     let input = joined(
         &model(2, labels, &steps),
@@ -245,8 +246,13 @@ fn totals() -> Vec<Vec<u8>> {
 
 fn other_version(input: &[u8]) -> Vec<u8> {
     let mut bytes = input.to_vec();
-    bytes[4] = 2;
+    bytes[4] = 1;
     bytes
+}
+
+/// The most transitions of an input with so many states and rows.
+pub fn most_transitions(states: usize, rows: usize) -> usize {
+    (MOST_INPUT - 13 - 4 * states - 7 - 8 * rows) / STEP
 }
 
 fn graph_length(model: &Model, rows: &Formula) -> usize {
@@ -274,18 +280,18 @@ pub fn around_room(model: &Model, rows: &Formula, runs: Runs) -> Option<[Formula
 /// and A until rows on one state with many loops; one of exactly 65,536 bytes; and of many states.
 fn graph_rooms() -> Vec<Vec<u8>> {
     let mut inputs = vec![];
-    let most = |rows: usize| (MOST_INPUT - 13 - 4 - 7 - 8 * rows) / 8;
+    let most = |rows: usize| most_transitions(1, rows);
     // below the top: all loops pass, so that the top decides
     let mut below: Vec<(&str, Formula)> = vec![];
-    for rows in 6..=14 {
+    for rows in 6..=16 {
         below.push(("EX", tower(Runs::Some, None, rows)));
         below.push(("AX", tower(Runs::All, None, rows)));
     }
-    for untils in 3..=10 {
+    for untils in 3..=14 {
         below.push(("EU", nested(Runs::Some, Some(5), untils, true)));
         below.push(("AU", nested(Runs::All, Some(5), untils, false)));
     }
-    below.push(("mixed", with_unary(3, 2)));
+    below.push(("mixed", with_unary(4, 2)));
     let mut met = BTreeSet::new();
     for (kind, rows) in below {
         let loops = loops(most(rows.len() + 1));
@@ -297,13 +303,16 @@ fn graph_rooms() -> Vec<Vec<u8>> {
         }
     }
     assert_eq!(met.len(), 5, "a kind of row that never meets the room");
-    // 14 + 4 · 14 + 6 · 10,911 is 65,536; one target more, one less
-    for last in [926, 927, 928] {
-        let rows = passing(Runs::All, &[vec![832; 12], vec![last]].concat());
-        inputs.push(joined(&loops(1_007), &rows));
+    // 14 + 4 · 17 + 6 · 10,909 is 65,536; one target more, one less
+    for last in [408, 409, 410] {
+        let rows = passing(Runs::All, &[vec![700; 15], vec![last]].concat());
+        inputs.push(joined(&loops(803), &rows));
+        let mut rows = passing(Runs::All, &[700; 15]);
+        rows.push(Row::NextBy(Runs::All, 1, None, rows.len() - 1));
+        inputs.push(joined(&loops_of_action(803, 1, last), &rows));
     }
-    let exact = passing(Runs::All, &[vec![832; 12], vec![927]].concat());
-    assert_eq!(graph_length(&loops(1_007), &exact), GRAPH_ROOM);
+    let exact = passing(Runs::All, &[vec![700; 15], vec![409]].concat());
+    assert_eq!(graph_length(&loops(803), &exact), GRAPH_ROOM);
     // many states: n is far below its limit
     for (states, transitions) in [
         (40, 60),
@@ -340,7 +349,7 @@ fn sizes() -> Vec<Vec<u8>> {
         (43, nested(Runs::All, Some(1), 31, true)),
         (44, nested(Runs::All, Some(1), 31, true)),
     ] {
-        let most = (MOST_INPUT - 20 - 4 * states - 8 * rows.len()) / 8;
+        let most = most_transitions(states, rows.len());
         for transitions in [states, 2 * states, most] {
             inputs.push(joined(&models::full(states, transitions.min(most)), &rows));
         }
@@ -435,10 +444,14 @@ fn long_texts() -> Vec<Vec<u8>> {
             }
         }
     }
-    // the longest text of all, 950 bytes
+    // the longest text without an action, 950 bytes, and the longest of all, 1,202 bytes
     let mut longest = tower(Runs::Some, most, 64);
     longest[0] = Row::False;
     inputs.push(joined(&p31, &longest));
+    for runs in [Runs::Some, Runs::All] {
+        inputs.push(joined(&p31, &tower_by(runs, 255, most, 64)));
+        inputs.push(joined(&p31, &tower_by(runs, 0, None, 64)));
+    }
     let mut random = Random::new(64);
     for size in [62, 63, 64, 64, 64, 64] {
         inputs.push(joined(&p31, &generate::formula(&mut random, 32, size)));

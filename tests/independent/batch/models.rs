@@ -1,10 +1,10 @@
 //! The systematic part for model messages: M.
 
 use super::sweep;
-use crate::answer::Call;
+use crate::answer::{Call, MOST_BYTES};
 use crate::bytes::{self, Model};
-use crate::known::{self, model};
-use crate::message::{self, Message};
+use crate::known::{self, acting, model, Step};
+use crate::message::{self, Message, STEP};
 
 pub fn calls() -> Vec<Call> {
     let parts = [
@@ -12,6 +12,8 @@ pub fn calls() -> Vec<Call> {
         labels(),
         dead_states(),
         faulty_and_dead(),
+        actions(),
+        old_versions(),
         large(),
     ];
     let messages: Vec<Vec<u8>> = parts.into_iter().flatten().collect();
@@ -23,8 +25,14 @@ pub fn calls() -> Vec<Call> {
 
 /// A model with a state of several transitions and two propositions.
 pub fn base() -> Message {
-    let steps = [(0, 3, 0), (0, 2, 1), (1, 0, 2), (2, 1, 1), (2, 1, 1)];
-    message::model(&model(2, &[1, 3, 2], &steps))
+    let steps = [
+        (0, 3, 7, 0),
+        (0, 2, 263, 1),
+        (1, 0, 65_535, 2),
+        (2, 1, 255, 1),
+        (2, 1, 255, 1),
+    ];
+    message::model(&acting(2, &[1, 3, 2], &steps))
 }
 
 pub fn field_changes() -> Vec<Vec<u8>> {
@@ -99,14 +107,57 @@ fn faulty_and_dead() -> Vec<Vec<u8>> {
     parts.concat()
 }
 
+/// Actions at which a wrong reading or a wrong comparison shows: the ends of a byte and of two, single
+/// bits, and numbers that are alike in their low or in their high byte.
+pub const ACTIONS: [u16; 16] = [
+    0, 1, 2, 127, 128, 254, 255, 256, 257, 511, 512, 768, 32_768, 65_280, 65_281, 65_535,
+];
+
+/// Of an action nothing is demanded: each is taken, at the first transition and at the last, where no
+/// state but the first has a transition, so that an action read as a state would be refused.
+pub fn actions() -> Vec<Vec<u8>> {
+    let with = |first: u16, last: u16| {
+        let steps = [(0, 1, first, 0), (0, 2, last, 0)];
+        message::model(&acting(1, &[1], &steps)).bytes
+    };
+    let mut messages: Vec<Vec<u8>> = ACTIONS.iter().map(|action| with(*action, 0)).collect();
+    messages.extend(ACTIONS.iter().map(|action| with(65_535, *action)));
+    messages
+}
+
+/// "Version 1 is refused with VERSION": models as they were written before, the same with version 2,
+/// and new ones with version 1.
+pub fn old_versions() -> Vec<Vec<u8>> {
+    let mut messages = vec![];
+    for model in [known::model_m(), full(3, 5), full(2, 4), full(3, 0)] {
+        let (new, old) = (message::model(&model), message::old_model(&model));
+        let version = new.fields[1];
+        messages.push(new.with(version, 1));
+        let mut renamed = old.clone();
+        message::set(&mut renamed, version, 2);
+        messages.extend([old, renamed]);
+    }
+    messages
+}
+
 /// So many states, and transitions from each in turn until there are so many.
 pub fn full(states: usize, transitions: usize) -> Model {
     let step = |index: usize| {
         let from = index * states / transitions;
-        (from, index as u32 % 5, (from + 1 + index % 3) % states)
+        let (weight, action) = (index as u32 % 5, index as u16 % 3 * 128);
+        (from, weight, action, (from + 1 + index % 3) % states)
     };
     let labels: Vec<u32> = (0..states as u32).map(|state| state % 4).collect();
-    model(2, &labels, &(0..transitions).map(step).collect::<Vec<_>>())
+    acting(
+        2,
+        &labels,
+        &(0..transitions).map(step).collect::<Vec<Step>>(),
+    )
+}
+
+/// The most transitions that so many states can have in 65,536 bytes.
+pub fn most_transitions(states: usize) -> usize {
+    (MOST_BYTES - 13 - 4 * states) / STEP
 }
 
 /// Models at the limits of the table, as far as 65,536 bytes can hold them.
@@ -125,7 +176,7 @@ fn large() -> Vec<Vec<u8>> {
         written(last_dead),
         written(full(256, 0)),
         written(full(257, 0)),
-        written(full(256, 8_062)),
+        written(full(256, most_transitions(256))),
         vec![0; 65_536],
     ]
 }

@@ -29,7 +29,7 @@ fn unused_fields() -> Vec<Call> {
     let rows = vec![Row::Has(0), Row::Has(1), Row::And(0, 1)];
     let formula = message::formula(&rows);
     let last: Vec<Field> = formula.fields[formula.fields.len() - 5..].to_vec();
-    for operator in 0..=10 {
+    for operator in 0..=12 {
         for choice in 0..16 {
             let mut bytes = formula.with(last[0], operator);
             for (bit, field) in last[1..].iter().enumerate() {
@@ -122,7 +122,7 @@ fn long_formula() -> Vec<Call> {
 /// The last name of the longest graph and of the longest model.
 fn longest() -> Vec<Call> {
     let graph = message::graph(&graphs::full());
-    let model = message::model(&models::full(256, 8_062));
+    let model = message::model(&models::full(256, models::most_transitions(256)));
     let last = |message: &Message| {
         let field = *message.fields.last().expect("a field");
         message.with(field, u32::MAX)

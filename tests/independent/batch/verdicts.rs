@@ -8,7 +8,7 @@ use super::sweep;
 use crate::answer::{Call, MOST_BYTES, MOST_VALUES};
 use crate::build;
 use crate::bytes::{self, bound_of, Bound, Formula, Model, Row, Runs};
-use crate::known::{self, model};
+use crate::known::{self, acting, model};
 use crate::message;
 use crate::refusal::RULES;
 use crate::rounds;
@@ -19,6 +19,8 @@ pub fn calls() -> Vec<Call> {
         known_questions(),
         operators(),
         dead_ends(),
+        each_action(),
+        operators_of_actions(),
         extremes(),
         refusals(),
         two_messages(),
@@ -205,6 +207,64 @@ fn over_leaves() -> Vec<Formula> {
     formulas
 }
 
+/// Request 7: each action of a transition beside each of a row, so that only those that are the same
+/// number meet; on a state with that transition alone, and with others around it.
+fn each_action() -> Vec<Call> {
+    let mut calls = vec![];
+    for action in models::ACTIONS {
+        let alone = acting(1, &[1, 0], &[(0, 2, action, 1)]);
+        let steps = [
+            (0, 2, 3, 0),
+            (0, 2, action, 1),
+            (0, 3, action, 0),
+            (1, 0, 3, 0),
+        ];
+        let among = acting(1, &[1, 0], &steps);
+        for asked in [0, 1, 2, 127, 128, 254, 255] {
+            let by = |runs, bound| vec![Row::HasNot(0), Row::NextBy(runs, asked, bound, 0)];
+            calls.push(asked_of(&alone, &by(Runs::Some, Some(2)), 0));
+            calls.push(asked_of(&among, &by(Runs::All, None), 0));
+        }
+    }
+    calls
+}
+
+/// The two models with actions, some of which are alike in their low byte.
+fn acting_models() -> [Model; 2] {
+    let actions = [7, 263, 0, 7, 256, 255, 65_535, 1];
+    two_models().map(|mut model| {
+        for (step, action) in model.transitions.iter_mut().zip(actions) {
+            step.action = action;
+        }
+        model
+    })
+}
+
+/// EX and AX of an action over every leaf, with bounds on both sides of the weights; and what asks for
+/// no action on the same models.
+fn operators_of_actions() -> Vec<Call> {
+    let leaves = [Row::True, Row::False, Row::Has(0), Row::HasNot(1)];
+    let mut calls = vec![];
+    for (index, leaf) in leaves.iter().enumerate() {
+        for bound in [Some(0), Some(1), Some(2), None] {
+            for runs in [Runs::Some, Runs::All] {
+                for (state, action) in [0, 1, 7, 255].into_iter().enumerate() {
+                    let rows = vec![leaf.clone(), Row::NextBy(runs, action, bound, 0)];
+                    let ask = |model: &Model| asked_of(model, &rows, (index + state) % 5);
+                    calls.extend(acting_models().iter().map(ask));
+                }
+            }
+        }
+    }
+    let formulas = over_leaves();
+    let some = formulas.iter().enumerate().step_by(7);
+    let ask = |(index, rows): (usize, &Formula)| {
+        acting_models().map(|model| asked_of(&model, rows, index % 5))
+    };
+    calls.extend(some.flat_map(ask));
+    calls
+}
+
 /// Request 1: "at such a state EX is false, AX is true, E until and A until hold exactly when right
 /// holds". The same formulas where runs end; walks of two steps to an end, and to one that right
 /// doesn't hold at; a fork of which one way ends and the other is endless; and single states.
@@ -285,7 +345,12 @@ fn refusals() -> Vec<Call> {
     for changed in model_changes() {
         calls.push(asked(&changed, &formula, 1));
     }
-    for changed in [models::labels(), models::dead_states()].concat() {
+    let taken = [
+        models::labels(),
+        models::dead_states(),
+        models::old_versions(),
+    ];
+    for changed in taken.concat() {
         calls.push(asked(&changed, &truth, 0));
     }
     for changed in formula_changes() {
@@ -403,12 +468,12 @@ fn with_faults(has: impl Fn(u32) -> bool) -> Call {
     };
     let question = Question {
         model: &if has(0) {
-            damaged(&model, 1, 2)
+            damaged(&model, 1, 1)
         } else {
             model.bytes.clone()
         },
         formula: &if has(1) {
-            damaged(&formula, 4, 10)
+            damaged(&formula, 4, 12)
         } else {
             formula.bytes.clone()
         },
@@ -499,22 +564,21 @@ fn sizes() -> Vec<Call> {
             &passing(Runs::All, &counts),
         ));
     }
-    // targets with A untils: 25 · (2 + 6,898) + 12 · 6,898 + 6,868 and one more
-    for last in [6_868, 6_869] {
-        let mut rows = nested(Runs::All, None, 25, false);
-        for count in [vec![6_898; 12], vec![last]].concat() {
+    // targets with A untils: 22 · (2 + 6,500) + 18 · 6,500 + 2,100 and one more
+    for last in [2_100, 2_101] {
+        let mut rows = nested(Runs::All, None, 22, false);
+        for count in [vec![6_500; 18], vec![last]].concat() {
             rows.push(Row::Next(Runs::All, Some(count as u32 - 1), rows.len() - 1));
         }
-        calls.push(asked_in_full_rooms(&loops(6_898), &rows));
+        calls.push(asked_in_full_rooms(&loops(6_500), &rows));
     }
     calls.extend(sizes_with_a_dead_state());
+    calls.extend(sizes_by_action());
     // far past h and targets, with the most transitions of one state that a message can hold
+    let most = loops(models::most_transitions(1));
     for runs in [Runs::Some, Runs::All] {
-        calls.push(asked_in_full_rooms(&loops(8_189), &tower(runs, None, 64)));
-        calls.push(asked_in_full_rooms(
-            &loops(8_189),
-            &nested(runs, None, 31, true),
-        ));
+        calls.push(asked_in_full_rooms(&most, &tower(runs, None, 64)));
+        calls.push(asked_in_full_rooms(&most, &nested(runs, None, 31, true)));
     }
     // the longest graph in the largest room: 14 + 5 · 4 + 6 · 10,917 is 65,536; one target more
     for last in [2_727, 2_728] {
@@ -546,6 +610,31 @@ fn sizes_with_a_dead_state() -> Vec<Call> {
         }
     }
     calls
+}
+
+/// The same limits where the last row sees only transitions of its action: the graph that skips no
+/// others would pass them. Of 62 rows that see all and one that sees so many, h is 1 + 1,041 · 62 + 992
+/// and one more; targets are 4,162 · 62 + 4,100 and one more.
+fn sizes_by_action() -> Vec<Call> {
+    let mut calls = vec![];
+    for (runs, transitions, seen) in [(Runs::Some, 1_041, 992), (Runs::All, 4_162, 4_100)] {
+        for seen in [seen, seen + 1] {
+            let mut rows = passing(runs, &[transitions; 62]);
+            rows.push(Row::NextBy(runs, 1, None, rows.len() - 1));
+            let with_actions = loops_of_action(transitions, 1, seen);
+            calls.push(asked_in_full_rooms(&with_actions, &rows));
+        }
+    }
+    calls
+}
+
+/// The loops, the first so many of an action, the others of one that has the same low byte.
+pub fn loops_of_action(transitions: usize, action: u16, seen: usize) -> Model {
+    let mut model = loops(transitions);
+    for (index, step) in model.transitions.iter_mut().enumerate() {
+        step.action = if index < seen { action } else { action + 256 };
+    }
+    model
 }
 
 /// So many nested untils with so many unary rows on top.

@@ -137,7 +137,7 @@ fn in_fields(random: &mut Random, message: &Message) -> Vec<u8> {
             .value(field)
             .wrapping_add(random.below(7) as u32)
             .wrapping_sub(3);
-        let small = random.below(12) as u32;
+        let small = random.below(14) as u32;
         let number = random.pick(&[
             near,
             near,
@@ -167,7 +167,11 @@ fn graph_call(random: &mut Random) -> Call {
     Call::graph(&checked(random, &message))
 }
 
+/// A model; now and then as it was written before it had actions.
 fn model_call(random: &mut Random) -> Call {
+    if random.once_in(25) {
+        return Call::model(&message::old_model(&generate::model(random, 7)));
+    }
     let large = large(random);
     let message = model(random, large);
     Call::model(&checked(random, &message))

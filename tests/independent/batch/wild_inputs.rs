@@ -1,10 +1,9 @@
 //! Inputs of the program from a seed.
 
 use super::generate;
-use super::inputs::{around_room, joined};
+use super::inputs::{around_room, joined, most_transitions};
 use super::wild;
 use crate::bytes::{Model, Row};
-use crate::program::MOST_INPUT;
 use crate::random::Random;
 
 /// Mostly a small question whose messages are damaged now and then; sometimes a large one, or one
@@ -35,7 +34,7 @@ fn small(random: &mut Random) -> Vec<u8> {
 fn large(random: &mut Random) -> Vec<u8> {
     let states = random.pick(&[1, 2, 5, 20, 60, 100, 150, 200, 250, 255, 256]);
     let rows = random.between(1, (4_096 / states).min(64));
-    let most = (MOST_INPUT - 20 - 4 * states - 8 * rows) / 8;
+    let most = most_transitions(states, rows);
     let transitions = match random.below(8) {
         0 => most,
         1 => most + 1,
@@ -75,7 +74,7 @@ fn stretch(random: &mut Random, model: &mut Model) {
 fn crowded(random: &mut Random) -> Vec<u8> {
     let states = random.between(1, 12);
     let size = random.between(8, 26);
-    let most = (MOST_INPUT - 20 - 4 * states - 8 * size) / 8;
+    let most = most_transitions(states, size);
     let transitions = random.between(most / 2, most);
     let mut model = generate::crowd(random, states, transitions);
     for step in &mut model.transitions {

@@ -1,16 +1,19 @@
-// The text of formulas, read into rows: { operator, left, right, bound }, operands before what uses them.
+// The text of formulas, read into rows: { operator, left, right, bound }, operands before what uses them. Of EX and AX with an action
+// right is the action.
 import { BLANK, FORMULA_WORDS, Mistake, wrongNumber } from "./names.mjs";
 
 const NO_BOUND = 4294967295;
 const LARGEST_BOUND = NO_BOUND - 1;
 const DEEPEST = 255; // a row's number is one byte, so nothing deeper can be written
 const TOKEN = /[0-9]+|[A-Za-z_][A-Za-z0-9_]*|<=|[()[\]&|!]/y;
+const ACTED = /#[A-Za-z0-9_]+/y;
 const SPACE = new RegExp(`[${BLANK}]`);
 const COMMENT = new RegExp(`^[${BLANK}]*#`);
 const NAME = /^[A-Za-z_]/;
 
 // Signs from elsewhere, and how they are written here.
 const SIGNS = new Map([
+    ["#", "an action stands at once behind EX or AX, as EX#compile; a comment has a line of its own"],
     ...[..."<>=≤"].map((sign) => [sign, "a bound is written <=3"]),
     ...[..."¬~"].map((sign) => [sign, "a negation is written !idle"]),
     ["∧", "written (x & y)"],
@@ -18,7 +21,12 @@ const SIGNS = new Map([
     ...["->", "→", "⇒"].map((sign) => [sign, "x -> y is written (!x | y), where x is a proposition"]),
 ]);
 
-export const OPERATORS = { TRUE: 0, FALSE: 1, PROPOSITION: 2, NOT_PROPOSITION: 3, AND: 4, OR: 5, EX: 6, AX: 7, E_UNTIL: 8, A_UNTIL: 9 };
+export const OPERATORS = { TRUE: 0, FALSE: 1, PROPOSITION: 2, NOT_PROPOSITION: 3, AND: 4, OR: 5, EX: 6, AX: 7, E_UNTIL: 8, A_UNTIL: 9, EX_ACTION: 10, AX_ACTION: 11 };
+
+const isNext = (word) => word === "EX" || word === "AX";
+
+/** Whether the last word is EX or AX and ends right there. */
+const behindNext = (last, line, at) => last !== undefined && isNext(last.word) && last.line === line && last.column === at - 1;
 
 function tokens(text, path) {
     const found = [];
@@ -30,8 +38,9 @@ function tokens(text, path) {
                 at++;
                 continue;
             }
-            TOKEN.lastIndex = at;
-            const match = TOKEN.exec(line);
+            const pattern = line[at] === "#" && behindNext(found.at(-1), i + 1, at) ? ACTED : TOKEN;
+            pattern.lastIndex = at;
+            const match = pattern.exec(line);
             if (!match) {
                 const sign = line.startsWith("->", at) ? "->" : String.fromCodePoint(line.codePointAt(at));
                 const more = SIGNS.has(sign) ? ` (${SIGNS.get(sign)})` : "";
@@ -52,11 +61,12 @@ const instead = (token) => (token.word ? `not '${token.word}'` : "and the text e
 const joins = (token) => token.word === "&" || token.word === "|";
 
 class Parser {
-    constructor(text, path, numberOf) {
+    constructor(text, path, numberOf, actionOf) {
         this.path = path;
         this.tokens = tokens(text, path);
         this.at = 0;
         this.numberOf = numberOf;
+        this.actionOf = actionOf;
         this.rows = [];
     }
 
@@ -85,6 +95,13 @@ class Parser {
         return Number(token.word);
     }
 
+    /** The action behind EX or AX; null where none is written. */
+    action() {
+        if (!this.tokens[this.at].word.startsWith("#")) return null;
+        const { word, line, column } = this.next();
+        return this.actionOf(word.slice(1), (said) => this.fail({ line, column: column + 1 }, said));
+    }
+
     row(operator, left = 0, right = 0, bound = 0) {
         return this.rows.push({ operator: OPERATORS[operator], left, right, bound }) - 1;
     }
@@ -101,9 +118,10 @@ class Parser {
         if (word === "true" || word === "false") return this.row(word.toUpperCase());
         if (word === "!") return this.negation();
         if (word === "(") return this.both(depth);
-        if (word === "EX" || word === "AX") {
+        if (isNext(word)) {
+            const action = this.action();
             const bound = this.bound();
-            return this.row(word, this.formula(depth + 1), 0, bound);
+            return this.row(action === null ? word : `${word}_ACTION`, this.formula(depth + 1), action ?? 0, bound);
         }
         if (word === "E" || word === "A") return this.until(word, depth);
         if (NAME.test(word) && word !== "U") return this.proposition("PROPOSITION", token);
@@ -140,9 +158,12 @@ class Parser {
     }
 }
 
-/** Reads a formula; `numberOf(word, fail)` gives the proposition that a word means. The first mistake is thrown with its place. */
-export function readFormula(text, path, numberOf) {
-    const parser = new Parser(text, path, numberOf);
+/**
+ * Reads a formula; `numberOf(word, fail)` gives the proposition that a word means, `actionOf(word, fail)` the action. The first mistake is
+ * thrown with its place.
+ */
+export function readFormula(text, path, numberOf, actionOf) {
+    const parser = new Parser(text, path, numberOf, actionOf);
     parser.formula();
     const token = parser.next();
     if (joins(token)) parser.fail(token, brackets(token.word));

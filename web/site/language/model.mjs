@@ -1,11 +1,16 @@
-// The text of models, read: states, propositions, labels and transitions by number, with their names.
-import { BLANK, Mistake, hint, strip, words, wrongName, wrongNumber, wrongPropositionName, wrongStateName } from "./names.mjs";
+// The text of models, read: states, propositions, labels, transitions and actions by number, with their names.
+import { ACTION, BLANK, Mistake, byDigits, hint, strip, words, wrongName, wrongNumber, wrongPropositionName, wrongStateName } from "./names.mjs";
 
 const LARGEST_WEIGHT = 4294967295;
+const LARGEST_ACTION = 65535;
 const STATE = new RegExp(`^(?:state[${BLANK}]+)?([^${BLANK}:]+)[${BLANK}]*(?::([^\\n]*))?$`);
 
 // A name of its own is expected behind the word, so that a state may be called expect or question.
 const ASKED = new RegExp(`^(question|expect)[${BLANK}]+(?!->)([^:]*?)[${BLANK}]*:([^\\n]*)$`);
+
+// What stands before a # that is no comment's, if a name or a number follows it at once.
+const WEIGHED = new RegExp(`^[^#]*->[${BLANK}]*[^${BLANK}#]+[${BLANK}]+[^${BLANK}#]+[${BLANK}]*(#[^]*)?$`);
+const NEXT = /(?<![A-Za-z0-9_])[EA]X$/;
 
 class Reader {
     constructor(path) {
@@ -13,7 +18,8 @@ class Reader {
         this.states = [];
         this.propositions = [];
         this.labels = []; // a set for each state
-        this.transitions = []; // { source, weight, target, line }
+        this.transitions = []; // { source, weight, target, action }
+        this.acting = []; // each transition whose action has a name, that name, its line
         this.numbers = new Map(); // of the states
         this.known = new Map(); // of the propositions
         this.declared = false; // a propositions line stood above
@@ -93,7 +99,8 @@ class Reader {
     transitionLine(text, line) {
         const at = text.indexOf("->");
         const left = strip(text.slice(0, at));
-        const right = words(text.slice(at + 2));
+        const sign = text.indexOf("#", at);
+        const right = words(text.slice(at + 2, sign < 0 ? undefined : sign));
         if (!left || right.length !== 2) {
             this.fail(line, `not a transition: '${text}'${left && right.length === 1 ? " (its weight is missing)" : ""} (as: cold -> hot 12)`);
         }
@@ -101,7 +108,37 @@ class Reader {
         const target = this.state(right[0], line);
         const wrong = wrongNumber(right[1], "weight", LARGEST_WEIGHT);
         if (wrong) this.fail(line, wrong);
-        this.transitions.push({ source, weight: Number(right[1]), target });
+        const action = sign < 0 ? 0 : this.action(strip(text.slice(sign + 1)), text, line);
+        this.transitions.push({ source, weight: Number(right[1]), target, action });
+    }
+
+    /** The number of an action; 0 for now where it has a name. */
+    action(word, text, line) {
+        if (ACTION.exec(word)?.[0] !== word) {
+            this.fail(line, `not a transition: '${text}' (one action can stand behind the weight, as: cold -> hot 12 #compile; a comment has a blank behind its #)`);
+        }
+        const wrong = byDigits(word) ? wrongNumber(word, "action", LARGEST_ACTION) : wrongName(word, "an action");
+        if (wrong) this.fail(line, wrong);
+        if (byDigits(word)) return Number(word);
+        this.acting.push([this.transitions.length, word, line]);
+        return 0;
+    }
+
+    /** Names are numbered from 1, as they are first mentioned; numbers that the text gives by themselves are passed over. */
+    numberActions() {
+        const given = new Set(this.transitions.map(({ action }) => action));
+        const numbers = new Map();
+        let last = 0;
+        for (const [at, name, line] of this.acting) {
+            if (!numbers.has(name)) {
+                do last++;
+                while (given.has(last));
+                numbers.set(name, last);
+            }
+            if (numbers.get(name) > LARGEST_ACTION) this.fail(line, `the action ${name} would have the number ${numbers.get(name)}: at most ${LARGEST_ACTION}`);
+            this.transitions[at].action = numbers.get(name);
+        }
+        return new Map([...numbers].map(([name, number]) => [number, name]));
     }
 
     /** A question or an expectation, for `otz check`. What it names may stand below it, so it is looked at in the end. */
@@ -143,6 +180,7 @@ class Reader {
     /** A state's name holds in that state alone, so labels that say otherwise are mistakes. */
     end() {
         const { states, propositions, labels, transitions } = this;
+        const actions = this.numberActions(); // the names by their numbers
         for (const [state, number, line] of this.labelLines) {
             const name = propositions[number];
             if (this.numbers.has(name) && name !== states[state]) {
@@ -158,16 +196,31 @@ class Reader {
             }
         }
         for (const [named, line] of this.expected) this.expectation(named, line);
-        return { states, propositions, labels, transitions };
+        return { states, propositions, labels, transitions, actions };
     }
 }
+
+/**
+ * A line without its comment. A # starts one, but where a name or a number follows it at once behind a transition's weight, or between
+ * EX or AX and that name or number.
+ */
+export function content(line) {
+    for (const { index } of line.matchAll(/#/g)) {
+        const before = line.slice(0, index);
+        if (!ACTION.test(line.slice(index + 1)) || !(WEIGHED.test(before) || NEXT.test(before))) return before;
+    }
+    return line;
+}
+
+/** A transition's action as it stands behind the weight, ' #compile'; empty for none. */
+export const by = ({ actions }, { action }) => (action ? ` #${actions.get(action) ?? action}` : "");
 
 /** Reads the text of a model; the first mistake is thrown with its line. */
 export function readModel(text, path) {
     const reader = new Reader(path);
     text.split("\n").forEach((whole, i) => {
-        const content = strip(whole.split("#", 1)[0]);
-        if (content) reader.line(content, i + 1);
+        const found = strip(content(whole));
+        if (found) reader.line(found, i + 1);
     });
     return reader.end();
 }

@@ -17,6 +17,8 @@ export const strip = (text) => text.replace(ENDS, "");
 export const words = (text) => strip(text).split(BLANKS).filter((word) => word);
 export const grouped = (number) => String(number).replace(/\B(?=(\d{3})+$)/g, ",");
 
+export const ACTION = /^[A-Za-z0-9_]+/; // what stands behind # where it is no comment's
+export const byDigits = (word) => /^[0-9]/.test(word);
 const WORD = /^[A-Za-z_][A-Za-z0-9_]*$/;
 const LIKE_BY_NUMBER = /^p[0-9]+$/;
 export const FORMULA_WORDS = ["true", "false", "E", "A", "U", "EX", "AX"];

@@ -1,8 +1,9 @@
 // A model and a formula over its names, read together and made into messages.
-import { Mistake, byNumber, grouped, hint } from "./names.mjs";
+import { Mistake, byDigits, byNumber, grouped, hint, wrongNumber } from "./names.mjs";
 import { readModel } from "./model.mjs";
 import { readFormula } from "./formula.mjs";
 
+const LARGEST_ASKED = 255; // the largest action that a row can ask for
 const LIMITS = { states: [1, 256], propositions: [0, 32], transitions: [0, 65535], rows: [1, 64] };
 
 // What people from other checkers write, and how it is said here.
@@ -45,6 +46,20 @@ class Names {
         const more = ELSEWHERE.has(word) ? ` (${ELSEWHERE.get(word)})` : hint(word, ["true", "false", ...names], names);
         return fail(`no proposition or state has the name ${word}${more}`);
     }
+
+    /** The number of the action that a word behind EX# or AX# means. */
+    action(word, fail) {
+        if (byDigits(word)) {
+            const wrong = wrongNumber(word, "action", LARGEST_ASKED);
+            return wrong ? fail(wrong) : Number(word);
+        }
+        const numbers = new Map([...this.model.actions].map(([number, name]) => [name, number]));
+        const names = [...numbers.keys()];
+        if (!numbers.has(word)) fail(`no transition has the action ${word}${hint(word, names, names)}`);
+        const number = numbers.get(word);
+        if (number > LARGEST_ASKED) fail(`the action ${word} has the number ${number}, and a formula can ask for 0 to ${LARGEST_ASKED} only (mention it earlier in the model)`);
+        return number;
+    }
 }
 
 function* outside(path, what, count, more = "") {
@@ -77,11 +92,11 @@ class Message {
 }
 
 function modelMessage({ states, propositions, labels, transitions }) {
-    const message = new Message(13 + 4 * states.length + 8 * transitions.length);
-    message.put([4, 1, 1, 2, 1, 4], [message.bytes.length, 1, 2, states.length, propositions.length, transitions.length]);
+    const message = new Message(13 + 4 * states.length + 10 * transitions.length);
+    message.put([4, 1, 1, 2, 1, 4], [message.bytes.length, 2, 2, states.length, propositions.length, transitions.length]);
     for (const label of labels) message.put([4], [[...label].reduce((bits, i) => bits | (1 << i), 0)]);
     const sorted = [...transitions].sort((a, b) => a.source - b.source); // keeps the file's order within a state
-    for (const { source, weight, target } of sorted) message.put([2, 4, 2], [source, weight, target]);
+    for (const { source, weight, action, target } of sorted) message.put([2, 4, 2, 2], [source, weight, action, target]);
     return message.bytes;
 }
 
@@ -101,7 +116,7 @@ export function compileQuestion(modelText, formulaText) {
     try {
         found.model = readModel(modelText, "model");
         const names = new Names(found.model);
-        const rows = readFormula(formulaText, "formula", (word, fail) => names.number(word, fail));
+        const rows = readFormula(formulaText, "formula", (word, fail) => names.number(word, fail), (word, fail) => names.action(word, fail));
         found.mistakes = [...limits(names.model, names.own, rows)];
         if (!found.mistakes.length) {
             found.propositions = names.model.propositions;

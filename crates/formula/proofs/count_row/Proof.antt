@@ -19,7 +19,7 @@ no-operands c =
     (⊎-elim (λ e. rw (lives-at enum row 1 e .1)) (⊎-elim (λ e. rw (lives-at enum row 2 e .1)) (λ e. rw (lives-at enum row 3 e .1))))
     (c .match .keys1)
 
-one-operand : (c : tie.After-row) → operands (c .before .before .before .args .row) ≡ c .row .given .0 .1 .0 ∷ []
+one-operand : (c : tie.After-row) → operands (c .before .before .before .args .row) ≡ c .row .given .0 .1 .1 .0 ∷ []
 one-operand c = rw (c .row .given .1)
 
 both-operands : (c : tie.At-match-came) → operands (c .before .before .args .row) ≡ c .match .l ∷ c .match .r ∷ []
@@ -33,7 +33,7 @@ count-use-requires : tie.Need-count-use-requires
 count-use-requires c κs =
     let row = c .before .before in
     let pre = row .before .before .before .pre in
-    let l = row .row .given .0 .1 .0 in
+    let l = row .row .given .0 .1 .1 .0 in
     (pre .0 l (rw (one-operand row) (List·Memᴰ·head refl)), omega (arith, pre .1 l))
 
 enum-known-row-2 : tie.Need-enum-known-row-2

@@ -1,4 +1,4 @@
--- `formula::read_kind` meets its contract: the fields of each kind of operator, and above 9 there is no operator.
+-- `formula::read_kind` meets its contract: the fields of each kind of operator, and above 11 there is no operator.
 use Prim.Native.Nat.{_≤_}
 use mathlib.Core.Path.{_≡_, sym, ap, _∙_}
 use native.Mathlib.Omega.{arith}
@@ -13,7 +13,7 @@ use Rattle.formula.proofs.read_kind.Statement.{statement}
 use Rattle.formula.proofs.read_kind.Tie as tie
 
 -- a known operator's row is its fields
-known : (c : tie.Start) → let a = c .args in a .operator ≤ 9
+known : (c : tie.Start) → let a = c .args in a .operator ≤ 11
     → judged (fieldsFrom (now (a .row)) 0 (a .offset) (a .p) (a .place) (a .operator)) ≡ judged (rowFrom (now (a .row)) 0 (a .offset) (a .p) (a .place))
 known c h = ap judged (sym (row-known _ 0 _ _ _ (c .pre .1) h))
 
@@ -47,9 +47,15 @@ read-until-requires c κs = search needs
 returns-5 : tie.Need-returns-5
 returns-5 c = c .read-until .ensures _ ∙ known (c .before .before .before .before .before .before) (omega arith)
 
+read-acting-requires : tie.Need-read-acting-requires
+read-acting-requires c κs = search needs
+
 returns-6 : tie.Need-returns-6
+returns-6 c = c .read-acting .ensures _ ∙ known (c .before .before .before .before .before .before .before) (omega arith)
+
+returns-7 : tie.Need-returns-7
 unfolding rowFrom judged
-returns-6 c = simp (reading, c .before .before .before .before .before .pre .1, lt-leb _ 9 (c .if5 .left))
+returns-7 c = simp (reading, c .before .before .before .before .before .before .pre .1, lt-leb _ 11 (c .if6 .left))
 
 pub read-kind-spec : {M : Type 1} → statement M
 read-kind-spec =
@@ -65,4 +71,6 @@ read-kind-spec =
     returns-4
     read-until-requires
     returns-5
-    returns-6)
+    read-acting-requires
+    returns-6
+    returns-7)

@@ -4,8 +4,10 @@ use Prim.Native.Nat.{ℕ, _+_}
 use mathlib.Core.Bool.{true, false}
 use mathlib.Core.Path.{_≡_, _∙_}
 use native.Mathlib.Omega.{arith}
+use lib.Dec.{ltb}
 use denote.Ref.{now}
 use borrow.Author.Needs.{needs}
+use borrow.Author.Tests.{lt-ltb}
 use Rattle.lists.proofs.Tests.{by}
 use Rattle.wire.specs.Read.{Read, good, below, misnamed}
 use Rattle.wire.proofs.Reading.{reading, found-good, handed}
@@ -24,6 +26,10 @@ start c = c .before .before
 
 uses : (c : tie.After-unused) → Uses (start c .args .operator) true true false false
 uses c = pair-uses _ (start c .pre .1) (start c .pre .2)
+
+-- and right is an operand
+right-row : (c : tie.After-unused) → ltb (start c .args .operator) 10 ≡ true
+right-row c = let few = start c .pre .2 in lt-ltb (start c .args .operator) 10 (omega arith)
 
 -- where the fields that are not used are zero, the others are left
 names : (c : tie.After-enum-told) (p : ℕ) → let a = start (c .before .before) .args in
@@ -103,7 +109,7 @@ returns-3 c =
     let r = c .before .before .before in
     let k = r .before .before .before .before .before in
     let u = uses (k .before .before) in
-    λ p. rw (names k p) (simp (c .fault3 .ensures, u .of-left, u .of-right, u .names, reading, left-named (r .before), handed (right-read r) (r .named2 .ensures) (c .before .enum-told4 .given .1)))
+    λ p. rw (names k p) (simp (c .fault3 .ensures, u .of-left, u .of-right, u .names, right-row (k .before .before), reading, left-named (r .before), handed (right-read r) (r .named2 .ensures) (c .before .enum-told4 .given .1)))
 
 returns-4 : tie.Need-returns-4
 unfolding namesFrom operand judged rowOf

@@ -4,8 +4,10 @@ use Prim.Native.Nat.{ℕ, _+_}
 use mathlib.Core.Bool.{true, false}
 use mathlib.Core.Path.{_≡_, _∙_}
 use native.Mathlib.Omega.{arith}
+use lib.Dec.{ltb}
 use denote.Ref.{now}
 use borrow.Author.Needs.{needs}
+use borrow.Author.Tests.{lt-ltb}
 use Rattle.lists.proofs.Tests.{by}
 use Rattle.wire.specs.Read.{Read, good, below, misnamed, field}
 use Rattle.wire.proofs.Reading.{reading, found-good, handed, field-found}
@@ -13,7 +15,7 @@ use Rattle.formula.specs.Answers.{judged}
 use Rattle.formula.specs.Format.{leftAt, rightAt, boundAt}
 use Rattle.formula.specs.Rows.{rowOf}
 use Rattle.formula.specs.Message.{operand, fieldsFrom}
-use Rattle.formula.proofs.Using.{Uses, until-uses}
+use Rattle.formula.proofs.Using.{Uses, full-uses}
 use Rattle.formula.proofs.Spared.{namesFrom, fields-told}
 use Rattle.formula.proofs.read_until.Statement.{statement}
 use Rattle.formula.proofs.read_until.Tie as tie
@@ -23,7 +25,11 @@ abbrev start : tie.After-unused → tie.Start
 start c = c .before .before
 
 uses : (c : tie.After-unused) → Uses (start c .args .operator) true true true false
-uses c = until-uses _ (start c .pre .1)
+uses c = full-uses _ (omega (arith, start c .pre .1))
+
+-- and what right names
+right-names : (c : tie.After-unused) → ltb (start c .args .operator) 10 ≡ true
+right-names c = let known = start c .pre .2 in lt-ltb (start c .args .operator) 10 (omega arith)
 
 -- where the fields that are not used are zero, the others are left
 names : (c : tie.After-enum-told) (p : ℕ) → let a = start (c .before .before) .args in
@@ -109,7 +115,7 @@ returns-3 c =
     let r = c .before .before .before in
     let k = r .before .before .before .before .before in
     let u = uses (k .before .before) in
-    λ p. rw (names k p) (simp (c .fault3 .ensures, u .of-left, u .of-right, u .names, reading, left-named (r .before), handed (right-read r) (r .named2 .ensures) (c .before .enum-told4 .given .1)))
+    λ p. rw (names k p) (simp (c .fault3 .ensures, u .of-left, u .of-right, u .names, right-names (k .before .before), reading, left-named (r .before), handed (right-read r) (r .named2 .ensures) (c .before .enum-told4 .given .1)))
 
 read-requires : tie.Need-read-requires
 read-requires c κs = search needs
@@ -129,7 +135,7 @@ returns-4 c =
     let r = c .before .before .before in
     let k = r .before .before .before .before .before .before .before .before .before in
     let u = uses (k .before .before) in
-    λ p. rw (names k p) (simp (c .fault4 .ensures, u .of-left, u .of-right, u .names, reading, left-named (r .before .before .before .before .before), right-named (r .before), handed (bound-read r) (r .read .ensures ∙ field-found _) (c .before .enum-told5 .given .1)))
+    λ p. rw (names k p) (simp (c .fault4 .ensures, u .of-left, u .of-right, u .names, right-names (k .before .before), reading, left-named (r .before .before .before .before .before), right-named (r .before), handed (bound-read r) (r .read .ensures ∙ field-found _) (c .before .enum-told5 .given .1)))
 
 coded-requires : tie.Need-coded-requires
 coded-requires c κs = search needs

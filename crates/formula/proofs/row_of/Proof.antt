@@ -8,15 +8,6 @@ use Rattle.formula.proofs.row_of.Tie as tie
 coded-requires : tie.Need-coded-requires
 coded-requires c κs = search needs
 
-coded-requires-2 : tie.Need-coded-requires-2
-coded-requires-2 c κs = search needs
-
-coded-requires-3 : tie.Need-coded-requires-3
-coded-requires-3 c κs = search needs
-
-coded-requires-4 : tie.Need-coded-requires-4
-coded-requires-4 c κs = search needs
-
 returns : tie.Need-returns
 unfolding rowOf
 returns c = rw (c .match .keys1)
@@ -43,21 +34,31 @@ returns-6 c = rw (c .match .keys6)
 
 returns-7 : tie.Need-returns-7
 unfolding rowOf
-returns-7 c = rw (c .before .match .keys7, c .coded .ensures)
+returns-7 c = rw (c .match .keys7, c .before .coded .ensures)
 
 returns-8 : tie.Need-returns-8
 unfolding rowOf
-returns-8 c = rw (c .before .match .keys8, c .coded2 .ensures)
+returns-8 c = rw (c .match .keys8, c .before .coded .ensures)
 
 returns-9 : tie.Need-returns-9
 unfolding rowOf
-returns-9 c = rw (c .before .match .keys9, c .coded3 .ensures)
+returns-9 c = rw (c .match .keys9, c .before .coded .ensures)
 
 returns-10 : tie.Need-returns-10
 unfolding rowOf
-returns-10 c =
-    let is = c .before .match .rest in
+returns-10 c = rw (c .match .keys10, c .before .coded .ensures)
+
+returns-11 : tie.Need-returns-11
+unfolding rowOf
+returns-11 c = rw (c .match .keys11, c .before .coded .ensures)
+
+returns-12 : tie.Need-returns-12
+unfolding rowOf
+returns-12 c =
+    let is = c .match .rest in
     rw (
+      ne-eqb _ _ (is .0 .0 .0 .0 .0 .0 .0 .0 .0 .0 .1),
+      ne-eqb _ _ (is .0 .0 .0 .0 .0 .0 .0 .0 .0 .1),
       ne-eqb _ _ (is .0 .0 .0 .0 .0 .0 .0 .0 .1),
       ne-eqb _ _ (is .0 .0 .0 .0 .0 .0 .0 .1),
       ne-eqb _ _ (is .0 .0 .0 .0 .0 .0 .1),
@@ -67,7 +68,7 @@ returns-10 c =
       ne-eqb _ _ (is .0 .0 .1),
       ne-eqb _ _ (is .0 .1),
       ne-eqb _ _ (is .1),
-      c .coded4 .ensures,
+      c .before .coded .ensures,
     )
 
 pub row-of-spec : {M : Type 1} → statement M
@@ -75,9 +76,6 @@ row-of-spec =
     tie.close
     (tie.spec
     coded-requires
-    coded-requires-2
-    coded-requires-3
-    coded-requires-4
     returns
     returns-2
     returns-3
@@ -87,4 +85,6 @@ row-of-spec =
     returns-7
     returns-8
     returns-9
-    returns-10)
+    returns-10
+    returns-11
+    returns-12)

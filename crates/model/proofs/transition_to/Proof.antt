@@ -1,4 +1,4 @@
--- `model::transition_to` meets its contract: `from` is good, the weight is there, and `to` is read from the transition's part.
+-- `model::transition_to` meets its contract: `from` is good, the weight and the action are there, and `to` is read from the transition's part.
 use Prim.Native.Nat.{_+_}
 use mathlib.Core.Path.{_≡_, ap, _∙_}
 use denote.Ref.{now}
@@ -12,7 +12,7 @@ use Rattle.wire.specs.Read.{found, named}
 use Rattle.wire.specs.Step.{step}
 use Rattle.wire.proofs.Fields.{field-value}
 use Rattle.wire.proofs.Reading.{reading, found-good, handed, cut-below}
-use Rattle.model.specs.Format.{weightAt, toAt, transitionWidth}
+use Rattle.model.specs.Format.{weightAt, actionAt, toAt, transitionWidth}
 use Rattle.model.specs.Message.{readTransition}
 use Rattle.model.proofs.transition_to.Statement.{statement}
 use Rattle.model.proofs.transition_to.Tie as tie
@@ -23,6 +23,9 @@ start c = c .before .before .before
 
 weight-there : (c : tie.After-read-below) → let a = start c .args in fieldAt 4 (now (a .s)) (a .st .at + weightAt) ≡ Number (number 4 (now (a .s)) (a .st .at + weightAt))
 weight-there c = field-value 4 _ _ (omega (arith, start c .pre .0))
+
+action-there : (c : tie.After-read-below) → let a = start c .args in fieldAt 2 (now (a .s)) (a .st .at + actionAt) ≡ Number (number 2 (now (a .s)) (a .st .at + actionAt))
+action-there c = field-value 2 _ _ (omega (arith, start c .pre .0))
 
 to-read : (c : tie.After-read-below) → let a = start c .args in c .read-below .result ≡ found (named 2 (now (a .s)) (a .st .at + toAt) (a .n))
 to-read c =
@@ -60,13 +63,13 @@ returns : tie.Need-returns
 unfolding readTransition step
 returns c =
     let r = c .before .before .before in
-    simp (c .fault .ensures, reading, start r .pre .1, weight-there r, handed _ (to-read r) (c .before .enum-told2 .given .1))
+    simp (c .fault .ensures, reading, start r .pre .1, weight-there r, action-there r, handed _ (to-read r) (c .before .enum-told2 .given .1))
 
 returns-2 : tie.Need-returns-2
 unfolding readTransition step
 returns-2 c =
     let r = c .before .before in
-    simp (reading, start r .pre .1, weight-there r, found-good _ (by (to-read r) (c .enum-told .given .1)))
+    simp (reading, start r .pre .1, weight-there r, action-there r, found-good _ (by (to-read r) (c .enum-told .given .1)))
 
 pub transition-to-spec : {M : Type 1} → statement M
 transition-to-spec =

@@ -22,6 +22,7 @@ use Rattle.wire.proofs.Laid.{_then_, said}
 use Rattle.text.proofs.Rows as rows
 use Rattle.text.proofs.Rows.{made, madeLength, Around, around}
 use Rattle.text.proofs.put_bounded.Reads as put-bounded
+use Rattle.text.proofs.put_next.Reads as put-next
 use Rattle.text.proofs.put_number.Reads as number
 use Rattle.text.proofs.put_quantifier.Reads as quantifier
 use Rattle.text.proofs.put_word.Reads as put-word
@@ -43,7 +44,7 @@ module _ (t : ℕ) where
   below = and 2 kinds.ps (falls 2 kinds.ps _<_ μ t) f.Pre
 
   abbrev claims : lts.Claims
-  claims = (row.Asked, row.Learnt, put-word.Asked, put-word.Learnt, number.Asked, number.Learnt, below, f.Post, quantifier.Asked, quantifier.Learnt, put-bounded.Asked, put-bounded.Learnt)
+  claims = (row.Asked, row.Learnt, put-word.Asked, put-word.Learnt, number.Asked, number.Learnt, below, f.Post, put-next.Asked, put-next.Learnt, quantifier.Asked, quantifier.Learnt, put-bounded.Asked, put-bounded.Learnt)
 
   -- the places that the facts below look back to
   abbrev after-row2 : lts.After-put-number-arg4 claims given f.Post → lts.After-row2 claims given f.Post
@@ -64,10 +65,7 @@ module _ (t : ℕ) where
   abbrev after-row3-of-put-row-arg : lts.After-put-row-arg claims given f.Post → lts.After-row3 claims given f.Post
   after-row3-of-put-row-arg c = c .before .before .before .before .before .before .before
 
-  abbrev after-put-quantifier2 : lts.After-put-word-arg18 claims given f.Post → lts.After-put-quantifier2 claims given f.Post
-  after-put-quantifier2 c = c .before .before .before .before
-
-  abbrev after-put-quantifier : lts.After-put-bounded-arg2 claims given f.Post → lts.After-put-quantifier claims given f.Post
+  abbrev after-put-quantifier : lts.After-put-word-arg18 claims given f.Post → lts.After-put-quantifier claims given f.Post
   after-put-quantifier c = c .before .before .before .before
 
   abbrev after-row3 : lts.After-put-word-arg8 claims given f.Post → lts.After-row3 claims given f.Post
@@ -82,10 +80,10 @@ module _ (t : ℕ) where
   abbrev after-put-row : lts.After-put-word4 claims given f.Post → lts.After-put-row claims given f.Post
   after-put-row c = c .before .before .before .before .before
 
-  abbrev after-row6 : lts.After-put-bounded-arg4 claims given f.Post → lts.After-row6 claims given f.Post
+  abbrev after-row6 : lts.After-put-bounded-arg2 claims given f.Post → lts.After-row6 claims given f.Post
   after-row6 c = c .before .before .before .before .before .before .before .before .before .before .before .before .before .before .before .before
 
-  abbrev after-put-row6 : lts.After-put-bounded2 claims given f.Post → lts.After-put-row6 claims given f.Post
+  abbrev after-put-row6 : lts.After-put-bounded claims given f.Post → lts.After-put-row6 claims given f.Post
   after-put-row6 c = c .before .before .before .before .before
 
   abbrev after-row4-of-put-word-arg16 : lts.After-put-word-arg16 claims given f.Post → lts.After-row4 claims given f.Post
@@ -150,8 +148,8 @@ module _ (t : ℕ) where
   or-asks : (c : lts.After-row4 claims given f.Post) → Asks (c .before .before) (c .row4 .given .1)
   or-asks c = asks (c .before .before) (c .row4 .given .1)
 
-  next-long : (c : lts.After-row5 claims given f.Post) → Long (c .before .before) (c .row5 .given .1) × Around (c .row5 .given .0 .0) (c .row5 .given .0 .1 .1 .0)
-  next-long c = (long (c .before .before) (c .row5 .given .1), around _ _)
+  next-long : (c : lts.After-row5 claims given f.Post) → Long (c .before .before) (c .row5 .given .1)
+  next-long c = long (c .before .before) (c .row5 .given .1)
 
   next-asks : (c : lts.After-row5 claims given f.Post) → Asks (c .before .before) (c .row5 .given .1)
   next-asks c = asks (c .before .before) (c .row5 .given .1)
@@ -272,52 +270,48 @@ module _ (t : ℕ) where
   enum-known-row-5 : lts.Need-enum-known-row-5 claims given f.Post
   enum-known-row-5 c = search needs
 
-  put-quantifier-requires : lts.Need-put-quantifier-requires claims given f.Post
-  put-quantifier-requires c κs = omega (arith, next-long (c .before .before))
-
-  slice-aggregate-put-bounded : lts.Need-slice-aggregate-put-bounded claims given f.Post
-  slice-aggregate-put-bounded c = search needs
-
-  put-bounded-requires : lts.Need-put-bounded-requires claims given f.Post
-  put-bounded-requires c κs = omega (arith, next-long (after-put-quantifier c .before .before .before))
+  put-next-requires : lts.Need-put-next-requires claims given f.Post
+  put-next-requires c κs = omega (arith, next-long (c .before .before))
 
   put-row-requires-5 : lts.Need-put-row-requires-5 claims given f.Post
   put-row-requires-5 c κs =
-      let a = next-asks (after-put-quantifier (c .before .before .before .before) .before .before .before) _ first in
-      (a .0, (a .1, omega (arith, next-long (after-put-quantifier (c .before .before .before .before) .before .before .before))))
+      let c1 = c .before .before .before in
+      let r = c1 .before .before .before in
+      let a = next-asks r _ first in
+      (a .0, (a .1, laid.fits (c1 .put-next .ensures) _ (whole (r .before .before) (r .row5 .given .1))))
 
   enum-known-row-6 : lts.Need-enum-known-row-6 claims given f.Post
   enum-known-row-6 c = search needs
 
-  put-quantifier-requires-2 : lts.Need-put-quantifier-requires-2 claims given f.Post
-  put-quantifier-requires-2 c κs = omega (arith, until-long (c .before .before))
+  put-quantifier-requires : lts.Need-put-quantifier-requires claims given f.Post
+  put-quantifier-requires c κs = omega (arith, until-long (c .before .before))
 
   slice-aggregate-put-word-9 : lts.Need-slice-aggregate-put-word-9 claims given f.Post
   slice-aggregate-put-word-9 c = search needs
 
   put-word-requires-9 : lts.Need-put-word-requires-9 claims given f.Post
-  put-word-requires-9 c κs = omega (arith, until-long (after-put-quantifier2 c .before .before .before))
+  put-word-requires-9 c κs = omega (arith, until-long (after-put-quantifier c .before .before .before))
 
   put-row-requires-6 : lts.Need-put-row-requires-6 claims given f.Post
   put-row-requires-6 c κs =
-      let a = until-asks (after-put-quantifier2 (c .before .before .before .before) .before .before .before) _ first in
-      (a .0, (a .1, omega (arith, until-long (after-put-quantifier2 (c .before .before .before .before) .before .before .before))))
+      let a = until-asks (after-put-quantifier (c .before .before .before .before) .before .before .before) _ first in
+      (a .0, (a .1, omega (arith, until-long (after-put-quantifier (c .before .before .before .before) .before .before .before))))
 
-  slice-aggregate-put-bounded-2 : lts.Need-slice-aggregate-put-bounded-2 claims given f.Post
-  slice-aggregate-put-bounded-2 c = search needs
+  slice-aggregate-put-bounded : lts.Need-slice-aggregate-put-bounded claims given f.Post
+  slice-aggregate-put-bounded c = search needs
 
-  put-bounded-requires-2 : lts.Need-put-bounded-requires-2 claims given f.Post
-  put-bounded-requires-2 c κs = omega (arith, until-long (after-row6 c))
+  put-bounded-requires : lts.Need-put-bounded-requires claims given f.Post
+  put-bounded-requires c κs = omega (arith, until-long (after-row6 c))
 
   put-row-requires-7 : lts.Need-put-row-requires-7 claims given f.Post
   put-row-requires-7 c κs =
       let c4 = c .before .before .before in
       let c3 = after-put-row6 c4 in
       let c2 = c3 .before .before .before .before in
-      let c1 = after-put-quantifier2 (c2 .before) in
+      let c1 = after-put-quantifier (c2 .before) in
       let r = c1 .before .before .before in
       let a = until-asks r _ second in
-      (a .0, (a .1, laid.fits-before (c1 .put-quantifier2 .ensures then c2 .put-word9 .ensures then c3 .put-row6 .ensures then c4 .put-bounded2 .ensures) _ (word "]") (whole (r .before .before) (r .row6 .given .1))))
+      (a .0, (a .1, laid.fits-before (c1 .put-quantifier .ensures then c2 .put-word9 .ensures then c3 .put-row6 .ensures then c4 .put-bounded .ensures) _ (word "]") (whole (r .before .before) (r .row6 .given .1))))
 
   slice-aggregate-put-word-10 : lts.Need-slice-aggregate-put-word-10 claims given f.Post
   slice-aggregate-put-word-10 c = search needs
@@ -328,9 +322,9 @@ module _ (t : ℕ) where
       let c4 = c5 .before .before .before .before in
       let c3 = after-put-row6 c4 in
       let c2 = c3 .before .before .before .before in
-      let c1 = after-put-quantifier2 (c2 .before) in
+      let c1 = after-put-quantifier (c2 .before) in
       let r = c1 .before .before .before in
-      laid.fits (c1 .put-quantifier2 .ensures then c2 .put-word9 .ensures then c3 .put-row6 .ensures then c4 .put-bounded2 .ensures then c5 .put-row7 .ensures) (word "]") (whole (r .before .before) (r .row6 .given .1))
+      laid.fits (c1 .put-quantifier .ensures then c2 .put-word9 .ensures then c3 .put-row6 .ensures then c4 .put-bounded .ensures then c5 .put-row7 .ensures) (word "]") (whole (r .before .before) (r .row6 .given .1))
 
   returns : lts.Need-returns claims given f.Post
   returns c = said (c .before .before .put-word .ensures) (text-is (after-enum-told c .before .before) (after-enum-told c .enum-told .given .1)) refl refl
@@ -384,11 +378,10 @@ module _ (t : ℕ) where
 
   returns-7 : lts.Need-returns-7 claims given f.Post
   returns-7 c =
-      let c3 = c .before .before in
-      let c2 = c3 .before .before .before .before in
-      let c1 = after-put-quantifier (c2 .before) in
+      let c2 = c .before .before in
+      let c1 = c2 .before .before .before .before in
       let r = c1 .before .before .before in
-      said (c1 .put-quantifier .ensures then c2 .put-bounded .ensures then c3 .put-row5 .ensures) (text-is (r .before .before) (r .row5 .given .1)) refl refl
+      said (c1 .put-next .ensures then c2 .put-row5 .ensures) (text-is (r .before .before) (r .row5 .given .1)) refl refl
 
   same-length-7 : lts.Need-same-length-7 claims given f.Post
   same-length-7 c = laid.same-length (returns-7 c)
@@ -400,9 +393,9 @@ module _ (t : ℕ) where
       let c4 = c5 .before .before .before .before in
       let c3 = after-put-row6 c4 in
       let c2 = c3 .before .before .before .before in
-      let c1 = after-put-quantifier2 (c2 .before) in
+      let c1 = after-put-quantifier (c2 .before) in
       let r = c1 .before .before .before in
-      said (c1 .put-quantifier2 .ensures then c2 .put-word9 .ensures then c3 .put-row6 .ensures then c4 .put-bounded2 .ensures then c5 .put-row7 .ensures then c6 .put-word10 .ensures) (text-is (r .before .before) (r .row6 .given .1)) refl refl
+      said (c1 .put-quantifier .ensures then c2 .put-word9 .ensures then c3 .put-row6 .ensures then c4 .put-bounded .ensures then c5 .put-row7 .ensures then c6 .put-word10 .ensures) (text-is (r .before .before) (r .row6 .given .1)) refl refl
 
   same-length-8 : lts.Need-same-length-8 claims given f.Post
   same-length-8 c = laid.same-length (returns-8 c)
@@ -444,17 +437,15 @@ pub +put-row-spec : {M : Type 1} → statement M
     (slice-aggregate-put-word-8 t)
     (put-word-requires-8 t)
     (enum-known-row-5 t)
-    (put-quantifier-requires t)
-    (slice-aggregate-put-bounded t)
-    (put-bounded-requires t)
+    (put-next-requires t)
     (put-row-requires-5 t)
     (enum-known-row-6 t)
-    (put-quantifier-requires-2 t)
+    (put-quantifier-requires t)
     (slice-aggregate-put-word-9 t)
     (put-word-requires-9 t)
     (put-row-requires-6 t)
-    (slice-aggregate-put-bounded-2 t)
-    (put-bounded-requires-2 t)
+    (slice-aggregate-put-bounded t)
+    (put-bounded-requires t)
     (put-row-requires-7 t)
     (slice-aggregate-put-word-10 t)
     (put-word-requires-10 t)

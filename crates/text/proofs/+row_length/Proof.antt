@@ -18,6 +18,7 @@ use Rattle.formula.proofs.row_at.Reads as row
 use Rattle.text.specs.Rows.{rowText, Ready}
 use Rattle.text.proofs.Rows as rows
 use Rattle.text.proofs.Rows.{madeLength}
+use Rattle.text.proofs.action_length.Reads as action
 use Rattle.text.proofs.bound_length.Reads as bound
 use Rattle.text.proofs.decimal_length.Reads as decimal
 use Rattle.text.proofs.row_length.Reads as f
@@ -38,14 +39,11 @@ module _ (t : ℕ) where
   below = and 1 kinds.ps (falls 1 kinds.ps _<_ μ t) f.Pre
 
   abbrev claims : lts.Claims
-  claims = (row.Asked, row.Learnt, decimal.Asked, decimal.Learnt, bound.Asked, bound.Learnt, below, f.Post)
+  claims = (row.Asked, row.Learnt, decimal.Asked, decimal.Learnt, action.Asked, action.Learnt, bound.Asked, bound.Learnt, below, f.Post)
 
   -- the places that the facts below look back to
   abbrev after-row-at : lts.After-row-length2 claims given f.Post → lts.After-row-at claims given f.Post
   after-row-at c = c .before .before .before .before .before
-
-  abbrev after-row-at-of-row-length : lts.After-row-length claims given f.Post → lts.After-row-at claims given f.Post
-  after-row-at-of-row-length c = c .before .before .before .before .before
 
   -- what is known once the row has been read
   module _ (c : lts.After-row-at claims given f.Post) where
@@ -55,7 +53,10 @@ module _ (t : ℕ) where
     abbrev i : ℕ
     i = c .before .before .args .i
 
-    long : {x : Row} → c .row-at .result ≡ x → length (rowText s i) ≡ madeLength x (λ l. length (rowText s l))
+    abbrev Long : {x : Row} → c .row-at .result ≡ x → Type 0
+    Long {x} e = length (rowText s i) ≡ madeLength x (λ l. length (rowText s l))
+
+    long : {x : Row} (e : c .row-at .result ≡ x) → Long e
     long e = rows.row-long (c .before .before .pre .1 .0) (by (c .row-at .ensures) e)
 
     -- what a call asks for an operand
@@ -63,6 +64,10 @@ module _ (t : ℕ) where
     asks e l inside =
         let o = rows.operand (c .before .before .pre .1 .0) (by (c .row-at .ensures) e) l inside in
         (omega arith, (o .ready, omega arith))
+
+  -- the same of EX and AX
+  next-long : (c : lts.After-row5 claims given f.Post) → Long (c .before .before) (c .row5 .given .1)
+  next-long c = long (c .before .before) (c .row5 .given .1)
 
   -- `and` and `or` go the same way
   two : (c : lts.At-match-came claims given f.Post)
@@ -119,17 +124,23 @@ module _ (t : ℕ) where
   enum-known-row-5 : lts.Need-enum-known-row-5 claims given f.Post
   enum-known-row-5 c = search needs
 
+  action-length-requires : lts.Need-action-length-requires claims given f.Post
+  action-length-requires c κs = tt
+
+  add-result-3 : lts.Need-add-result-3 claims given f.Post
+  add-result-3 c = omega (arith, next-long (c .before .before))
+
   bound-length-requires : lts.Need-bound-length-requires claims given f.Post
   bound-length-requires c κs = tt
 
-  add-result-3 : lts.Need-add-result-3 claims given f.Post
-  add-result-3 c = omega (arith, long (c .before .before .before .before) (c .before .before .row5 .given .1))
+  add-result-4 : lts.Need-add-result-4 claims given f.Post
+  add-result-4 c = omega (arith, next-long (c .before .before .before))
 
   row-length-requires : lts.Need-row-length-requires claims given f.Post
-  row-length-requires c κs = asks (c .before .before .before .before) (c .before .before .row5 .given .1) _ first
+  row-length-requires c κs = let r = c .before .before .before in asks (r .before .before) (r .row5 .given .1) _ first
 
-  add-result-4 : lts.Need-add-result-4 claims given f.Post
-  add-result-4 c = omega (arith, long (after-row-at-of-row-length c) (c .before .before .before .row5 .given .1))
+  add-result-5 : lts.Need-add-result-5 claims given f.Post
+  add-result-5 c = omega (arith, next-long (c .before .before .before .before))
 
   enum-known-row-6 : lts.Need-enum-known-row-6 claims given f.Post
   enum-known-row-6 c = search needs
@@ -137,32 +148,32 @@ module _ (t : ℕ) where
   bound-length-requires-2 : lts.Need-bound-length-requires-2 claims given f.Post
   bound-length-requires-2 c κs = tt
 
-  add-result-5 : lts.Need-add-result-5 claims given f.Post
-  add-result-5 c = omega (arith, long (c .before .before .before .before) (c .before .before .row6 .given .1))
+  add-result-6 : lts.Need-add-result-6 claims given f.Post
+  add-result-6 c = omega (arith, long (c .before .before .before .before) (c .before .before .row6 .given .1))
 
   row-length-requires-2 : lts.Need-row-length-requires-2 claims given f.Post
   row-length-requires-2 c κs = asks (c .before .before .before .before) (c .before .before .row6 .given .1) _ first
 
-  add-result-6 : lts.Need-add-result-6 claims given f.Post
-  add-result-6 c = omega (arith, long (after-row-at c) (c .before .before .before .row6 .given .1))
+  add-result-7 : lts.Need-add-result-7 claims given f.Post
+  add-result-7 c = omega (arith, long (after-row-at c) (c .before .before .before .row6 .given .1))
 
   row-length-requires-3 : lts.Need-row-length-requires-3 claims given f.Post
   row-length-requires-3 c κs = asks (after-row-at c) (c .before .before .before .row6 .given .1) _ second
 
-  add-result-7 : lts.Need-add-result-7 claims given f.Post
-  add-result-7 c = omega (arith, long (after-row-at (c .before)) (c .before .before .before .before .row6 .given .1))
+  add-result-8 : lts.Need-add-result-8 claims given f.Post
+  add-result-8 c = omega (arith, long (after-row-at (c .before)) (c .before .before .before .before .row6 .given .1))
 
   row-length-requires-4 : lts.Need-row-length-requires-4 claims given f.Post
   row-length-requires-4 c κs = ⊎-elim (λ e. asks (c .before) e _ first) (λ e. asks (c .before) e _ first) (two c)
 
-  add-result-8 : lts.Need-add-result-8 claims given f.Post
-  add-result-8 c = omega (arith, sum (c .before))
+  add-result-9 : lts.Need-add-result-9 claims given f.Post
+  add-result-9 c = omega (arith, sum (c .before))
 
   row-length-requires-5 : lts.Need-row-length-requires-5 claims given f.Post
   row-length-requires-5 c κs = ⊎-elim (λ e. asks (c .before .before) e _ second) (λ e. asks (c .before .before) e _ second) (two (c .before))
 
-  add-result-9 : lts.Need-add-result-9 claims given f.Post
-  add-result-9 c = omega (arith, sum (c .before .before))
+  add-result-10 : lts.Need-add-result-10 claims given f.Post
+  add-result-10 c = omega (arith, sum (c .before .before))
 
   returns : lts.Need-returns claims given f.Post
   returns c = omega (arith, long (c .before .before) (c .enum-told .given .1))
@@ -177,7 +188,7 @@ module _ (t : ℕ) where
   returns-4 c = omega (arith, long (c .before .before .before .before) (c .before .before .row2 .given .1))
 
   returns-5 : lts.Need-returns-5 claims given f.Post
-  returns-5 c = omega (arith, long (after-row-at-of-row-length c) (c .before .before .before .row5 .given .1))
+  returns-5 c = omega (arith, next-long (c .before .before .before .before))
 
   returns-6 : lts.Need-returns-6 claims given f.Post
   returns-6 c = omega (arith, long (after-row-at (c .before)) (c .before .before .before .before .row6 .given .1))
@@ -202,21 +213,23 @@ pub +row-length-spec : {M : Type 1} → statement M
     (enum-known-row-3 t)
     (enum-known-row-4 t)
     (enum-known-row-5 t)
-    (bound-length-requires t)
+    (action-length-requires t)
     (add-result-3 t)
-    (row-length-requires t)
+    (bound-length-requires t)
     (add-result-4 t)
+    (row-length-requires t)
+    (add-result-5 t)
     (enum-known-row-6 t)
     (bound-length-requires-2 t)
-    (add-result-5 t)
-    (row-length-requires-2 t)
     (add-result-6 t)
-    (row-length-requires-3 t)
+    (row-length-requires-2 t)
     (add-result-7 t)
-    (row-length-requires-4 t)
+    (row-length-requires-3 t)
     (add-result-8 t)
-    (row-length-requires-5 t)
+    (row-length-requires-4 t)
     (add-result-9 t)
+    (row-length-requires-5 t)
+    (add-result-10 t)
     (returns t)
     (returns-2 t)
     (returns-3 t)

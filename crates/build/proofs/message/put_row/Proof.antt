@@ -131,7 +131,7 @@ put-single-requires-2 c κs =
 enum-known-row-5 : tie.Need-enum-known-row-5
 enum-known-row-5 c = search needs
 
-next-operand : (c : tie.After-put-next-arg) → let s = c .before .before .before .before .before .before in s .args .n * c .before .before .row5 .given .0 .1 .0 + s .args .n ≤ 4096
+next-operand : (c : tie.After-put-next-arg) → let s = c .before .before .before .before .before .before in s .args .n * c .before .before .row5 .given .0 .1 .1 .0 + s .args .n ≤ 4096
 next-operand c = let s = c .before .before .before .before .before .before in operand-fits (rw (c .before .before .row5 .given .1) at (s .pre .1 .1 .0)) _ first
 
 -- the hyperedges of an EX or AX are those over the state's own transitions
@@ -139,11 +139,11 @@ next-is : (c : tie.After-put-next-arg) →
     let s = c .before .before .before .before .before .before in
     let a = s .args in
     let v = c .before .before .row5 .given .0 in
-    rowEdges (heldModel (now (a .m)) (a .n) (a .p) (a .t)) (a .row) (a .a) ≡ nextEdges (v .0) (transitionsFrom (now (a .m)) (a .n) (a .first) (a .many)) (v .1 .1 .0) (a .n * v .1 .0)
+    rowEdges (heldModel (now (a .m)) (a .n) (a .p) (a .t)) (a .row) (a .a) ≡ nextEdges (v .0) (transitionsFrom (now (a .m)) (a .n) (a .first) (a .many)) (v .1 .0) (v .1 .1 .1 .0) (a .n * v .1 .1 .0)
 next-is c =
     let s = c .before .before .before .before .before .before in
     let v = c .before .before .row5 .given .0 in
-    rw (c .before .before .row5 .given .1) (next-are (s .args .p) (s .pre .1 .0) (v .0) (v .1 .0) (v .1 .1 .0))
+    rw (c .before .before .row5 .given .1) (next-are (s .args .p) (s .pre .1 .0) (v .0) (v .1 .0) (v .1 .1 .0) (v .1 .1 .1 .0))
 
 mul-put-next : tie.Need-mul-put-next
 mul-put-next c = omega (arith, next-operand c)

@@ -1,7 +1,7 @@
--- `records::put_nearby` meets its contract: what is written for the transitions left, those within the bound, makes the whole.
+-- `records::put_nearby` meets its contract: what is written for the transitions left, those that are looked at, makes the whole.
 use Prim.Native.Nat.{ℕ, _+_, _*_, _<_, _≤_}
 use mathlib.Core.List.{List}
-use mathlib.Core.Path.{_≡_, sym, ap, ap₂, _∙_}
+use mathlib.Core.Path.{_≡_, refl, sym, ap, ap₂, _∙_}
 use denote.Ref.{now}
 use native.Mathlib.Omega.{arith}
 use lib.ListN.{length}
@@ -11,7 +11,7 @@ use Rattle.formula.specs.declared.Quantifier.{Quantifier}
 use Rattle.model.specs.Format.{transitionWidth}
 use Rattle.model.specs.Model.{Transition}
 use Rattle.build.specs.Held.{transitionsFrom}
-use Rattle.build.specs.Bytes.{nearBytes, nearbyBytes}
+use Rattle.build.specs.Bytes.{nearBytes, isNear, nearbyBytes}
 use Rattle.build.proofs.Edges.{Filling, filling-all, next-readable, next-named}
 use Rattle.build.proofs.Nearby.{near-long, near, near-length, near-none, near-some, near-fits, near-stays, near-goes}
 use Rattle.build.proofs.records.put_nearby.Statement.{statement}
@@ -22,11 +22,11 @@ abbrev one : Quantifier → (v shift : ℕ) → Transition → List ℕ
 one q v shift u = nearBytes q v (u .to + shift)
 
 abbrev Inv-loop : tie.InvT-loop
-Inv-loop room₀ at m n q v first many close most shift width end next₀ p₀ i₀ room next p i =
-    Filling m n (near most (one q v shift)) room₀ at (nearbyBytes q v most shift (transitionsFrom m n first many)) room next p i
+Inv-loop room₀ at m n q v first many close action most shift width end next₀ p₀ i₀ room next p i =
+    Filling m n (near (isNear action most) (one q v shift)) room₀ at (nearbyBytes q action v most shift (transitionsFrom m n first many)) room next p i
 
 abbrev μ-loop : tie.MeasureT-loop
-μ-loop room₀ at m n q v first many close most shift width end next₀ p₀ i₀ room next p i = i
+μ-loop room₀ at m n q v first many close action most shift width end next₀ p₀ i₀ room next p i = i
 
 -- the places that the facts below look back to
 abbrev in-loop : tie.After-slice-known2 Inv-loop μ-loop → tie.In-loop Inv-loop μ-loop
@@ -34,10 +34,10 @@ in-loop c = c .before .before .before .before .before .before
 
 -- what is to be written, transition by transition, and how long that is
 abbrev whole : tie.Start Inv-loop μ-loop → List ℕ
-whole s = let a = s .args in nearbyBytes (a .q) (a .v) (a .most) (a .shift) (transitionsFrom (now (a .m)) (a .n) (a .first) (a .many))
+whole s = let a = s .args in nearbyBytes (a .q) (a .action) (a .v) (a .most) (a .shift) (transitionsFrom (now (a .m)) (a .n) (a .first) (a .many))
 
 whole-is : (s : tie.Start Inv-loop μ-loop) → let a = s .args in
-    whole s ≡ writeAll (near (a .most) (one (a .q) (a .v) (a .shift))) (transitionsFrom (now (a .m)) (a .n) (a .first) (a .many))
+    whole s ≡ writeAll (near (isNear (a .action) (a .most)) (one (a .q) (a .v) (a .shift))) (transitionsFrom (now (a .m)) (a .n) (a .first) (a .many))
 unfolding near
 whole-is s = writeAll-keep _ _ _
 
@@ -48,7 +48,7 @@ whole-long : (c : tie.After-near-width Inv-loop μ-loop) → let s = c .before .
 whole-long c =
     let s = c .before .before .before in
     let a = s .args in
-    ap length (whole-is s) ∙ near-length (one (a .q) (a .v) (a .shift)) (a .most) _ (λ u. near-long _ _ _) _ ∙ ap₂ _*_ (sym (s .pre .1 .0)) (sym (c .near-width .ensures))
+    ap length (whole-is s) ∙ near-length (isNear (a .action) (a .most)) (one (a .q) (a .v) (a .shift)) _ (λ u. near-long _ _ _) _ ∙ ap₂ _*_ (sym (s .pre .1 .0)) (sym (c .near-width .ensures))
 
 mul-end : tie.Need-mul-end Inv-loop μ-loop
 mul-end c = omega (arith, whole-long c, c .before .before .before .pre .1 .1)
@@ -78,17 +78,14 @@ some c = near-some _ _ _ _ _ (λ u. near-long _ _ _) (c .before .loop .inv) (sho
 inside : (c : tie.In-loop Inv-loop μ-loop) → c .before .loop .p + transitionWidth ≤ length (now (start c .args .m))
 inside c = next-readable _ _ _ (c .before .loop .inv) (some c)
 
+is-near-requires : tie.Need-is-near-requires Inv-loop μ-loop
+is-near-requires c κs = inside c
+
 add-number-at : tie.Need-add-number-at Inv-loop μ-loop
-add-number-at c = omega (arith, inside c)
+add-number-at c = omega (arith, inside (c .before))
 
 number-at-requires : tie.Need-number-at-requires Inv-loop μ-loop
-number-at-requires c κs = omega (arith, inside c)
-
-add-number-at-2 : tie.Need-add-number-at-2 Inv-loop μ-loop
-add-number-at-2 c = omega (arith, inside (c .before))
-
-number-at-requires-2 : tie.Need-number-at-requires-2 Inv-loop μ-loop
-number-at-requires-2 c κs = omega (arith, inside (c .before))
+number-at-requires c κs = omega (arith, inside (c .before))
 
 add-p : tie.Need-add-p Inv-loop μ-loop
 add-p c = omega (arith, inside (c .before .before))
@@ -99,7 +96,7 @@ sub-i c = omega (arith, some (c .before .before))
 add-put-near : tie.Need-add-put-near Inv-loop μ-loop
 add-put-near c =
     let turn = c .before .before .before in
-    omega (arith, next-named _ _ _ (turn .before .loop .inv) (some turn) (c .before .number-at2 .ensures), start turn .pre .0 .shift-fits)
+    omega (arith, next-named _ _ _ (turn .before .loop .inv) (some turn) (c .before .number-at .ensures), start turn .pre .0 .shift-fits)
 
 put-near-requires : tie.Need-put-near-requires Inv-loop μ-loop
 put-near-requires c κs =
@@ -114,7 +111,7 @@ loop-again c =
     let put = c .before .before .before in
     let read = put .before .before in
     let turn = read .before .before in
-    near-stays _ _ _ _ _ (λ u. near-long _ _ _) (turn .before .loop .inv) (short turn) (read .before .number-at .ensures) (read .number-at2 .ensures) (put .put-near .ensures) (c .if1 .taken)
+    near-stays _ _ _ _ _ (λ u. near-long _ _ _) (turn .before .loop .inv) (short turn) refl (read .number-at .ensures) (put .put-near .ensures) (sym (read .before .is-near .ensures) ∙ c .if1 .taken)
 
 loop-less-2 : tie.Need-loop-less-2 Inv-loop μ-loop
 loop-less-2 c = omega (arith, some (in-loop (c .before)))
@@ -124,7 +121,7 @@ loop-again-2 c =
     let put = c .before .before .before in
     let read = put .before .before in
     let turn = read .before .before in
-    near-goes _ _ _ _ _ (λ u. near-long _ _ _) (turn .before .loop .inv) (short turn) (read .before .number-at .ensures) (read .number-at2 .ensures) (put .put-near .ensures) (c .if1 .left)
+    near-goes _ _ _ _ _ (λ u. near-long _ _ _) (turn .before .loop .inv) (short turn) refl (read .number-at .ensures) (put .put-near .ensures) (sym (read .before .is-near .ensures) ∙ c .if1 .left)
 
 same-length : tie.Need-same-length Inv-loop μ-loop
 same-length c = c .before .loop .inv .left .length-is
@@ -143,10 +140,9 @@ put-nearby-spec =
     add-end
     transition-at-requires
     loop-holds
+    is-near-requires
     add-number-at
     number-at-requires
-    add-number-at-2
-    number-at-requires-2
     add-p
     sub-i
     add-put-near

@@ -5,10 +5,8 @@ use mathlib.Core.Path.{_≡_, refl, sym, ap, subst, _∙_}
 use denote.Ref.{now}
 use native.Mathlib.Omega.{arith}
 use lib.ListN.{length, length-append}
-use lib.Dec.{leb}
 use borrow.Author.Needs.{needs}
 use Rattle.lists.specs.Making.{keep}
-use Rattle.value.specs.Value.{inside}
 use Rattle.wire.specs.Bytes.{bytes, Bytes}
 use Rattle.wire.specs.Laid.{Laid}
 use Rattle.wire.specs.Write.{writeAll}
@@ -17,9 +15,9 @@ use Rattle.rules.specs.Graph.{Target}
 use Rattle.graph.specs.Write.{writeTarget, writeHyper}
 use Rattle.model.specs.Format.{transitionAt}
 use Rattle.model.specs.Model.{Transition}
-use Rattle.reduction.specs.Built.{hyper}
+use Rattle.reduction.specs.Built.{hyper, looksAt}
 use Rattle.build.specs.Held.{transitionLayout, transitionsFrom}
-use Rattle.build.specs.Bytes.{hypersBytes, someNext, everyNext, nearbyBytes}
+use Rattle.build.specs.Bytes.{hypersBytes, someNext, everyNext, isNear, nearbyBytes}
 use Rattle.build.proofs.Counting.{passing-le, coded-keep}
 use Rattle.build.proofs.Edges.{head-length, hypers-one, single-laid, hyper-laid, every-count}
 use Rattle.build.proofs.Nearby.{some-nearby, every-nearby}
@@ -37,19 +35,21 @@ abbrev own : tie.Start → List Transition
 own s = let a = s .args in transitionsFrom (now (a .m)) (a .n) (a .first) (a .many)
 
 abbrev targets : tie.Start → List Target
-targets s = everyNext (own s) (s .args .bound) (s .args .shift)
+targets s = everyNext (own s) (s .args .action) (s .args .bound) (s .args .shift)
 
--- those within the bound are those within the number that says it
+-- those that are looked at by the bound are those by the number that says it
 abbrev start : tie.After-code → tie.Start
 start c = c .before .before .before .before
 
 bytes-are : (c : tie.After-code) → Bytes (now (start c .args .m))
 bytes-are c i = omega (arith, c .before .before .shared-slice-known .given i)
 
-kept : (c : tie.After-code) → keep (λ u. inside (start c .args .bound) (u .weight)) (own (start c)) ≡ keep (λ u. leb (u .weight) (c .code .result)) (own (start c))
-kept c = coded-keep _ (bytes-are c) (start c .args .bound) _ _ ∙ ap (λ (most : ℕ). keep (λ u. leb (u .weight) most) (own (start c))) (sym (c .code .ensures))
+kept : (c : tie.After-code) → let a = start c .args in keep (looksAt (a .action) (a .bound)) (own (start c)) ≡ keep (isNear (a .action) (c .code .result)) (own (start c))
+kept c =
+    let a = start c .args in
+    coded-keep _ (bytes-are c) (a .action) (a .bound) _ _ ∙ ap (λ (most : ℕ). keep (isNear (a .action) most) (own (start c))) (sym (c .code .ensures))
 
-many-are : (c : tie.After-code) → c .before .near-count .result ≡ length (keep (λ u. leb (u .weight) (c .code .result)) (own (start c)))
+many-are : (c : tie.After-code) → c .before .near-count .result ≡ length (keep (isNear (start c .args .action) (c .code .result)) (own (start c)))
 many-are c = c .before .near-count .ensures ∙ ap length (kept c)
 
 enum-told : tie.Need-enum-told
@@ -57,8 +57,8 @@ enum-told c = search needs
 
 -- what is written for them: the hyperedges of EX
 some-bytes : (c : tie.After-enum-told) → let code = c .before .before in let a = start code .args in
-    hypersBytes (a .v) (someNext (own (start code)) (a .bound) (a .shift)) ≡ nearbyBytes (a .q) (a .v) (code .code .result) (a .shift) (own (start code))
-some-bytes c = some-nearby _ _ _ _ (start (c .before .before) .args .bound) (kept (c .before .before)) (c .enum-told .given .1)
+    hypersBytes (a .v) (someNext (own (start code)) (a .action) (a .bound) (a .shift)) ≡ nearbyBytes (a .q) (a .action) (a .v) (code .code .result) (a .shift) (own (start code))
+some-bytes c = some-nearby _ _ _ _ (start (c .before .before) .args .action) (start (c .before .before) .args .bound) (kept (c .before .before)) (c .enum-told .given .1)
 
 put-nearby-requires : tie.Need-put-nearby-requires
 put-nearby-requires c κs =
@@ -72,8 +72,8 @@ enum-told-2 c = search needs
 
 -- or the targets of that of AX
 every-bytes : (c : tie.After-enum-told2) → let code = c .before .before in let a = start code .args in
-    writeAll writeTarget (targets (start code)) ≡ nearbyBytes (a .q) (a .v) (code .code .result) (a .shift) (own (start code))
-every-bytes c = every-nearby _ _ _ _ (start (c .before .before) .args .bound) (kept (c .before .before)) (c .enum-told2 .given .1)
+    writeAll writeTarget (targets (start code)) ≡ nearbyBytes (a .q) (a .action) (a .v) (code .code .result) (a .shift) (own (start code))
+every-bytes c = every-nearby _ _ _ _ (start (c .before .before) .args .action) (start (c .before .before) .args .bound) (kept (c .before .before)) (c .enum-told2 .given .1)
 
 -- the hyperedge of AX fits
 all-fit : (c : tie.After-enum-told2) → let s = start (c .before .before) in
@@ -86,7 +86,7 @@ cast-put-head : tie.Need-cast-put-head
 cast-put-head c =
     let code = c .before .before .before in
     let s = start code in
-    omega (arith, code .before .near-count .ensures, passing-le (transitionLayout (now (s .args .m))) (λ u. inside (s .args .bound) (u .weight)) (s .args .many) (transitionAt (s .args .n) (s .args .first)))
+    omega (arith, code .before .near-count .ensures, passing-le (transitionLayout (now (s .args .m))) (looksAt (s .args .action) (s .args .bound)) (s .args .many) (transitionAt (s .args .n) (s .args .first)))
 
 put-head-requires : tie.Need-put-head-requires
 put-head-requires c κs =
@@ -98,7 +98,7 @@ head-laid : (c : tie.After-put-head) → let s = start (c .before .before .befor
 head-laid c =
     let code = c .before .before .before .before in
     let s = start code in
-    let count : length (targets s) ≡ code .before .near-count .result = every-count (own s) (s .args .bound) (s .args .shift) ∙ sym (code .before .near-count .ensures) in
+    let count : length (targets s) ≡ code .before .near-count .result = every-count (own s) (s .args .action) (s .args .bound) (s .args .shift) ∙ sym (code .before .near-count .ensures) in
     said (c .put-head .ensures) (ap (λ (k : ℕ). bytes 2 (s .args .v) ++ bytes 2 k) count) refl refl
 
 put-nearby-requires-2 : tie.Need-put-nearby-requires-2

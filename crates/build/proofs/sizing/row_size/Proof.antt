@@ -89,8 +89,8 @@ returns-7 c =
     let M = heldModel (now (s .args .m)) (s .args .n) (s .args .p) (s .args .t) in
     rw (c .before .before .before .row3 .given .1)
     (c .next-size .ensures
-    ∙ ap (nextSize (v .0)) (c .before .near-count .ensures ∙ sym (near-own (s .pre .0) (s .pre .1) (v .1 .1 .0)))
-    ∙ sym (next-size M (v .0) (v .1 .0) (v .1 .1 .0) (s .args .a)))
+    ∙ ap (nextSize (v .0)) (c .before .near-count .ensures ∙ sym (near-own (s .pre .0) (s .pre .1) (v .1 .0) (v .1 .1 .1 .0)))
+    ∙ sym (next-size M (v .0) (v .1 .0) (v .1 .1 .0) (v .1 .1 .1 .0) (s .args .a)))
 
 returns-8 : tie.Need-returns-8
 unfolding sizeOf
