@@ -1,7 +1,7 @@
 #!/usr/bin/env bash
 # Measures the library (a) beside plain C (b), plain Rust (c) and C that decodes first (d), on the same inputs in one run, compares
-# all answers, and writes bench/RESULTS.md. Words: how many seconds a turn takes, how many turns (the least counts), and a part of
-# a workload's name to run only that (then RESULTS.md stays). See bench/README.md.
+# all answers, and writes bench/RESULTS.md and its pictures. Words: how many seconds a turn takes, how many turns (the least counts),
+# and a part of a workload's name to run only that (then RESULTS.md stays). See bench/README.md.
 set -euo pipefail
 root=$(cd "$(dirname "$0")/.." && pwd -P)
 . "$root/bindings/common.sh"
@@ -92,7 +92,11 @@ report=$out/RESULTS.md
 # Measured
 
 Written by \`bench/run.sh\`; bench/README.md says what is measured. Least time of a call, in microseconds; (b) and (d) are the better
-of gcc and clang, as named. Growth: how much longer than on half the size.
+of gcc and clang, as named. Growth: how much longer than on half the size. \`bench/picture.py\` drew the pictures from the tables.
+
+![The library's time divided by that of other versions, a row for each workload](ratios.svg)
+
+![How the time grows with the size, for each workload](growth.svg)
 
 - Kit: \`$(rt version)\`
 - Processor: $machine, $processor
@@ -124,4 +128,7 @@ END
     printf "\n"
     cat "$root/bench/why.md"
 } | tee "$report"
-[ -n "${3:-}" ] || cp "$report" "$root/bench/RESULTS.md"
+[ -n "${3:-}" ] || {
+    cp "$report" "$root/bench/RESULTS.md"
+    python3 "$root/bench/picture.py" "$root/bench/RESULTS.md" "$root/bench"
+}
