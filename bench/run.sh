@@ -88,8 +88,20 @@ gcc -std=gnu17 -O2 -Wall -Wextra -Werror "$root/bench/start.c" -o "$out/start"
 
 $gcc -std=gnu17 -O2 -Wall -Wextra -Werror -I"$root/include" "$root/bench/stack.c" "$target/lib/libotzarvim.a" -o "$out/stack"
 
-# An emulator takes ten times as long.
-if [ "$machine" = x86_64 ]; then turn=0.02 turns=7; else turn=0.005 turns=2; fi
+# What runs x86-64 code: the word `itself` or `emulator`, and the processor's name as that code sees it. An emulator takes ten times as long.
+$gcc -std=gnu17 -O2 -Wall -Wextra -Werror "$root/bench/where.c" -o "$out/where"
+where=$($run "$out/where")
+if [ "${where%% *}" = itself ]; then
+    turn=0.02 turns=7
+    ran="on this processor itself, without an emulator"
+    heading="x86-64, without an emulator: ${where#* }"
+else
+    turn=0.005 turns=2
+    emulator=${emulated#under }
+    [ "$machine" != x86_64 ] || emulator="one that the system hides"
+    ran="under an emulator ($emulator), which calls itself ${where#* }; no x86-64 processor ran it"
+    heading="x86-64, under an emulator ($emulator): these times say little about an x86-64 processor"
+fi
 processor=$(lscpu | sed -n 's/^Model name: *//p' | head -n 1)
 report=$out/RESULTS.md
 {
@@ -105,13 +117,10 @@ better of gcc and clang, as named. Growth: how much longer than on half the size
 
 - Kit: \`$(rt version)\`
 - Processor: $machine, $processor
+- x86-64 code ran $ran
 - Compilers: $($gcc --version | head -n 1); $("$kit_clang" --version | head -n 1); $($rustc --version), all at -O3
 END
-    if [ "$machine" = x86_64 ]; then
-        printf '\n## x86-64\n\n'
-    else
-        printf '\n## x86-64, under an emulator (%s): these times say little about an x86-64 processor\n\n' "${emulated#under }"
-    fi
+    printf '\n## %s\n\n' "$heading"
     $run "$out/x86_64/harness" "${1:-$turn}" "${2:-$turns}" "${3:-}"
     searches "${1:-$turn}" "${2:-$turns}" "${3:-}" $run "$out/x86_64/searches"
     claims "${1:-$turn}" "${2:-$turns}" "${3:-}" $run "$out/x86_64/claims"
