@@ -201,7 +201,8 @@ u32 PASTE(P, formula_check)(const u8 *s, u64 length, u32 propositions)
     return 0;
 }
 
-#define OPEN(model, s, steps) decode_model(model, s, steps)
+#define DECODE(model, s, steps) decode_model(model, s, steps)
+#define OPEN(model, s)
 #define LABEL(a) label[a]
 #define FROM(t) from[t]
 #define WEIGHT(t) step[t]

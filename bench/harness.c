@@ -1,5 +1,6 @@
-/* Measures the library (a) beside plain C (b), plain Rust (c) and C that decodes first (d), in one run, on the same inputs; all
- * answers are compared, so that no version is fast by being wrong. A workload is a row of the table at the end. */
+/* Measures the library (a) beside plain C (b), plain Rust (c), C that decodes first (d), plain C that skips as the library's rounds do (e),
+ * and plain C and Rust that check a question as the library does (f, g), in one run, on the same inputs; all answers are compared, so that
+ * no version is fast by being wrong. A workload is a row of the table below. */
 #include "inputs.h"
 #include "measure.h"
 #include "otzarvim.h"
@@ -14,6 +15,8 @@ DECLARE(clang_)
 DECLARE(rust_)
 DECLARE(dgcc_)
 DECLARE(dclang_)
+DECLARE(sgcc_)
+DECLARE(sclang_)
 
 /* ---- inputs */
 
@@ -244,7 +247,10 @@ struct answer {
 static uint32_t counts[3];
 static size_t offset;
 
-enum { A, B_GCC, B_CLANG, C, D_GCC, D_CLANG, VERSIONS };
+enum { A, B_GCC, B_CLANG, C, D_GCC, D_CLANG, E_GCC, E_CLANG, F_GCC, F_CLANG, G, VERSIONS };
+
+/* What a workload is measured with: the first so many versions. (e) has rounds of its own, (f) and (g) are verdicts. */
+enum { CHECKS = D_CLANG + 1, ROUNDS = E_CLANG + 1, VERDICTS = VERSIONS };
 
 #define VERSIONED(call)                     \
     switch (v) {                            \
@@ -253,6 +259,8 @@ enum { A, B_GCC, B_CLANG, C, D_GCC, D_CLANG, VERSIONS };
     case C: { call(rust_) } break;          \
     case D_GCC: { call(dgcc_) } break;      \
     case D_CLANG: { call(dclang_) } break;  \
+    case E_GCC: { call(sgcc_) } break;      \
+    case E_CLANG: { call(sclang_) } break;  \
     }
 
 static void run_rounds(int v, const struct input *in, struct answer *out)
@@ -322,8 +330,8 @@ static void run_checked_build(int v, const struct input *in, struct answer *out)
 static void run_verdict(int v, const struct input *in, struct answer *out)
 {
     if (v == A) {
-        uint8_t verdict;
-        size_t length;
+        uint8_t verdict = 0;
+        size_t length = 0;
         out->number = otzarvim_verdict(in->message, in->length, in->formula, in->formula_length, in->state, in->budget, out->graph,
                                        MESSAGE, out->room, ROOM, &verdict, &out->count, &length, &offset);
         out->yes = verdict == OTZARVIM_YES;
@@ -334,6 +342,15 @@ static void run_verdict(int v, const struct input *in, struct answer *out)
     out->number = PASTE(p, verdict)(in->message, in->length, in->formula, in->formula_length, in->state, in->budget,     \
                                     out->graph, out->room, &out->count, &out->yes);
     VERSIONED(CALL)
+#undef CALL
+#define CALL(p)                                                                                                          \
+    out->number = PASTE(p, checked_verdict)(in->message, in->length, in->formula, in->formula_length, in->state, in->budget, \
+                                            out->graph, MESSAGE, out->room, ROOM, &out->count, &out->yes);
+    switch (v) {
+    case F_GCC: CALL(gcc_) break;
+    case F_CLANG: CALL(clang_) break;
+    case G: CALL(rust_) break;
+    }
 #undef CALL
     uint32_t length;
     memcpy(&length, out->graph, 4);
@@ -348,27 +365,28 @@ static const struct workload {
     uint32_t most;                           /* the largest size; the others are a half, a quarter and an eighth */
     void (*make)(struct input *, uint32_t);
     void (*run)(int version, const struct input *, struct answer *);
-    int check;                               /* it answers for messages with a fault too */
+    int versions;                            /* how many */
+    int faults;                              /* some versions answer for messages with a fault too */
 } table[] = {
-    {"rounds: a chain", "nodes", 4096, chain, run_rounds, 0},
-    {"rounds: cover edges", "nodes", 4096, covers, run_rounds, 0},
-    {"rounds: wide", "nodes", 4096, wide, run_rounds, 0},
-    {"rounds: a ladder, 48 rounds", "nodes", 4096, ladder, run_rounds, 0},
-    {"rounds: long hyperedges, lost", "nodes", 4096, lost, run_rounds, 0},
-    {"rounds: long hyperedges, never lost", "nodes", 4096, never_lost, run_rounds, 0},
-    {"check of a graph", "nodes", 4096, wide, run_graph, 1},
-    {"check of a model", "transitions", 65535, models, run_model, 1},
-    {"check of a formula", "rows", 64, formulas, run_formula, 1},
-    {"the graph of a model", "transitions", 65535, question, run_build, 0},
-    {"the graph of a model, messages checked", "transitions", 65535, question, run_checked_build, 0},
-    {"the graph of a model, of actions", "transitions", 65535, question_of_actions, run_build, 0},
-    {"verdict: a large model", "transitions", 65535, question, run_verdict, 0},
-    {"verdict: leader election", "states", 256, one_leader, run_verdict, 0},
-    {"verdict: two leaders", "states", 256, two_leaders, run_verdict, 0},
-    {"verdict: alternating bit", "states", 256, delivered, run_verdict, 0},
-    {"verdict: alternating bit, out of step", "states", 256, two_bits, run_verdict, 0},
-    {"verdict: task graph", "states", 256, schedule, run_verdict, 0},
-    {"verdict: task graph, too soon", "states", 256, short_schedule, run_verdict, 0},
+    {"rounds: a chain", "nodes", 4096, chain, run_rounds, ROUNDS, 0},
+    {"rounds: cover edges", "nodes", 4096, covers, run_rounds, ROUNDS, 0},
+    {"rounds: wide", "nodes", 4096, wide, run_rounds, ROUNDS, 0},
+    {"rounds: a ladder, 48 rounds", "nodes", 4096, ladder, run_rounds, ROUNDS, 0},
+    {"rounds: long hyperedges, lost", "nodes", 4096, lost, run_rounds, ROUNDS, 0},
+    {"rounds: long hyperedges, never lost", "nodes", 4096, never_lost, run_rounds, ROUNDS, 0},
+    {"check of a graph", "nodes", 4096, wide, run_graph, CHECKS, 1},
+    {"check of a model", "transitions", 65535, models, run_model, CHECKS, 1},
+    {"check of a formula", "rows", 64, formulas, run_formula, CHECKS, 1},
+    {"the graph of a model", "transitions", 65535, question, run_build, CHECKS, 0},
+    {"the graph of a model, messages checked", "transitions", 65535, question, run_checked_build, CHECKS, 0},
+    {"the graph of a model, of actions", "transitions", 65535, question_of_actions, run_build, CHECKS, 0},
+    {"verdict: a large model", "transitions", 65535, question, run_verdict, VERDICTS, 1},
+    {"verdict: leader election", "states", 256, one_leader, run_verdict, VERDICTS, 1},
+    {"verdict: two leaders", "states", 256, two_leaders, run_verdict, VERDICTS, 1},
+    {"verdict: alternating bit", "states", 256, delivered, run_verdict, VERDICTS, 1},
+    {"verdict: alternating bit, out of step", "states", 256, two_bits, run_verdict, VERDICTS, 1},
+    {"verdict: task graph", "states", 256, schedule, run_verdict, VERDICTS, 1},
+    {"verdict: task graph, too soon", "states", 256, short_schedule, run_verdict, VERDICTS, 1},
 };
 
 /* ---- measuring */
@@ -379,7 +397,7 @@ static struct answer answers[VERSIONS];
 /* Runs every version once, and compares. */
 static void compare(const struct workload *w)
 {
-    for (int v = A; v < VERSIONS; v++) {
+    for (int v = A; v < w->versions; v++) {
         memset(answers[v].room, 0xa5, ROOM * sizeof(uint64_t));
         memset(answers[v].graph, 0xa5, MESSAGE);
         answers[v].number = answers[v].count = answers[v].yes = 0;
@@ -395,25 +413,42 @@ static void compare(const struct workload *w)
     }
 }
 
-/* Spoils a small message in a thousand ways, one byte at a time, and compares the first faults that the library, (b) and (c) find.
- * (d) decodes before it checks, and may find another one first. */
+/* Of messages that may have a fault the library answers, and of the others (b) and (c) in checks, (f) and (g) in verdicts. (d) decodes
+ * before it checks, and may find another fault first. */
+static int finds_faults(const struct workload *w, int v)
+{
+    return v == A || (w->versions == VERDICTS ? v >= F_GCC : v <= C);
+}
+
+/* A byte of the messages, the first ones more often. */
+static uint8_t *drawn_byte(uint32_t i)
+{
+    uint8_t *message = in.formula_length && i % 5 == 0 ? in.formula : in.message;
+    uint64_t length = message == in.formula ? in.formula_length : in.length;
+    return message + (i % 2 ? draw((uint32_t)length) : draw(16));
+}
+
+/* Spoils small messages in a thousand ways, one byte at a time, and compares the answers of the versions that find faults. */
 static long spoil(const struct workload *w)
 {
     long refused = 0;
     w->make(&in, w->most / 64 > 8 ? w->most / 64 : 8);
     for (uint32_t i = 0; i < 1000; i++) {
-        uint8_t *byte = in.message + (i % 2 ? draw((uint32_t)in.length) : draw(16)), kept = *byte;
+        uint8_t *byte = drawn_byte(i), kept = *byte;
         *byte = (uint8_t)(i % 3 ? draw(256) : kept + 1u);
-        for (int v = A; v <= C; v++) {
-            answers[v].number = 99;
+        for (int v = A; v < w->versions; v++) {
+            if (!finds_faults(w, v))
+                continue;
+            const struct answer *x = &answers[A], *y = &answers[v];
+            answers[v].number = 99, answers[v].count = answers[v].yes = 0;
             w->run(v, &in, &answers[v]);
-            if (answers[v].number != answers[A].number) {
-                fprintf(stderr, "%s: version %d finds fault %u, and not %u, where byte %ld is %u\n", w->name, v, answers[v].number,
-                        answers[A].number, (long)(byte - in.message), *byte);
+            if (y->number != x->number || y->count != x->count || y->yes != x->yes) {
+                fprintf(stderr, "%s: version %d answers %u %u %u, and not %u %u %u, spoiled in way %u\n", w->name, v, y->number, y->count, y->yes,
+                        x->number, x->count, x->yes, i);
                 exit(1);
             }
         }
-        refused += answers[A].number != 0;
+        refused += answers[A].number > 1;
         *byte = kept;
     }
     return refused;
@@ -426,9 +461,83 @@ static void call(int version)
     measured->run(version, &in, &answers[version]);
 }
 
-static double better(double x, double y)
+/* ---- the columns: a version by both compilers, of which the better counts, or by one */
+
+enum { COLUMNS = 7 };
+
+static const int by_gcc[COLUMNS] = {A, B_GCC, C, D_GCC, E_GCC, F_GCC, G}, by_clang[COLUMNS] = {A, B_CLANG, C, D_CLANG, E_CLANG, F_CLANG, G};
+
+/* The time of a column; 0 where the workload has none. */
+static double column(const struct workload *w, const double *best, int k)
 {
-    return x < y ? x : y;
+    if (by_gcc[k] >= w->versions)
+        return 0;
+    return best[by_gcc[k]] < best[by_clang[k]] ? best[by_gcc[k]] : best[by_clang[k]];
+}
+
+/* The most that the library's time may be of a column's; 0 where there is no goal. What plain versions that check nothing do in one round is
+ * another job; beside decoded arrays there is no goal for verdicts. */
+static double goal(const struct workload *w, uint32_t rounds, int k)
+{
+    int verdict = w->versions == VERDICTS, one = verdict && rounds <= 1;
+    const double goals[COLUMNS] = {0, one ? 0 : 1, one ? 0 : 1, verdict ? 0 : 1.2, 1.1, one ? 1.2 : 0, one ? 1.2 : 0};
+    return goals[k];
+}
+
+static void print_row(const struct workload *w, int first, uint32_t size, const double *best)
+{
+    printf("| %s | %u %s | %llu | %u |", first ? w->name : "", size, w->unit, (unsigned long long)in.length, answers[A].count);
+    for (int k = 0; k < COLUMNS; k++) {
+        double time = column(w, best, k);
+        const char *compiler = by_gcc[k] == by_clang[k] ? "" : best[by_gcc[k]] < best[by_clang[k]] ? " (gcc)" : " (clang)";
+        if (time == 0)
+            printf(" |");
+        else
+            printf(" %.2f%s |", time * 1e6, compiler);
+    }
+    for (int k = 1; k < COLUMNS; k++)
+        if (column(w, best, k) == 0)
+            printf(" |");
+        else
+            printf(" %.2f |", best[A] / column(w, best, k));
+}
+
+/* Measures a workload at its sizes, and keeps the largest ratio to each column that is above its goal. */
+static void measure(const struct workload *w, double turn, int turns, double *above)
+{
+    double last[COLUMNS] = {0};
+    measured = w;
+    for (uint32_t part = 8; part >= 1; part /= 2) {
+        uint32_t size = (w->most + part - 1) / part;
+        double best[VERSIONS];
+        memset(&in.length, 0, sizeof in - offsetof(struct input, length));
+        w->make(&in, size);
+        compare(w);
+        least(w->versions, call, turn, turns, best);
+        print_row(w, part == 8, size, best);
+        if (last[0] == 0)
+            printf(" |\n");
+        else
+            printf(" %.2f, %.2f, %.2f |\n", best[A] / last[0], column(w, best, 1) / last[1], column(w, best, 3) / last[3]);
+        fflush(stdout);
+        for (int k = 0; k < COLUMNS; k++) {
+            last[k] = column(w, best, k);
+            double most = goal(w, answers[A].count, k), ratio = last[k] > 0 ? best[A] / last[k] : 0;
+            if (most > 0 && ratio > most && ratio > above[k])
+                above[k] = ratio;
+        }
+    }
+}
+
+/* The workloads with a ratio above its goal, with the largest. */
+static void list_above(const struct workload *w, const double *above, char *list, size_t room)
+{
+    int any = 0;
+    for (int k = 1; k < COLUMNS; k++) {
+        size_t used = strlen(list);
+        if (above[k] > 0)
+            snprintf(list + used, room - used, "%s%s%sa/%c %.2f", any ? ", " : *list ? "; " : "", any ? "" : w->name, any ? "" : ", ", 'a' + k, above[k]), any = 1;
+    }
 }
 
 int main(int argc, char **argv)
@@ -442,43 +551,23 @@ int main(int argc, char **argv)
         answers[v].room = malloc(ROOM * sizeof(uint64_t));
         answers[v].graph = malloc(MESSAGE);
     }
-    printf("| workload | size | bytes | rounds | (a) µs | (b) µs | (c) µs | (d) µs | a/b | a/c | a/d | growth of a, b, d |\n");
-    printf("|---|---|---|---|---|---|---|---|---|---|---|---|\n");
-    char above[4096] = "";
+    printf("| workload | size | bytes | rounds | (a) µs | (b) µs | (c) µs | (d) µs | (e) µs | (f) µs | (g) µs ");
+    printf("| a/b | a/c | a/d | a/e | a/f | a/g | growth of a, b, d |\n|---|---|---|---|---|---|---|---|---|---|---|---|---|---|---|---|---|---|\n");
+    static char list[8192];
     long refused = 0;
     for (size_t i = 0; i < sizeof table / sizeof *table; i++) {
         const struct workload *w = &table[i];
         if (!strstr(w->name, only))
             continue;
+        double above[COLUMNS] = {0};
         memset(&in.length, 0, sizeof in - offsetof(struct input, length));
-        if (w->check)
+        if (w->faults)
             refused += spoil(w);
-        double last[3] = {0, 0, 0};
-        for (uint32_t part = 8; part >= 1; part /= 2) {
-            uint32_t size = (w->most + part - 1) / part;
-            memset(&in.length, 0, sizeof in - offsetof(struct input, length));
-            w->make(&in, size);
-            compare(w);
-            double best[VERSIONS];
-            measured = w;
-            least(VERSIONS, call, turn, turns, best);
-            double b = better(best[B_GCC], best[B_CLANG]), d = better(best[D_GCC], best[D_CLANG]);
-            printf("| %s | %u %s | %llu | %u |", part == 8 ? w->name : "", size, w->unit, (unsigned long long)in.length,
-                   answers[A].count);
-            printf(" %.2f | %.2f (%s) | %.2f | %.2f (%s) |", best[A] * 1e6, b * 1e6, best[B_GCC] < best[B_CLANG] ? "gcc" : "clang", best[C] * 1e6, d * 1e6,
-                   best[D_GCC] < best[D_CLANG] ? "gcc" : "clang");
-            printf(" %.2f | %.2f | %.2f |", best[A] / b, best[A] / best[C], best[A] / d);
-            if (last[1] == 0)
-                printf(" |\n");
-            else
-                printf(" %.2f, %.2f, %.2f |\n", best[A] / last[0], b / last[1], d / last[2]);
-            last[0] = best[A], last[1] = b, last[2] = d;
-            fflush(stdout);
-            if (part == 1 && (best[A] > b || best[A] > best[C] || best[A] > 1.2 * d))
-                snprintf(above + strlen(above), sizeof above - strlen(above), "%s%s", *above ? "; " : "", w->name);
-        }
+        measure(w, turn, turns, above);
+        list_above(w, above, list, sizeof list);
     }
-    printf("\nAll versions gave the same answers; (a), (b) and (c) also on %ld messages with a fault. At the largest size, above 1.00 for a/b or a/c or above 1.20 for a/d: %s.\n",
-           refused, *above ? above : "none");
+    printf("\nAll versions gave the same answers; (a), (b) and (c), and of verdicts (a), (f) and (g), also on %ld messages with a fault.\n\n", refused);
+    printf("Goals, at every size: rounds, checks and the builder at most 1.00 of (b) and (c) and 1.20 of (d); verdicts of more than one round 1.00 of (b) "
+           "and (c), of one round 1.20 of (f) and (g); 1.10 of (e). Above, with the largest ratio: %s.\n", *list ? list : "none");
     return 0;
 }

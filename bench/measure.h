@@ -4,7 +4,7 @@
 
 #include <time.h>
 
-enum { MOST_VERSIONS = 8 };
+enum { MOST_VERSIONS = 16 };
 
 static double seconds(void)
 {

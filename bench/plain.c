@@ -1,5 +1,6 @@
 /* (b): plain C over the message bytes, written for speed. The checks answer as the paper says; the rounds, the builder and the
- * verdict take messages that were accepted, and check nothing. P is the prefix of this build. */
+ * verdict take messages that were accepted, and check nothing. P is the prefix of this build. With SKIPPING it is (e), which differs
+ * in the rounds alone. */
 #include "plain.h"
 
 DECLARE(P)
@@ -140,6 +141,9 @@ u32 PASTE(P, formula_check)(const u8 *s, u64 length, u32 propositions)
     return 0;
 }
 
+#ifdef SKIPPING
+#include "skipping.h"
+#else
 u32 PASTE(P, rounds)(const u8 *s, u64 length, u32 budget, u64 *room, u32 *count)
 {
     (void)length;
@@ -185,7 +189,10 @@ u32 PASTE(P, rounds)(const u8 *s, u64 length, u32 budget, u64 *room, u32 *count)
     }
 }
 
-#define OPEN(model, s, steps) const u8 *labels = (model) + 13, *transitions = labels + 4 * (s)
+#endif
+
+#define DECODE(model, s, steps)
+#define OPEN(model, s) const u8 *labels = (model) + 13, *transitions = labels + 4 * (s)
 #define LABEL(a) four(labels + 4 * (a))
 #define FROM(t) two(transitions + 10 * (t))
 #define WEIGHT(t) four(transitions + 10 * (t) + 2)

@@ -57,7 +57,8 @@ static inline void in_place(u64 *room, u32 n, const u64 *x)
     }
 }
 
-/* The same shape for every version. The checks return the paper's number. Rounds, builder and verdict take accepted messages. */
+/* The same shape for every version. The checks return the paper's number. Rounds, builder and verdict take accepted messages; the checked
+ * verdict takes anything, refuses what the library refuses, and writes nothing then. */
 #define DECLARE(p)                                                                                                       \
     u32 PASTE(p, graph_check)(const u8 *s, u64 length);                                                                  \
     u32 PASTE(p, model_check)(const u8 *s, u64 length);                                                                  \
@@ -65,6 +66,8 @@ static inline void in_place(u64 *room, u32 n, const u64 *x)
     u32 PASTE(p, rounds)(const u8 *s, u64 length, u32 budget, u64 *room, u32 *count);                                    \
     u64 PASTE(p, build)(const u8 *model, u64 model_length, const u8 *formula, u64 formula_length, u8 *graph);            \
     u32 PASTE(p, verdict)(const u8 *model, u64 model_length, const u8 *formula, u64 formula_length, u32 state, u32 budget, \
-                          u8 *graph, u64 *room, u32 *count, u32 *yes);
+                          u8 *graph, u64 *room, u32 *count, u32 *yes);                                                   \
+    u32 PASTE(p, checked_verdict)(const u8 *model, u64 model_length, const u8 *formula, u64 formula_length, u32 state,   \
+                                  u32 budget, u8 *graph, u64 bytes, u64 *room, u64 values, u32 *count, u32 *yes);
 
 #endif

@@ -1,5 +1,6 @@
 //! (c): the same as plain.c in Rust: plain loops over the message bytes, written for speed. The checks answer as the paper says
-//! and read safely; the rounds, the builder and the verdict take messages that were accepted, and check nothing.
+//! and read safely; the rounds, the builder and the verdict take messages that were accepted, and check nothing; the checked verdict (g)
+//! takes anything, and refuses what the library refuses.
 #![no_std]
 
 use core::slice::from_raw_parts;
@@ -285,12 +286,12 @@ pub unsafe extern "C" fn rust_rounds(s: *const u8, _length: u64, budget: u32, ro
     }
 }
 
-#[no_mangle]
-pub unsafe extern "C" fn rust_build(model: *const u8, model_length: u64, formula: *const u8, _formula_length: u64, graph: *mut u8) -> u64 {
-    let (s, f) = (two(model.add(6)), *formula.add(6) as u32);
-    let labels = model.add(13);
+/// Where each state's transitions start.
+#[inline(always)]
+unsafe fn starts(model: *const u8, model_length: u64) -> [*const u8; 257] {
+    let s = two(model.add(6));
     let last = model.add(model_length as usize);
-    let mut t = labels.add(4 * s as usize);
+    let mut t = model.add(13 + 4 * s as usize);
     let mut first = [t; 257];
     for a in 0..s {
         *first.get_unchecked_mut(a as usize) = t;
@@ -299,6 +300,17 @@ pub unsafe extern "C" fn rust_build(model: *const u8, model_length: u64, formula
         }
     }
     *first.get_unchecked_mut(s as usize) = last;
+    first
+}
+
+#[no_mangle]
+pub unsafe extern "C" fn rust_build(model: *const u8, model_length: u64, formula: *const u8, _formula_length: u64, graph: *mut u8) -> u64 {
+    write_graph(model, formula, &starts(model, model_length), graph)
+}
+
+unsafe fn write_graph(model: *const u8, formula: *const u8, first: &[*const u8; 257], graph: *mut u8) -> u64 {
+    let (s, f) = (two(model.add(6)), *formula.add(6) as u32);
+    let labels = model.add(13);
     let steps = |a: u32| (*first.get_unchecked(a as usize), *first.get_unchecked(a as usize + 1));
 
     let (mut u, mut h) = (0, 0);
@@ -472,6 +484,100 @@ pub unsafe extern "C" fn rust_verdict(
     let size = rust_build(model, model_length, formula, formula_length, graph);
     let number = rust_rounds(graph, size, budget, room, count);
     let root = state + two(model.add(6)) * (*formula.add(6) as u32 - 1);
+    *yes = (number == 0 && *room.add(root as usize) == 0) as u32;
+    number
+}
+
+/// Whether a graph passes a limit (8) or the lent memory (9); worked out before anything is written. Only an A until can have a hyperedge
+/// with too many targets: 65,535 transitions and one.
+unsafe fn sized(model: *const u8, formula: *const u8, first: &[*const u8; 257], bytes: u64, values: u64) -> u32 {
+    let (s, f) = (two(model.add(6)) as u64, *formula.add(6) as u64);
+    let labels = from_raw_parts(model.add(13), 4 * s as usize);
+    let steps = from_raw_parts(first[0], 10 * four(model.add(9)) as usize);
+    let (count, mut alive, mut longest) = (steps.len() as u64 / 10, 0, 0);
+    for ends in first.get_unchecked(..s as usize + 1).windows(2) {
+        let many = ends[1].offset_from(ends[0]) as u64 / 10;
+        alive += (many != 0) as u64;
+        longest = many.max(longest);
+    }
+    let (mut u, mut hypers, mut targets, mut most) = (0, 0, 0, 0);
+    for row in from_raw_parts(formula.add(7), 8 * f as usize).chunks_exact(8) {
+        let (left, right, bound) = (row[1] & 31, row[2] as u32, number4(&row[4..8]));
+        let (h, t) = match row[0] {
+            0 => (s, 0),
+            1 => (0, 0),
+            2 | 3 => {
+                let own = labels.chunks_exact(4).map(|label| (number4(label) >> left & 1) as u64).sum::<u64>();
+                (if row[0] == 2 { own } else { s - own }, 0)
+            }
+            4 => (s, 2 * s),
+            5 => (2 * s, 2 * s),
+            8 => {
+                u += 1;
+                (s + count, s + 2 * count)
+            }
+            9 => {
+                u += 1;
+                most = 1 + longest;
+                (s + alive, s + alive + count)
+            }
+            operator => {
+                let near = |step: &&[u8]| number4(&step[2..6]) <= bound;
+                let asked = |step: &&[u8]| near(step) && number2(&step[6..8]) == right;
+                let all = steps.chunks_exact(10);
+                let own = if operator < 10 { all.filter(near).count() } else { all.filter(asked).count() } as u64;
+                (if operator % 2 == 0 { own } else { s }, own)
+            }
+        };
+        hypers += h;
+        targets += t;
+    }
+    let nodes = s * (f + u);
+    if nodes > 4096 || hypers > 65535 || targets > 262144 || most > 65535 {
+        8
+    } else if 14 + 4 * hypers + 6 * targets + 8 * s * u > bytes || 2 * nodes > values {
+        9
+    } else {
+        0
+    }
+}
+
+/// (g), what the library does: model, formula, state, size and rooms are checked, in this order; what was built is not.
+#[no_mangle]
+pub unsafe extern "C" fn rust_checked_verdict(
+    model: *const u8,
+    model_length: u64,
+    formula: *const u8,
+    formula_length: u64,
+    state: u32,
+    budget: u32,
+    graph: *mut u8,
+    bytes: u64,
+    room: *mut u64,
+    values: u64,
+    count: *mut u32,
+    yes: *mut u32,
+) -> u32 {
+    let fault = rust_model_check(model, model_length);
+    if fault != 0 {
+        return fault;
+    }
+    let fault = rust_formula_check(formula, formula_length, *model.add(8) as u32);
+    if fault != 0 {
+        return fault;
+    }
+    let s = two(model.add(6));
+    if state >= s {
+        return 6;
+    }
+    let first = starts(model, model_length);
+    let fault = sized(model, formula, &first, bytes, values);
+    if fault != 0 {
+        return fault;
+    }
+    let size = write_graph(model, formula, &first, graph);
+    let number = rust_rounds(graph, size, budget, room, count);
+    let root = state + s * (*formula.add(6) as u32 - 1);
     *yes = (number == 0 && *room.add(root as usize) == 0) as u32;
     number
 }

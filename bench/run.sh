@@ -1,6 +1,6 @@
 #!/usr/bin/env bash
-# Measures the library (a) beside plain C (b), plain Rust (c) and C that decodes first (d), on the same inputs in one run, compares
-# all answers, and writes bench/RESULTS.md and its pictures. Words: how many seconds a turn takes, how many turns (the least counts),
+# Measures the library (a) beside plain C (b), plain Rust (c), C that decodes first (d), plain C that skips as the library does (e), and
+# plain C and Rust that check as it does (f, g), on the same inputs in one run, compares all answers, and writes bench/RESULTS.md and its pictures. Words: how many seconds a turn takes, how many turns (the least counts),
 # and a part of a workload's name to run only that (then RESULTS.md stays). See bench/README.md.
 set -euo pipefail
 root=$(cd "$(dirname "$0")/.." && pwd -P)
@@ -27,23 +27,28 @@ else
     (cd "$root" && rt check otzarvim) >"$out/log" 2>&1 || { cat "$out/log"; die "the program is not proved"; }
 fi
 
+# Compiles a plain version by gcc and by clang, whose object and prefix have the other name. Functions start at multiples of 64 bytes: else
+# what is linked before them moves them, and by that alone verdicts in plain Rust took up to 1.5 times as long on an Arm core.
+both() { # FOLDER GCC TRIPLE FILE OBJECT PREFIX MORE..
+    local folder=$1 compiler=$2 for=$3 file=$4 object=$5 prefix=$6
+    shift 6
+    set -- -std=gnu17 -O3 -falign-functions=64 -Wall -Wextra -Werror "$@" -c "$root/bench/$file.c"
+    $compiler "$@" -DP="$prefix" -o "$folder/$object.o"
+    "$kit_clang" --target="$for" "$@" -DP="${prefix/gcc/clang}" -o "$folder/${object/gcc/clang}.o"
+}
+
 # Builds the harness and the plain programs: where they run, their compilers, and the library.
 build() { # NAME GCC TRIPLE RUSTC LIBRARY
-    local dir=$out/$1
+    local dir=$out/$1 version
     mkdir -p "$dir"
-    for source in plain:gcc_ decoded:dgcc_; do
-        $2 -std=gnu17 -O3 -Wall -Wextra -Werror -DP=${source#*:} -c "$root/bench/${source%:*}.c" -o "$dir/${source#*:}.o"
-    done
-    for source in plain:clang_ decoded:dclang_; do
-        "$kit_clang" --target="$3" -std=gnu17 -O3 -Wall -Wextra -Werror -DP=${source#*:} -c "$root/bench/${source%:*}.c" -o "$dir/${source#*:}.o"
-    done
-    $4 -C opt-level=3 -C panic=abort -C relocation-model=pic --crate-type lib --emit obj "$root/bench/plain.rs" -o "$dir/rust_.o"
+    both "$dir" "$2" "$3" plain gcc_ gcc_
+    both "$dir" "$2" "$3" decoded dgcc_ dgcc_
+    both "$dir" "$2" "$3" plain sgcc_ sgcc_ -DSKIPPING
+    both "$dir" "$2" "$3" search search-gcc gcc_
+    both "$dir" "$2" "$3" claim claim-gcc gcc_
+    $4 -C opt-level=3 -C panic=abort -C relocation-model=pic -C llvm-args=-align-all-functions=6 --crate-type lib --emit obj "$root/bench/plain.rs" -o "$dir/rust_.o"
     $2 -std=gnu17 -O2 -Wall -Wextra -Werror -I"$root/include" "$root/bench/harness.c" "$dir"/*_.o "$5" -o "$dir/harness"
-    $2 -std=gnu17 -O3 -Wall -Wextra -Werror -DP=gcc_ -c "$root/bench/search.c" -o "$dir/search-gcc.o"
-    "$kit_clang" --target="$3" -std=gnu17 -O3 -Wall -Wextra -Werror -DP=clang_ -c "$root/bench/search.c" -o "$dir/search-clang.o"
     $2 -std=gnu17 -O2 -Wall -Wextra -Werror -I"$root/include" "$root/bench/searches.c" "$dir"/search-{gcc,clang}.o "$5" -o "$dir/searches"
-    $2 -std=gnu17 -O3 -Wall -Wextra -Werror -DP=gcc_ -c "$root/bench/claim.c" -o "$dir/claim-gcc.o"
-    "$kit_clang" --target="$3" -std=gnu17 -O3 -Wall -Wextra -Werror -DP=clang_ -c "$root/bench/claim.c" -o "$dir/claim-clang.o"
     $2 -std=gnu17 -O2 -Wall -Wextra -Werror -I"$root/include" "$root/bench/claims.c" "$dir"/claim-{gcc,clang}.o "$dir"/{gcc,clang}_.o "$5" -o "$dir/claims"
     for version in gcc_ clang_ rust_ dgcc_ dclang_; do
         $2 -std=gnu17 -O3 -Wall -Wextra -Werror -DP=$version "$root/bench/program.c" "$dir/$version.o" -o "$dir/program-$version"
@@ -83,16 +88,28 @@ gcc -std=gnu17 -O2 -Wall -Wextra -Werror "$root/bench/start.c" -o "$out/start"
 
 $gcc -std=gnu17 -O2 -Wall -Wextra -Werror -I"$root/include" "$root/bench/stack.c" "$target/lib/libotzarvim.a" -o "$out/stack"
 
-# An emulator takes ten times as long.
-if [ "$machine" = x86_64 ]; then turn=0.02 turns=7; else turn=0.005 turns=2; fi
+# What runs x86-64 code: the word `itself` or `emulator`, and the processor's name as that code sees it. An emulator takes ten times as long.
+$gcc -std=gnu17 -O2 -Wall -Wextra -Werror "$root/bench/where.c" -o "$out/where"
+where=$($run "$out/where")
+if [ "${where%% *}" = itself ]; then
+    turn=0.02 turns=7
+    ran="on this processor itself, without an emulator"
+    heading="x86-64, without an emulator: ${where#* }"
+else
+    turn=0.005 turns=2
+    emulator=${emulated#under }
+    [ "$machine" != x86_64 ] || emulator="one that the system hides"
+    ran="under an emulator ($emulator), which calls itself ${where#* }; no x86-64 processor ran it"
+    heading="x86-64, under an emulator ($emulator): these times say little about an x86-64 processor"
+fi
 processor=$(lscpu | sed -n 's/^Model name: *//p' | head -n 1)
 report=$out/RESULTS.md
 {
     cat <<END
 # Measured
 
-Written by \`bench/run.sh\`; bench/README.md says what is measured. Least time of a call, in microseconds; (b) and (d) are the better
-of gcc and clang, as named. Growth: how much longer than on half the size. \`bench/picture.py\` drew the pictures from the tables.
+Written by \`bench/run.sh\`; bench/README.md says what is measured. Least time of a call, in microseconds; (b), (d), (e) and (f) are the
+better of gcc and clang, as named. Growth: how much longer than on half the size. \`bench/picture.py\` drew the pictures from the tables.
 
 ![The library's time divided by that of other versions, a row for each workload](ratios.svg)
 
@@ -100,13 +117,10 @@ of gcc and clang, as named. Growth: how much longer than on half the size. \`ben
 
 - Kit: \`$(rt version)\`
 - Processor: $machine, $processor
+- x86-64 code ran $ran
 - Compilers: $($gcc --version | head -n 1); $("$kit_clang" --version | head -n 1); $($rustc --version), all at -O3
 END
-    if [ "$machine" = x86_64 ]; then
-        printf '\n## x86-64\n\n'
-    else
-        printf '\n## x86-64, under an emulator (%s): these times say little about an x86-64 processor\n\n' "${emulated#under }"
-    fi
+    printf '\n## %s\n\n' "$heading"
     $run "$out/x86_64/harness" "${1:-$turn}" "${2:-$turns}" "${3:-}"
     searches "${1:-$turn}" "${2:-$turns}" "${3:-}" $run "$out/x86_64/searches"
     claims "${1:-$turn}" "${2:-$turns}" "${3:-}" $run "$out/x86_64/claims"
