@@ -199,6 +199,25 @@ class Files(Case):
         self.otz("compile", self.write("both.otz", text), "-o", again)
         self.assertTrue(out.read_bytes().startswith(again.read_bytes()))
 
+    def test_actions_come_back_as_numbers(self):
+        path, out = self.write("m.otz", "a -> b 3 #go\nb -> a 2\nb -> b 1 #300\n"), self.folder / "m.bin"
+        self.otz("compile", path, "EX#go<=3 AX#255 true", "-o", out)
+        _, text, _ = self.otz("show", out)
+        self.assertEqual(text, "state s0\nstate s1\ns0 -> s1 3 #1\ns1 -> s0 2\ns1 -> s1 1 #300\n# formula: EX#1<=3 AX#255 true\n")
+        again = self.folder / "again.bin"
+        self.otz("compile", self.write("shown.otz", text), "EX#1<=3 AX#255 true", "-o", again)
+        self.assertEqual(again.read_bytes(), out.read_bytes())
+
+    def test_the_programs_text_is_told_in_the_names_of_actions(self):
+        path = self.write("m.otz", "a -> b 3 #go\nb -> a 2 #back\n")
+        for asked, plain in (("EX#back a", "EX#2 p0"), ("AX#go<=3 b", "AX#1<=3 p0"), ("EX#9 true", "EX#9 true")):
+            status, out, _ = self.otz("ask", path, asked, "--program", FAKE)
+            self.assertEqual((status, out.splitlines()[:2]), (0, [f"formula  {asked}", f"message  {plain}"]))
+        canned = self.script("other", "#!/bin/sh\ncat >/dev/null\nprintf 'EX#1 p0\\nrounds 1\\n0 no\\n1 no\\n'\n")
+        status, _, err = self.otz("ask", path, "EX#back a", "--program", canned)
+        self.assertEqual(status, 2)
+        self.assertIn("answered another formula: EX#1 p0", err)
+
     def test_damaged_bytes_are_marked(self):
         names, out = self.write("m.otz", "cold -> hot 12 #warm\nhot -> cold 3\ncold: idle\n"), self.folder / "m.bin"
         self.otz("compile", names, "AX#warm idle", "-o", out)

@@ -139,6 +139,15 @@ class Searching(Case):
             ["cold", "30"], ["hot", "no bound will do"], ["speculated", "no bound will do"], ["guard_failed", "42"], ["interpreted", "0"], ["retired", "no bound will do"],
         ])
 
+    def test_of_an_action_its_own_weights_decide(self):
+        model = self.write("m.otz", "a -> b 5 #go\na -> b 2\na -> c 7 #go\na -> c 9 #stay\nb: goal\n")
+        for formula, said in (
+            ("EX<=? goal", "2"), ("EX#go<=? goal", "5"), ("EX#stay<=? goal", "no bound will do"), ("EX#0<=? goal", "2"), ("EX#77<=? goal", "no bound will do"),
+            ("AX<=? goal", "at most 6"), ("AX#go<=? goal", "at most 6"), ("AX#stay<=? goal", "at most 8"), ("AX#0<=? goal", "any bound will do"), ("AX#77<=? goal", "any bound will do"),
+        ):
+            status, out, err = self.otz("least", model, formula, "--state", "a", "--by", "library")
+            self.assertEqual((status, out.splitlines()[0], out.splitlines()[-1], err), (0, f"formula  {formula}", f"a  {said}", ""))
+
     def test_mistakes(self):
         model = self.write("m.otz", M)
         for formula, said in (

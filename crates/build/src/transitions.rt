@@ -16,13 +16,10 @@ use wire::Width;
 fn bit(label: u32, i: u32) -> bool
     ensures { λ r. ⌜ r ≡ model.bit label i ⌝ }
 {
-    let mut rest = label;
-    let mut k = i;
-    while 0 < k {
-        rest /= 2;
-        k -= 1;
+    if 32 <= i {
+        return false;
     }
-    rest % 2 == 1
+    (label >> i) % 2 == 1
 }
 
 // Whether proposition i holds in state a.

@@ -45,6 +45,9 @@ module _ {claims : List ℕ} {h : Hyper} {claimed given : ℕ} (r : HyperRead cl
   pub hyper-more : claimed < given → ¬ HyperBacks (claimedValue claims) (claimedRank claims) h
   hyper-more l b = omega (arith, source-stored, r .given-is, ap stored (b .exact))
 
+  pub hyper-other : ¬ (given ≡ claimed) → ¬ HyperBacks (claimedValue claims) (claimedRank claims) h
+  hyper-other n b = n (r .given-is ∙ ap stored (b .exact) ∙ source-stored)
+
   pub hyper-infinite : claimed ≡ infinite → ¬ HyperBacks (claimedValue claims) (claimedRank claims) h
   hyper-infinite e b = clash (b .settled) (ap finite (source-is ∙ meaning-infinite e))
 

@@ -518,6 +518,52 @@ fn clear(k: usize, words: &mut [u64])
     }
 }
 
+// Whether the hyperedge of k targets at a position backs its source. The checker asks more, in a function that it alone calls, so that the
+// compiler puts that into its loop.
+fn hyper_backs(s: &[u8], n: usize, claims: &[u8], k: u32, at: usize) -> bool
+    requires { ⌜ HyperOk (now s) n at ⌝ }
+    requires { ⌜ k ≡ number 2 (now s) (at + targetCountAt) ⌝ }
+    requires { ⌜ n * claimWidth ≤ length (now claims) ⌝ }
+    ensures { λ r. ⌜ (r ≡ true → HyperBacks (claimedValue (now (claims .entry))) (claimedRank (now (claims .entry))) (hyperLayout (now (s .entry)) n .item at))
+        × (r ≡ false → ¬ HyperBacks (claimedValue (now (claims .entry))) (claimedRank (now (claims .entry))) (hyperLayout (now (s .entry)) n .item at)) ⌝ }
+{
+    let source = wire::number_at(s, at, Width::Two) as usize;
+    let claimed = value_of(n, claims, source);
+    let targets = at + graph::HYPER;
+    let given = worst(s, n, claims, k, targets);
+    if given.0 != claimed {
+        return false;
+    }
+    if claimed == Value::INFINITE.0 {
+        return false;
+    }
+    let rank = rank_of(n, claims, source);
+    ranks_below(s, n, claims, rank, k, targets)
+}
+
+// Whether the cover edge at a position backs its source.
+fn cover_backs(s: &[u8], n: usize, claims: &[u8], at: usize) -> bool
+    requires { ⌜ CoverOk (now s) n at ⌝ }
+    requires { ⌜ n * claimWidth ≤ length (now claims) ⌝ }
+    ensures { λ r. ⌜ (r ≡ true → CoverBacks (claimedValue (now (claims .entry))) (claimedRank (now (claims .entry))) (coverLayout (now (s .entry)) n .item at))
+        × (r ≡ false → ¬ CoverBacks (claimedValue (now (claims .entry))) (claimedRank (now (claims .entry))) (coverLayout (now (s .entry)) n .item at)) ⌝ }
+{
+    let source = wire::number_at(s, at, Width::Two) as usize;
+    let bound = Bound::coded(wire::number_at(s, at + graph::COVER_BOUND_AT, Width::Four));
+    let target = wire::number_at(s, at + graph::COVER_TARGET_AT, Width::Two) as usize;
+    let reached = value_of(n, claims, target);
+    if !Value(reached).within(bound) {
+        return false;
+    }
+    let claimed = value_of(n, claims, source);
+    if claimed != 0 {
+        return false;
+    }
+    let rank = rank_of(n, claims, source);
+    let other = rank_of(n, claims, target);
+    other < rank
+}
+
 // Ranks the sources of hyperedges that back them, one after another; gives the next rank.
 fn rank_hypers(s: &[u8], n: usize, h: u32, given: u64, claims: &mut [u8]) -> u64
     requires { ⌜ Sound (hyperLayout (now s) n) h graphHeader ⌝ }
@@ -536,14 +582,10 @@ fn rank_hypers(s: &[u8], n: usize, h: u32, given: u64, claims: &mut [u8]) -> u64
         p += graph::HYPER + (k as usize) * graph::TARGET;
         i -= 1;
         if rank_of(n, claims, source) == UNRANKED {
-            match hyper_edge(s, n, claims, k, at) {
-                Edge::Backs => {
-                    let place = source * CLAIM + RANK_AT;
-                    wire::store_long(claims, place, next);
-                    next += 1;
-                }
-                Edge::Breaks => {}
-                Edge::Idle => {}
+            if hyper_backs(s, n, claims, k, at) {
+                let place = source * CLAIM + RANK_AT;
+                wire::store_long(claims, place, next);
+                next += 1;
             }
         }
     }
@@ -567,14 +609,10 @@ fn rank_covers(s: &[u8], n: usize, c: u32, middle: usize, given: u64, claims: &m
         p += graph::COVER;
         i -= 1;
         if rank_of(n, claims, source) == UNRANKED {
-            match cover_edge(s, n, claims, at) {
-                Edge::Backs => {
-                    let place = source * CLAIM + RANK_AT;
-                    wire::store_long(claims, place, next);
-                    next += 1;
-                }
-                Edge::Breaks => {}
-                Edge::Idle => {}
+            if cover_backs(s, n, claims, at) {
+                let place = source * CLAIM + RANK_AT;
+                wire::store_long(claims, place, next);
+                next += 1;
             }
         }
     }

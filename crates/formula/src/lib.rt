@@ -204,10 +204,10 @@ fn unused(offset: usize, fields: Fields) -> Field
     if all_zero(fields) {
         return Field::Number(0);
     }
-    let at = first_not_zero(fields);
+    let place = offset + first_not_zero(fields);
     Field::Refused(Fault {
         refusal: Refusal::Form,
-        offset: offset + at,
+        offset: place,
     })
 }
 
@@ -331,16 +331,9 @@ fn read_next(row: &[u8], offset: usize, operator: u32, place: u32, told: Fields)
     Judged::Fine(Row::Next(Quantifier::Every, Action::Any, left, within))
 }
 
-// What right names is below this: a row before this one, or, for EX and AX of an action, any action of a byte.
-fn right_limit(place: u32, operator: u32) -> u32
-    ensures { λ r. ⌜ r ≡ rows.rightLimit place operator ⌝ }
-{
-    if operator < 10 { place } else { 256 }
-}
-
-// The untils, and EX and AX of an action, use left, right and the bound.
-fn read_full(row: &[u8], offset: usize, operator: u32, place: u32, told: Fields) -> Judged
-    requires { ⌜ (offset + rowWidth < 2 ^ 64) × (8 ≤ operator) × (operator ≤ 11) × spare.Told (now row) told ⌝ }
+// The untils use left, right and the bound.
+fn read_until(row: &[u8], offset: usize, operator: u32, place: u32, told: Fields) -> Judged
+    requires { ⌜ (offset + rowWidth < 2 ^ 64) × (8 ≤ operator) × (operator ≤ 9) × spare.Told (now row) told ⌝ }
     ensures { λ r. ⌜ ((p : ℕ) → r ≡ answers.judged (m.fieldsFrom (now (row .entry)) 0 offset p place operator)) ⌝ }
 {
     let idle = unused(
@@ -359,7 +352,7 @@ fn read_full(row: &[u8], offset: usize, operator: u32, place: u32, told: Fields)
     let Field::Number(left) = first else {
         return Judged::Refused(first.fault());
     };
-    let second = named(row, offset, RIGHT_AT, right_limit(place, operator));
+    let second = named(row, offset, RIGHT_AT, place);
     let Field::Number(right) = second else {
         return Judged::Refused(second.fault());
     };
@@ -367,7 +360,48 @@ fn read_full(row: &[u8], offset: usize, operator: u32, place: u32, told: Fields)
     let Field::Number(bound) = last else {
         return Judged::Refused(last.fault());
     };
-    Judged::Fine(row_of(operator, left, right, bound))
+    let within = Bound::coded(bound);
+    if operator == 8 {
+        return Judged::Fine(Row::Until(Quantifier::Some, left, right, within));
+    }
+    Judged::Fine(Row::Until(Quantifier::Every, left, right, within))
+}
+
+// EX and AX of an action use them too; the action, in right, is any number of a byte.
+fn read_acting(row: &[u8], offset: usize, operator: u32, place: u32, told: Fields) -> Judged
+    requires { ⌜ (offset + rowWidth < 2 ^ 64) × (10 ≤ operator) × (operator ≤ 11) × spare.Told (now row) told ⌝ }
+    ensures { λ r. ⌜ ((p : ℕ) → r ≡ answers.judged (m.fieldsFrom (now (row .entry)) 0 offset p place operator)) ⌝ }
+{
+    let idle = unused(
+        offset,
+        Fields {
+            left: 0,
+            right: 0,
+            zero: told.zero,
+            bound: 0,
+        },
+    );
+    let Field::Number(_) = idle else {
+        return Judged::Refused(idle.fault());
+    };
+    let first = named(row, offset, LEFT_AT, place);
+    let Field::Number(left) = first else {
+        return Judged::Refused(first.fault());
+    };
+    let second = named(row, offset, RIGHT_AT, 256);
+    let Field::Number(right) = second else {
+        return Judged::Refused(second.fault());
+    };
+    let last = wire::read(row, BOUND_AT, Width::Four);
+    let Field::Number(bound) = last else {
+        return Judged::Refused(last.fault());
+    };
+    let within = Bound::coded(bound);
+    let only = Action::Only(right);
+    if operator == 10 {
+        return Judged::Fine(Row::Next(Quantifier::Some, only, left, within));
+    }
+    Judged::Fine(Row::Next(Quantifier::Every, only, left, within))
 }
 
 // A row that stands here in its message: its fields, and what they are by the kind of its operator. All are read before any is judged,
@@ -422,8 +456,11 @@ fn read_kind(row: &[u8], offset: usize, p: u32, place: u32, operator: u32, told:
     if operator < 8 {
         return read_next(row, offset, operator, place, told);
     }
+    if operator < 10 {
+        return read_until(row, offset, operator, place, told);
+    }
     if operator < 12 {
-        return read_full(row, offset, operator, place, told);
+        return read_acting(row, offset, operator, place, told);
     }
     Judged::Refused(Fault {
         refusal: Refusal::Form,

@@ -112,18 +112,18 @@ module _ (s : List ℕ) (n : ℕ) where
   pub targets-move : (st next : State) → one (targets s n) st ≡ good next → next .at ≡ st .at + targetWidth
   targets-move st next e = ap (λ (u : State). u .at) (sym (good-same (bind-good _ _ e .rest)))
 
-  -- the state past a good hyperedge or cover edge lies inside the message
-  pub hypers-stay : (st next : State) → one (hypers s n) st ≡ good next → (next .at ≤ length s) × (next .seen ≤ mostTargets)
+  -- the state past a good hyperedge or cover edge lies inside the message, and its source exists
+  pub hypers-stay : (st next : State) → one (hypers s n) st ≡ good next → (next .at ≤ length s) × (next .seen ≤ mostTargets) × (next .prev < n)
   hypers-stay st next e =
       let r = bind-good _ _ e in
       let h = hyper-good st (r .value) (r .first) in
-      (rw (← good-same (r .rest)) (h .inside), rw (← good-same (r .rest)) (h .few))
+      (rw (← good-same (r .rest)) (h .inside), rw (← good-same (r .rest)) (h .few), rw (← good-same (r .rest)) (h .named))
 
-  pub covers-stay : (st next : State) → one (covers s n) st ≡ good next → next .at ≤ length s
+  pub covers-stay : (st next : State) → one (covers s n) st ≡ good next → (next .at ≤ length s) × (next .prev < n)
   covers-stay st next e =
       let r = bind-good _ _ e in
       let c = cover-good st (r .value) (r .first) in
-      omega (arith, value-inside 2 s (st .at + coverTargetAt) (c .target-there), ap (λ (u : State). u .at) (good-same (r .rest)))
+      (omega (arith, value-inside 2 s (st .at + coverTargetAt) (c .target-there), ap (λ (u : State). u .at) (good-same (r .rest))), rw (← good-same (r .rest)) (c .named))
 
 -- the state past hyperedges has counted their targets
 seen-past : (s : List ℕ) (n : ℕ) (st : State) (hs : List Hyper) → past (hypers s n) st hs .seen ≡ st .seen + targetsOf hs

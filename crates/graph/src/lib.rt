@@ -128,8 +128,23 @@ fn target(s: &[u8], n: u32, st: State) -> Step
     })
 }
 
-// k targets, whose bytes fit.
+// k targets, whose bytes fit. The first is read before the loop: many hyperedges have no other.
 fn targets(s: &[u8], n: u32, k: u32, first: State) -> Step
+    requires { ⌜ first .at + k * targetWidth ≤ length (now s) ⌝ }
+    ensures { λ r. ⌜ r ≡ step (run (m.targets (now (s .entry)) n) k first) ⌝ }
+{
+    if k == 0 {
+        return Step::Next(first);
+    }
+    let read = target(s, n, first);
+    let Step::Next(next) = read else {
+        return read;
+    };
+    more_targets(s, n, k - 1, next)
+}
+
+// k targets more.
+fn more_targets(s: &[u8], n: u32, k: u32, first: State) -> Step
     requires { ⌜ first .at + k * targetWidth ≤ length (now s) ⌝ }
     ensures { λ r. ⌜ r ≡ step (run (m.targets (now (s .entry)) n) k first) ⌝ }
 {
@@ -146,23 +161,22 @@ fn targets(s: &[u8], n: u32, k: u32, first: State) -> Step
     Step::Next(st)
 }
 
-// One hyperedge: its fixed bytes fit, then its source and its count, then its targets.
+// One hyperedge: its count is read first, the last of its fixed bytes, so that all of them fit, and where the next one stands is known
+// early; then its source is judged, and its targets.
 fn hyper(s: &[u8], n: u32, st: State) -> Step
-    requires { ⌜ (st .at ≤ length (now s)) × (st .seen ≤ mostTargets) ⌝ }
+    requires { ⌜ (st .at ≤ length (now s)) × (st .seen ≤ mostTargets) × (st .prev ≤ n) ⌝ }
     ensures { λ r. ⌜ r ≡ step (one (m.hypers (now (s .entry)) n) st) ⌝ }
 {
     let at = st.at;
+    let count_at = at + TARGET_COUNT_AT;
+    let told = wire::read(s, count_at, Width::Two);
+    let Field::Number(count) = told else {
+        return Step::Refused(told.fault());
+    };
     let end = at + HYPER;
-    if s.len() < end {
-        return Step::Refused(wire::SHORT);
-    }
     let from = wire::read_source(&s[at..end], 0, n, st.prev, at);
     let Field::Number(source) = from else {
         return Step::Refused(from.fault());
-    };
-    let told = wire::read(&s[at..end], TARGET_COUNT_AT, Width::Two);
-    let Field::Number(count) = told else {
-        return Step::Refused(told.fault());
     };
     hyper_targets(s, n, st, source, count)
 }
@@ -208,7 +222,7 @@ fn hyper_targets(s: &[u8], n: u32, st: State, source: u32, count: u32) -> Step
 
 // k hyperedges.
 fn hypers(s: &[u8], n: u32, k: u32, first: State) -> Step
-    requires { ⌜ (first .at ≤ length (now s)) × (first .seen ≤ mostTargets) ⌝ }
+    requires { ⌜ (first .at ≤ length (now s)) × (first .seen ≤ mostTargets) × (first .prev ≤ n) ⌝ }
     ensures { λ r. ⌜ r ≡ step (run (m.hypers (now (s .entry)) n) k first) ⌝ }
 {
     let mut st = first;
@@ -226,7 +240,7 @@ fn hypers(s: &[u8], n: u32, k: u32, first: State) -> Step
 
 // One cover edge: its bytes fit, then its source and its target.
 fn cover(s: &[u8], n: u32, st: State) -> Step
-    requires { ⌜ st .at ≤ length (now s) ⌝ }
+    requires { ⌜ (st .at ≤ length (now s)) × (st .prev ≤ n) ⌝ }
     ensures { λ r. ⌜ r ≡ step (one (m.covers (now (s .entry)) n) st) ⌝ }
 {
     let at = st.at;
@@ -256,7 +270,7 @@ fn cover(s: &[u8], n: u32, st: State) -> Step
 
 // k cover edges.
 fn covers(s: &[u8], n: u32, k: u32, first: State) -> Step
-    requires { ⌜ first .at ≤ length (now s) ⌝ }
+    requires { ⌜ (first .at ≤ length (now s)) × (first .prev ≤ n) ⌝ }
     ensures { λ r. ⌜ r ≡ step (run (m.covers (now (s .entry)) n) k first) ⌝ }
 {
     let mut st = first;

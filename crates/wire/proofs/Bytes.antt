@@ -6,7 +6,7 @@ use lib.ListN.{length, getD, take, drop, set, length-append, length-take, length
 use lib.Seq.{take-set-le, take-suc, drop-cons, drop-set-lt, getD-take, getD-drop, getD-at, getD-set-same}
 use lib.Dec.{ltb}
 use borrow.Author.Tests.{ltb-true, ltb-false}
-use native.Mathlib.Nat.{pow-suc, add-suc, add-zero, not-suc-le-zero}
+use native.Mathlib.Nat.{pow-suc, add-suc, add-zero, add-assoc, mul-assoc, not-suc-le-zero}
 use native.Mathlib.Numerals.{add-one, sub-one}
 use native.Mathlib.Omega.{arith}
 use Rattle.lists.proofs.Tests.{by-test}
@@ -27,6 +27,13 @@ number-below (suc k) s at h = simp pow-suc (omega (arith, number-below k s at h,
 pub number-more : (k : ℕ) (s : List ℕ) (at : ℕ) → number (k + 1) s at ≡ number k s at * 256 + getD s (at + k) 0
 unfolding number
 number-more k s at = rw add-one
+
+-- j bytes and k behind them
+pub number-split : (j k : ℕ) (s : List ℕ) (at : ℕ) → number (j + k) s at ≡ number j s at * 256 ^ k + number k s (at + j)
+unfolding number
+number-split j zero s at = rw (add-zero j) (omega arith)
+number-split j (suc k) s at =
+    rw (add-suc, pow-suc, ← mul-assoc, add-assoc) (omega (arith, number-split j k s at))
 
 -- the bytes of a number make the number, wherever they stand
 pub number-bytes : (k n : ℕ) (p r : List ℕ) → n < 256 ^ k → number k (p ++ bytes k n ++ r) (length p) ≡ n

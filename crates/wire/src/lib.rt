@@ -30,8 +30,10 @@ impl Width {
     }
 }
 
-// How many bytes a number of 64 bits has.
+// How many bytes a number of 64 bits has, and half of it.
 pub const LONG: usize = 8;
+
+const HALF: usize = 4;
 
 // What reading a field finds: its number, or its fault.
 pub enum Field {
@@ -113,18 +115,15 @@ pub fn number_at(s: &[u8], at: usize, width: Width) -> u32
     n
 }
 
-// The number of a field of 8 bytes that is known to fit. Numbers of 4 bytes have a function of their own, so that they need no wider sum.
+// The number of a field of 8 bytes that is known to fit: two numbers of 4 bytes, each of which the compiler makes one load.
 pub fn long_at(s: &[u8], at: usize) -> u64
     requires { ⌜ at + longWidth ≤ length (now s) ⌝ }
     ensures { λ r. ⌜ r ≡ number longWidth (now (s .entry)) at ⌝ }
 {
-    let mut n: u64 = 0;
-    let mut i = 0;
-    while i < LONG {
-        n = n * 256 + (s[at + i] as u64);
-        i += 1;
-    }
-    n
+    let behind = at + HALF;
+    let high = number_at(s, at, Width::Four) as u64;
+    let low = number_at(s, behind, Width::Four) as u64;
+    high * 4294967296 + low
 }
 
 // The field at a position. The last position where one fits does not depend on this one, so a loop needs a single test for each.
@@ -184,25 +183,31 @@ pub fn read_below(s: &[u8], at: usize, width: Width, limit: u64, fault: Fault) -
     field
 }
 
-// A source, one of n nodes or states and not below the one before it, that stands here in its message.
+// A source, one of n nodes or states and not below the one before it, that stands here in its message. How far it is above the one
+// before it, which is at most n, tells both in one test.
 pub fn read_source(s: &[u8], at: usize, n: u32, prev: u32, offset: usize) -> Field
+    requires { ⌜ prev ≤ n ⌝ }
     ensures { λ r. ⌜ r ≡ found (sourceFrom (now (s .entry)) at n prev offset) ⌝ }
 {
-    let name = Fault {
-        refusal: Refusal::Name,
-        offset,
-    };
-    let field = read_below(s, at, Width::Two, n as u64, name);
+    let field = read(s, at, Width::Two);
     let Field::Number(source) = field else {
         return field;
     };
-    if source < prev {
+    let above = std::num::wrapping_sub_u32(source, prev);
+    let room = n - prev;
+    if above < room {
+        return field;
+    }
+    if n <= source {
         return Field::Refused(Fault {
-            refusal: Refusal::Order,
+            refusal: Refusal::Name,
             offset,
         });
     }
-    field
+    Field::Refused(Fault {
+        refusal: Refusal::Order,
+        offset,
+    })
 }
 
 // The start of a message: enough bytes for its header, its length field, version and kind.

@@ -41,15 +41,21 @@ read-next-requires c κs = search needs
 returns-4 : tie.Need-returns-4
 returns-4 c = c .read-next .ensures _ ∙ known (c .before .before .before .before .before) (omega arith)
 
-read-full-requires : tie.Need-read-full-requires
-read-full-requires c κs = search needs
+read-until-requires : tie.Need-read-until-requires
+read-until-requires c κs = search needs
 
 returns-5 : tie.Need-returns-5
-returns-5 c = c .read-full .ensures _ ∙ known (c .before .before .before .before .before .before) (omega arith)
+returns-5 c = c .read-until .ensures _ ∙ known (c .before .before .before .before .before .before) (omega arith)
+
+read-acting-requires : tie.Need-read-acting-requires
+read-acting-requires c κs = search needs
 
 returns-6 : tie.Need-returns-6
+returns-6 c = c .read-acting .ensures _ ∙ known (c .before .before .before .before .before .before .before) (omega arith)
+
+returns-7 : tie.Need-returns-7
 unfolding rowFrom judged
-returns-6 c = simp (reading, c .before .before .before .before .before .pre .1, lt-leb _ 11 (c .if5 .left))
+returns-7 c = simp (reading, c .before .before .before .before .before .before .pre .1, lt-leb _ 11 (c .if6 .left))
 
 pub read-kind-spec : {M : Type 1} → statement M
 read-kind-spec =
@@ -63,6 +69,8 @@ read-kind-spec =
     returns-3
     read-next-requires
     returns-4
-    read-full-requires
+    read-until-requires
     returns-5
-    returns-6)
+    read-acting-requires
+    returns-6
+    returns-7)

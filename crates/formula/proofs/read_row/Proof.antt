@@ -1,7 +1,7 @@
 -- `formula::read_row` meets its contract: the bytes of a row fit, so each field is there, and its kind judges them.
 use Prim.Native.Nat.{ℕ, _+_, _≤_}
 use mathlib.Core.List.{List}
-use mathlib.Core.Path.{_≡_, sym, _∙_}
+use mathlib.Core.Path.{_≡_}
 use native.Mathlib.Omega.{arith}
 use lib.ListN.{length}
 use borrow.Author.Needs.{needs}
@@ -11,6 +11,7 @@ use Rattle.wire.specs.declared.Field.{Field}
 use Rattle.wire.specs.declared.Field.the-variants.{Number, Refused}
 use Rattle.wire.specs.Field.{fieldAt}
 use Rattle.wire.proofs.Fields.{field-value}
+use Rattle.formula.specs.Format.{leftAt, rightAt, zeroAt, boundAt}
 use Rattle.formula.proofs.read_row.Statement.{statement}
 use Rattle.formula.proofs.read_row.Tie as tie
 
@@ -55,7 +56,7 @@ returns-2 : tie.Need-returns-2
 returns-2 c =
     let r = c .before .before .before in
     let s = r .before .before .before .before .before .before in
-    never-short 1 _ 1 (omega (arith, s .pre .1)) (r .read2 .ensures) (c .before .enum-told2 .given .1)
+    never-short 1 _ leftAt (omega (arith, s .pre .1)) (r .read2 .ensures) (c .before .enum-told2 .given .1)
 
 read-requires-3 : tie.Need-read-requires-3
 read-requires-3 c κs = search needs
@@ -73,7 +74,7 @@ returns-3 : tie.Need-returns-3
 returns-3 c =
     let r = c .before .before .before in
     let s = r .before .before .before .before .before .before .before .before .before .before in
-    never-short 1 _ 2 (omega (arith, s .pre .1)) (r .read3 .ensures) (c .before .enum-told3 .given .1)
+    never-short 1 _ rightAt (omega (arith, s .pre .1)) (r .read3 .ensures) (c .before .enum-told3 .given .1)
 
 read-requires-4 : tie.Need-read-requires-4
 read-requires-4 c κs = search needs
@@ -91,7 +92,7 @@ returns-4 : tie.Need-returns-4
 returns-4 c =
     let r = c .before .before .before in
     let s = r .before .before .before .before .before .before .before .before .before .before .before .before .before .before in
-    never-short 1 _ 3 (omega (arith, s .pre .1)) (r .read4 .ensures) (c .before .enum-told4 .given .1)
+    never-short 1 _ zeroAt (omega (arith, s .pre .1)) (r .read4 .ensures) (c .before .enum-told4 .given .1)
 
 read-requires-5 : tie.Need-read-requires-5
 read-requires-5 c κs = search needs
@@ -109,7 +110,7 @@ returns-5 : tie.Need-returns-5
 returns-5 c =
     let r = c .before .before .before in
     let s = r .before .before .before .before .before .before .before .before .before .before .before .before .before .before .before .before .before .before in
-    never-short 4 _ 4 (omega (arith, s .pre .1)) (r .read5 .ensures) (c .before .enum-told5 .given .1)
+    never-short 4 _ boundAt (omega (arith, s .pre .1)) (r .read5 .ensures) (c .before .enum-told5 .given .1)
 
 read-kind-requires : tie.Need-read-kind-requires
 read-kind-requires c κs =

@@ -25,8 +25,8 @@ returns c =
 first-not-zero-requires : tie.Need-first-not-zero-requires
 first-not-zero-requires c κs = search needs
 
-add-t6 : tie.Need-add-t6
-add-t6 c = search needs
+add-place : tie.Need-add-place
+add-place c = search needs
 
 returns-2 : tie.Need-returns-2
 returns-2 c =
@@ -35,4 +35,4 @@ returns-2 c =
 
 pub unused-spec : {M : Type 1} → statement M
 unused-spec =
-    tie.close (tie.spec all-zero-requires returns first-not-zero-requires add-t6 returns-2)
+    tie.close (tie.spec all-zero-requires returns first-not-zero-requires add-place returns-2)

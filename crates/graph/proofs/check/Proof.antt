@@ -66,7 +66,7 @@ returns c =
     c .enum-told .given .1 ∙ simp (reading, refused)
 
 hypers-requires : tie.Need-hypers-requires
-hypers-requires c κs = (headed c, omega arith)
+hypers-requires c κs = (headed c, omega arith, omega arith)
 
 enum-known-st : tie.Need-enum-known-st
 enum-known-st c = search needs
@@ -83,7 +83,7 @@ returns-2 c =
 covers-requires : tie.Need-covers-requires
 covers-requires c κs =
     let s = now (after-head c .before .before .before .before .args .s) in
-    run-keeps _ (λ (st : State). st .at ≤ length s) (λ st next e. hypers-stay _ _ st next e .0) _ _ _ (headed (c .before .before .before .before)) (hypers-next c)
+    (run-keeps _ (λ (st : State). st .at ≤ length s) (λ st next e. hypers-stay _ _ st next e .0) _ _ _ (headed (c .before .before .before .before)) (hypers-next c), omega arith)
 
 enum-known-st-2 : tie.Need-enum-known-st-2
 enum-known-st-2 c = search needs

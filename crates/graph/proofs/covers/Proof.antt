@@ -1,4 +1,4 @@
--- `graph::covers` meets its contract: the run of the i cover edges that are left is the whole run.
+-- `graph::covers` meets its contract: the source before is at most n, and the run of the i cover edges that are left is the whole run.
 use Prim.Native.Nat.{_≤_}
 use mathlib.Core.Path.{_≡_, refl}
 use lib.ListN.{length}
@@ -14,16 +14,16 @@ use Rattle.graph.proofs.covers.Statement.{statement}
 use Rattle.graph.proofs.covers.Tie as tie
 
 abbrev Inv-loop : tie.InvT-loop
-Inv-loop s n k st₀ i₀ st i = (st .at ≤ length s) × (step (run (m.covers s n) i st) ≡ step (run (m.covers s n) k st₀))
+Inv-loop s n k st₀ i₀ st i = (st .at ≤ length s) × (st .prev ≤ n) × (step (run (m.covers s n) i st) ≡ step (run (m.covers s n) k st₀))
 
 abbrev μ-loop : tie.MeasureT-loop
 μ-loop s n k st₀ i₀ st i = i
 
 loop-holds : tie.Need-loop-holds Inv-loop μ-loop
-loop-holds c = (omega arith, refl)
+loop-holds c = let p = c .before .pre in (p .0, p .1, refl)
 
 cover-requires : tie.Need-cover-requires Inv-loop μ-loop
-cover-requires c κs = omega arith
+cover-requires c κs = let p = c .before .loop .inv in (p .0, p .1)
 
 enum-known-read : tie.Need-enum-known-read Inv-loop μ-loop
 enum-known-read c = search needs
@@ -32,7 +32,7 @@ enum-told : tie.Need-enum-told Inv-loop μ-loop
 enum-told c = search needs
 
 returns : tie.Need-returns Inv-loop μ-loop
-returns c = turn-refused _ _ _ _ (c .before .before .before .before .loop .inv .1) (omega arith) (c .before .before .cover .ensures) (c .enum-told .given .1)
+returns c = turn-refused _ _ _ _ (c .before .before .before .before .loop .inv .2) (omega arith) (c .before .before .cover .ensures) (c .enum-told .given .1)
 
 sub-i : tie.Need-sub-i Inv-loop μ-loop
 sub-i c = omega arith
@@ -43,13 +43,15 @@ loop-less c = omega arith
 loop-again : tie.Need-loop-again Inv-loop μ-loop
 loop-again c =
     let t = c .before .before .before in
-    let is = c .before .read .given .1 in (
-      covers-stay _ _ _ _ (step-next _ (by (t .cover .ensures) is)),
-      turn-next _ _ _ _ (t .before .before .loop .inv .1) (omega arith) (t .cover .ensures) is,
+    let is = c .before .read .given .1 in
+    let stay = covers-stay _ _ _ _ (step-next _ (by (t .cover .ensures) is)) in (
+      stay .0,
+      omega (arith, stay .1),
+      turn-next _ _ _ _ (t .before .before .loop .inv .2) (omega arith) (t .cover .ensures) is,
     )
 
 returns-2 : tie.Need-returns-2 Inv-loop μ-loop
-returns-2 c = turn-none _ _ _ _ (c .before .loop .inv .1) (omega arith)
+returns-2 c = turn-none _ _ _ _ (c .before .loop .inv .2) (omega arith)
 
 pub covers-spec : {M : Type 1} → statement M
 covers-spec =

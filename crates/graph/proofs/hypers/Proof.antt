@@ -1,4 +1,4 @@
--- `graph::hypers` meets its contract: the run of the i hyperedges that are left is the whole run.
+-- `graph::hypers` meets its contract: the source before is at most n, and the run of the i hyperedges that are left is the whole run.
 use Prim.Native.Nat.{_≤_}
 use mathlib.Core.Path.{_≡_, refl}
 use lib.ListN.{length}
@@ -15,16 +15,17 @@ use Rattle.graph.proofs.hypers.Statement.{statement}
 use Rattle.graph.proofs.hypers.Tie as tie
 
 abbrev Inv-loop : tie.InvT-loop
-Inv-loop s n k st₀ i₀ st i = (st .at ≤ length s) × (st .seen ≤ mostTargets) × (step (run (m.hypers s n) i st) ≡ step (run (m.hypers s n) k st₀))
+Inv-loop s n k st₀ i₀ st i =
+    (st .at ≤ length s) × (st .seen ≤ mostTargets) × (st .prev ≤ n) × (step (run (m.hypers s n) i st) ≡ step (run (m.hypers s n) k st₀))
 
 abbrev μ-loop : tie.MeasureT-loop
 μ-loop s n k st₀ i₀ st i = i
 
 loop-holds : tie.Need-loop-holds Inv-loop μ-loop
-loop-holds c = (omega arith, omega arith, refl)
+loop-holds c = let p = c .before .pre in (p .0, p .1, p .2, refl)
 
 hyper-requires : tie.Need-hyper-requires Inv-loop μ-loop
-hyper-requires c κs = omega arith
+hyper-requires c κs = let p = c .before .loop .inv in (p .0, p .1, p .2)
 
 enum-known-read : tie.Need-enum-known-read Inv-loop μ-loop
 enum-known-read c = search needs
@@ -33,7 +34,7 @@ enum-told : tie.Need-enum-told Inv-loop μ-loop
 enum-told c = search needs
 
 returns : tie.Need-returns Inv-loop μ-loop
-returns c = turn-refused _ _ _ _ (c .before .before .before .before .loop .inv .2) (omega arith) (c .before .before .hyper .ensures) (c .enum-told .given .1)
+returns c = turn-refused _ _ _ _ (c .before .before .before .before .loop .inv .3) (omega arith) (c .before .before .hyper .ensures) (c .enum-told .given .1)
 
 sub-i : tie.Need-sub-i Inv-loop μ-loop
 sub-i c = omega arith
@@ -48,11 +49,12 @@ loop-again c =
     let stay = hypers-stay _ _ _ _ (step-next _ (by (t .hyper .ensures) is)) in (
       stay .0,
       stay .1,
-      turn-next _ _ _ _ (t .before .before .loop .inv .2) (omega arith) (t .hyper .ensures) is,
+      omega (arith, stay .2),
+      turn-next _ _ _ _ (t .before .before .loop .inv .3) (omega arith) (t .hyper .ensures) is,
     )
 
 returns-2 : tie.Need-returns-2 Inv-loop μ-loop
-returns-2 c = turn-none _ _ _ _ (c .before .loop .inv .2) (omega arith)
+returns-2 c = turn-none _ _ _ _ (c .before .loop .inv .3) (omega arith)
 
 pub hypers-spec : {M : Type 1} → statement M
 hypers-spec =

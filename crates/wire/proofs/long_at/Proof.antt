@@ -1,81 +1,46 @@
--- `wire::long_at` meets its contract, as `number_at` does: after i turns n is the number that the first i bytes make, below 256 ^ i.
-use Prim.Native.Nat.{_≤_, _<_, _-_, _^_, _+_, ℕ}
+-- `wire::long_at` meets its contract: 8 bytes are 4 bytes and 4 behind them.
 use denote.Ref.{now}
-use mathlib.Core.Path.{_≡_, refl, ap, _∙_}
-use native.Mathlib.Nat.{pow-le-pow-right, pow-suc}
-use native.Mathlib.Numerals.{add-one}
 use native.Mathlib.Omega.{arith}
-use lib.Dec.{lit<}
-use lib.ListN.{getD}
 use borrow.Author.Needs.{needs}
-use Rattle.wire.specs.Bytes.{number}
-use Rattle.wire.specs.Field.{longWidth}
-use Rattle.wire.proofs.Bytes.{number-more}
+use Rattle.wire.proofs.Bytes.{number-split}
 use Rattle.wire.proofs.long_at.Statement.{statement}
 use Rattle.wire.proofs.long_at.Tie as tie
 
-abbrev Inv-loop : tie.InvT-loop
-Inv-loop s at n₀ i₀ n i = (i ≤ longWidth) × (n ≡ number i s at) × (n < 256 ^ i)
+add-behind : tie.Need-add-behind
+add-behind c = search needs
 
-abbrev μ-loop : tie.MeasureT-loop
-μ-loop s at n₀ i₀ n i = longWidth - i
+number-at-requires : tie.Need-number-at-requires
+number-at-requires c κs = search needs
 
--- a power of 256 below the last stays below 256 ^ 7
-small : (c : tie.In-loop Inv-loop μ-loop) → 256 ^ c .before .loop .i ≤ 256 ^ 7
-small c = pow-le-pow-right {n = 256} (lit< tt) {i = c .before .loop .i} {j = 7} (omega arith)
+cast-high : tie.Need-cast-high
+cast-high c = search needs
 
--- the byte that is read
-byte : (c : tie.After-shared-slice-known Inv-loop μ-loop) →
-    getD (now (c .before .before .before .args .s)) (c .before .before .before .args .at + c .before .before .loop .i) 0 < 256
-byte c = omega (arith, c .shared-slice-known .given (c .before .before .before .args .at + c .before .before .loop .i))
+number-at-requires-2 : tie.Need-number-at-requires-2
+number-at-requires-2 c κs = search needs
 
-loop-holds : tie.Need-loop-holds Inv-loop μ-loop
-unfolding number
-loop-holds c = (search needs, refl, lit< tt)
+cast-low : tie.Need-cast-low
+cast-low c = search needs
 
-mul-n : tie.Need-mul-n Inv-loop μ-loop
-mul-n c = omega (arith, small c)
+mul-result : tie.Need-mul-result
+mul-result c = search needs
 
-add-n : tie.Need-add-n Inv-loop μ-loop
-add-n c = omega arith
+add-result : tie.Need-add-result
+add-result c = search needs
 
-shared-slice-read-n : tie.Need-shared-slice-read-n Inv-loop μ-loop
-shared-slice-read-n c = omega arith
-
-cast-n : tie.Need-cast-n Inv-loop μ-loop
-cast-n c = omega (arith, byte c)
-
-add-n-2 : tie.Need-add-n-2 Inv-loop μ-loop
-add-n-2 c = omega (arith, byte c, small (c .before))
-
-add-i : tie.Need-add-i Inv-loop μ-loop
-add-i c = omega arith
-
-loop-less : tie.Need-loop-less Inv-loop μ-loop
-loop-less c = omega arith
-
-loop-again : tie.Need-loop-again Inv-loop μ-loop
-loop-again c = (omega arith, rw number-more (cc), rw (add-one, pow-suc) (omega (arith, byte c)))
-
-returns : tie.Need-returns Inv-loop μ-loop
+returns : tie.Need-returns
 returns c =
-    let a = c .before .before .args in
-    let end : c .before .loop .i ≡ longWidth = omega arith in
-    c .before .loop .inv .1 ∙ ap (λ (i : ℕ). number i (now (a .s)) (a .at)) end
+    let a = c .before .before .before .args in
+    omega (arith, number-split 4 4 (now (a .s)) (a .at))
 
 pub long-at-spec : {M : Type 1} → statement M
 long-at-spec =
     tie.close
     (tie.spec
-    Inv-loop
-    μ-loop
-    loop-holds
-    mul-n
-    add-n
-    shared-slice-read-n
-    cast-n
-    add-n-2
-    add-i
-    loop-less
-    loop-again
+    add-behind
+    number-at-requires
+    cast-high
+    number-at-requires-2
+    cast-low
+    mul-result
+    add-result
     returns)

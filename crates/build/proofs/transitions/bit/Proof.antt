@@ -1,42 +1,29 @@
--- `transitions::bit` meets its contract: what is left, shifted by the turns that are left, is the label shifted by i.
-use Prim.Native.Nat.{ℕ, suc, _/_, _%_, _^_, _-_, _<_}
-use mathlib.Core.Path.{_≡_, refl, sym, ap, _∙_}
-use native.Mathlib.Nat.{pow-succ', div-div-eq-div-mul, div-one}
+-- `transitions::bit` meets its contract: a label of 32 bits has none above, and below a shift brings it to the front.
+use Prim.Native.Nat.{ℕ, _/_, _%_, _^_, _≤_, _<_}
+use mathlib.Core.Bool.{false}
+use mathlib.Core.Path.{_≡_, refl, sym, ap}
+use native.Mathlib.Nat.{div-eq-of-lt, pow-le-pow-right}
 use native.Mathlib.Omega.{arith}
 use lib.Dec.{eqb}
+use borrow.Author.Needs.{needs}
 use Rattle.build.proofs.transitions.bit.Statement.{statement}
 use Rattle.build.proofs.transitions.bit.Tie as tie
 
-abbrev Inv-loop : tie.InvT-loop
-Inv-loop label i rest₀ k₀ rest k = rest / 2 ^ k ≡ label / 2 ^ i
+-- a number of 32 bits has no bit 32, nor one above
+no-bit : (label i : ℕ) → label < 2 ^ 32 → 32 ≤ i → eqb (label / 2 ^ i % 2) 1 ≡ false
+no-bit label i small high =
+    let most = pow-le-pow-right {n = 2} (omega arith) {i = 32} {j = i} high in
+    let none : label / 2 ^ i ≡ 0 = div-eq-of-lt (omega arith) in
+    rw none
 
-abbrev μ-loop : tie.MeasureT-loop
-μ-loop label i rest₀ k₀ rest k = k
+returns : tie.Need-returns
+returns c = sym (no-bit (c .before .args .label) (c .before .args .i) (c .before .fits .label .fits) (c .if1 .taken))
 
--- a turn halves the number and leaves one halving less
-halved : (rest k : ℕ) → 0 < k → rest / 2 / 2 ^ (k - 1) ≡ rest / 2 ^ k
-halved rest k some =
-    let more : k ≡ suc (k - 1) = omega arith in
-    div-div-eq-div-mul rest 2 (2 ^ (k - 1)) ∙ ap (λ (d : ℕ). rest / d) (sym (pow-succ' 2 (k - 1)) ∙ ap (λ (j : ℕ). 2 ^ j) (sym more))
+shr-result : tie.Need-shr-result
+shr-result c = search needs
 
-loop-holds : tie.Need-loop-holds Inv-loop μ-loop
-loop-holds c = refl
-
-sub-k : tie.Need-sub-k Inv-loop μ-loop
-sub-k c = omega arith
-
-loop-less : tie.Need-loop-less Inv-loop μ-loop
-loop-less c = omega arith
-
-loop-again : tie.Need-loop-again Inv-loop μ-loop
-loop-again c = halved (c .before .loop .rest) (c .before .loop .k) (omega arith) ∙ c .before .loop .inv
-
-returns : tie.Need-returns Inv-loop μ-loop
-returns c =
-    let l = c .before .loop in
-    let none : l .k ≡ 0 = omega arith in
-    let whole : l .rest / 2 ^ l .k ≡ l .rest = rw none (div-one (l .rest)) in
-    ap (λ (q : ℕ). eqb (q % 2) 1) (sym whole ∙ l .inv)
+returns-2 : tie.Need-returns-2
+returns-2 c = search needs
 
 pub bit-spec : {M : Type 1} → statement M
-bit-spec = tie.close (tie.spec Inv-loop μ-loop loop-holds sub-k loop-less loop-again returns)
+bit-spec = tie.close (tie.spec returns shr-result returns-2)

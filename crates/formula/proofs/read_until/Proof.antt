@@ -1,29 +1,35 @@
--- `formula::read_full` meets its contract: the fields that it doesn't use, looked at together, then each `return` is the reading of the others
+-- `formula::read_until` meets its contract: the fields that it doesn't use, looked at together, then each `return` is the reading of the others
 -- under those that were read before.
 use Prim.Native.Nat.{ℕ, _+_}
 use mathlib.Core.Bool.{true, false}
-use mathlib.Core.Path.{_≡_, ap, _∙_}
+use mathlib.Core.Path.{_≡_, _∙_}
 use native.Mathlib.Omega.{arith}
+use lib.Dec.{ltb}
 use denote.Ref.{now}
 use borrow.Author.Needs.{needs}
+use borrow.Author.Tests.{lt-ltb}
 use Rattle.lists.proofs.Tests.{by}
-use Rattle.wire.specs.Read.{Read, good, found, below, misnamed, field}
+use Rattle.wire.specs.Read.{Read, good, below, misnamed, field}
 use Rattle.wire.proofs.Reading.{reading, found-good, handed, field-found}
 use Rattle.formula.specs.Answers.{judged}
 use Rattle.formula.specs.Format.{leftAt, rightAt, boundAt}
-use Rattle.formula.specs.Rows.{rightLimit}
+use Rattle.formula.specs.Rows.{rowOf}
 use Rattle.formula.specs.Message.{operand, fieldsFrom}
 use Rattle.formula.proofs.Using.{Uses, full-uses}
 use Rattle.formula.proofs.Spared.{namesFrom, fields-told}
-use Rattle.formula.proofs.read_full.Statement.{statement}
-use Rattle.formula.proofs.read_full.Tie as tie
+use Rattle.formula.proofs.read_until.Statement.{statement}
+use Rattle.formula.proofs.read_until.Tie as tie
 
 -- where the function starts, and which fields are used
 abbrev start : tie.After-unused → tie.Start
 start c = c .before .before
 
 uses : (c : tie.After-unused) → Uses (start c .args .operator) true true true false
-uses c = full-uses _ (start c .pre .1)
+uses c = full-uses _ (omega (arith, start c .pre .1))
+
+-- and what right names
+right-names : (c : tie.After-unused) → ltb (start c .args .operator) 10 ≡ true
+right-names c = let known = start c .pre .2 in lt-ltb (start c .args .operator) 10 (omega arith)
 
 -- where the fields that are not used are zero, the others are left
 names : (c : tie.After-enum-told) (p : ℕ) → let a = start (c .before .before) .args in
@@ -41,18 +47,13 @@ left-named : (c : tie.After-known-told) → left-read (c .before .before .before
 left-named c = found-good (left-read (c .before .before .before)) (by (c .before .before .before .named .ensures) (c .before .first .given .1))
 
 abbrev right-read : tie.After-named2 → Read ℕ
-right-read c = let a = start (c .before .before .before .before .before .before .before .before) .args in below 1 (now (a .row)) rightAt (rightLimit (a .place) (a .operator)) (misnamed (a .offset + rightAt))
-
-right-found : (c : tie.After-named2) → c .named2 .result ≡ found (right-read c)
-right-found c =
-    let a = start (c .before .before .before .before .before .before .before .before) .args in
-    c .named2 .ensures ∙ ap (λ (limit : ℕ). found (below 1 (now (a .row)) rightAt limit (misnamed (a .offset + rightAt)))) (c .before .right-limit .ensures)
+right-read c = let a = start (c .before .before .before .before .before .before .before) .args in below 1 (now (a .row)) rightAt (a .place) (misnamed (a .offset + rightAt))
 
 right-named : (c : tie.After-known-told2) → right-read (c .before .before .before) ≡ good (c .before .second .given .0 .0)
-right-named c = found-good (right-read (c .before .before .before)) (by (right-found (c .before .before .before)) (c .before .second .given .1))
+right-named c = found-good (right-read (c .before .before .before)) (by (c .before .before .before .named2 .ensures) (c .before .second .given .1))
 
 abbrev bound-read : tie.After-read → Read ℕ
-bound-read c = let a = start (c .before .before .before .before .before .before .before .before .before .before .before .before) .args in field 4 (now (a .row)) boundAt
+bound-read c = let a = start (c .before .before .before .before .before .before .before .before .before .before .before) .args in field 4 (now (a .row)) boundAt
 
 bound-there : (c : tie.After-known-told3) → bound-read (c .before .before .before) ≡ good (c .before .last .given .0 .0)
 bound-there c = found-good (bound-read (c .before .before .before)) (by (c .before .before .before .read .ensures ∙ field-found _) (c .before .last .given .1))
@@ -112,9 +113,9 @@ returns-3 : tie.Need-returns-3
 unfolding namesFrom operand judged
 returns-3 c =
     let r = c .before .before .before in
-    let k = r .before .before .before .before .before .before in
+    let k = r .before .before .before .before .before in
     let u = uses (k .before .before) in
-    λ p. rw (names k p) (simp (c .fault3 .ensures, u .of-left, u .of-right, u .names, reading, left-named (r .before .before), handed (right-read r) (right-found r) (c .before .enum-told4 .given .1)))
+    λ p. rw (names k p) (simp (c .fault3 .ensures, u .of-left, u .of-right, u .names, right-names (k .before .before), reading, left-named (r .before), handed (right-read r) (r .named2 .ensures) (c .before .enum-told4 .given .1)))
 
 read-requires : tie.Need-read-requires
 read-requires c κs = search needs
@@ -132,27 +133,33 @@ returns-4 : tie.Need-returns-4
 unfolding namesFrom operand judged
 returns-4 c =
     let r = c .before .before .before in
-    let k = r .before .before .before .before .before .before .before .before .before .before in
+    let k = r .before .before .before .before .before .before .before .before .before in
     let u = uses (k .before .before) in
-    λ p. rw (names k p) (simp (c .fault4 .ensures, u .of-left, u .of-right, u .names, reading, left-named (r .before .before .before .before .before .before), right-named (r .before), handed (bound-read r) (r .read .ensures ∙ field-found _) (c .before .enum-told5 .given .1)))
+    λ p. rw (names k p) (simp (c .fault4 .ensures, u .of-left, u .of-right, u .names, right-names (k .before .before), reading, left-named (r .before .before .before .before .before), right-named (r .before), handed (bound-read r) (r .read .ensures ∙ field-found _) (c .before .enum-told5 .given .1)))
 
-right-limit-requires : tie.Need-right-limit-requires
-right-limit-requires c κs = search needs
-
-row-of-requires : tie.Need-row-of-requires
-row-of-requires c κs = search needs
+coded-requires : tie.Need-coded-requires
+coded-requires c κs = search needs
 
 returns-5 : tie.Need-returns-5
-unfolding namesFrom operand judged
+unfolding namesFrom operand judged rowOf
 returns-5 c =
-    let e = c .before in
+    let e = c .before .before in
     let r = e .before .before .before in
-    let k = r .before .before .before .before .before .before .before .before .before .before in
-    let u = uses (k .before .before) in
-    λ p. rw (names k p) (simp (u .of-left, u .of-right, u .names, reading, left-named (r .before .before .before .before .before .before), right-named (r .before), bound-there e, c .row-of .ensures))
+    let k = r .before .before .before .before .before .before .before .before .before in
+    λ p. rw (names k p) (simp (c .if1 .taken, reading, left-named (r .before .before .before .before .before), right-named (r .before), bound-there e, c .before .coded .ensures))
 
-pub read-full-spec : {M : Type 1} → statement M
-read-full-spec =
+returns-6 : tie.Need-returns-6
+unfolding namesFrom operand judged rowOf
+returns-6 c =
+    let e = c .before .before in
+    let r = e .before .before .before in
+    let k = r .before .before .before .before .before .before .before .before .before in
+    let a = start (k .before .before) in
+    let is : a .args .operator ≡ 9 = omega (arith, a .pre .1, a .pre .2, c .if1 .left) in
+    λ p. rw (names k p) (simp (is, reading, left-named (r .before .before .before .before .before), right-named (r .before), bound-there e, c .before .coded .ensures))
+
+pub read-until-spec : {M : Type 1} → statement M
+read-until-spec =
     tie.close
     (tie.spec
     unused-requires
@@ -165,7 +172,6 @@ read-full-spec =
     enum-told-3
     fault-requires-2
     returns-2
-    right-limit-requires
     named-requires-2
     enum-known-second
     enum-told-4
@@ -176,5 +182,6 @@ read-full-spec =
     enum-told-5
     fault-requires-4
     returns-4
-    row-of-requires
-    returns-5)
+    coded-requires
+    returns-5
+    returns-6)
