@@ -111,9 +111,12 @@ unpack_rust() {
     unpack "$(depended "$driver" libllvm)"
 }
 
-# The archive for C and Rust, proved and compiled: target/lib/libotzarvim.a.
+# The archive for C and Rust, proved and compiled: target/lib/libotzarvim.a. What it stands on is proved before, on all cores, since
+# rt staticlib takes one crate after another.
 archive() {
     mkdir -p "$target/lib"
-    (cd "$root" && rt staticlib export) >"$target/lib/log" 2>&1 || { cat "$target/lib/log"; die "the library is not proved"; }
+    # shellcheck disable=SC2046
+    (cd "$root" && rt check $(sed -n 's/^export: *//p' crates.txt) && rt staticlib export) >"$target/lib/log" 2>&1 ||
+        { cat "$target/lib/log"; die "the library is not proved"; }
     cp "$target/staticlib/libexport.a" "$target/lib/libotzarvim.a"
 }

@@ -1,10 +1,11 @@
-# Shared by bench/run.sh and web/build.sh, which read it with `.` after common.sh: the LLVM modules of proved crates, caught on their
+# Shared by bench/run.sh, web/build.sh and unproved.sh, which read it with `.` after common.sh: the LLVM modules of proved crates, caught on their
 # way to the kit's compiler. A module is the proved code up to the last step, the back end, so it can be compiled for another machine.
 
 # The kit's compiler: the one that compiles the library. It comes without headers.
 kit_clang=$tools/bin/clang
 
-# A kit that is the real one but for its compiler, which also keeps the module that it is handed.
+# A kit that is the real one but for its compiler, which also keeps the module that it is to compile at -O3: an archive, a program, and
+# what `rt try` compiles, which it compiles in two other ways too.
 mirrored() { # FOLDER
     local here=on/$machine f
     rm -rf "$1"
@@ -16,7 +17,7 @@ mirrored() { # FOLDER
     for f in "$tools"/bin/*; do
         [ "$(basename "$f")" = clang ] || cp "$f" "$1/$here/toolchain/bin/"
     done
-    printf '#!/bin/sh\n[ ! -e module.bc ] || cp module.bc "%s/module.bc"\nexec "%s" "$@"\n' "$1" "$kit_clang" >"$1/$here/toolchain/bin/clang"
+    printf '#!/bin/sh\ncase " $* " in *" -O3 "*) cp module.bc "%s/module.bc" ;; esac\nexec "%s" "$@"\n' "$1" "$kit_clang" >"$1/$here/toolchain/bin/clang"
     chmod +x "$1/$here/toolchain/bin/clang"
 }
 

@@ -25,13 +25,13 @@ use Rattle.formula.specs.declared.Row.{Row}
 use Rattle.formula.specs.declared.Row.the-variants.{Until}
 use Rattle.formula.specs.Layouts.{rowAt, rowLayout}
 use Rattle.reduction.specs.Built.{isUntil, untils}
-use Rattle.build.specs.Held.{heldRows, HoldsRows}
-use Rattle.build.specs.Bytes.{coverBytes, coversFrom, coversOf}
-use Rattle.build.proofs.Accepted.{rows-length}
-use Rattle.build.proofs.Counting.{passing-here, passing-there}
+use Rattle.transitions.specs.Held.{heldRows, HoldsRows}
+use Rattle.records.specs.Bytes.{coverBytes, coversFrom, coversOf}
+use Rattle.transitions.proofs.Accepted.{rows-length}
+use Rattle.transitions.proofs.Counting.{passing-here, passing-there}
 use Rattle.lists.proofs.Making.{span-agree}
 use Rattle.wire.proofs.Written.{span-written}
-use Rattle.build.proofs.Untils.{other-row}
+use Rattle.sizing.proofs.Untils.{other-row}
 
 -- ---- an until row's, with its bound as a number
 

@@ -27,10 +27,10 @@ use Rattle.formula.specs.declared.Row.{Row}
 use Rattle.formula.specs.declared.Row.the-variants.{Until}
 use Rattle.formula.specs.Layouts.{rowAt, rowLayout}
 use Rattle.reduction.specs.Built.{to, hyper, ifAny, stepEdges, helperEdges, isUntil, untils, layout}
-use Rattle.build.specs.Held.{transitionLayout, transitionsFrom, heldModel, heldRows, HoldsModel, HoldsRows, Own}
-use Rattle.build.specs.Bytes.{singleWidth, hypersBytes, someSteps, everySteps, helperList, stepBytes, stepsBytes, helperBytes, helpersBytes, Narrow, HelpersFit}
-use Rattle.build.proofs.Accepted.{out-own}
-use Rattle.build.proofs.Edges.{single-length, hypers-more, hypers-one, first-fits}
+use Rattle.transitions.specs.Held.{transitionLayout, transitionsFrom, heldModel, heldRows, HoldsModel, HoldsRows, Own}
+use Rattle.records.specs.Bytes.{singleWidth, hypersBytes, someSteps, everySteps, helperList, stepBytes, stepsBytes, helperBytes, helpersBytes, Narrow, HelpersFit}
+use Rattle.transitions.proofs.Accepted.{out-own}
+use Rattle.records.proofs.Edges.{single-length, hypers-more, hypers-one, first-fits}
 use Rattle.build.proofs.Nodes.{helper-are}
 use Rattle.wire.proofs.Written.{writeAll-append, writeAll-map, span-written}
 

@@ -27,8 +27,8 @@ use Rattle.formula.specs.Layouts.{rowAt, rowLayout}
 use Rattle.formula.specs.Rows.{operands}
 use Rattle.formula.specs.WellFormed.{RowAt}
 use Rattle.reduction.specs.Built.{to, endOf, hyper, out, looksAt, near, rowEdges, ifAny, stepEdges, layout}
-use Rattle.build.specs.Held.{transitionsFrom, heldModel, heldRows, HoldsModel, HoldsRows, Own, Reads}
-use Rattle.build.specs.Bytes.{hypersBytes, nextEdges, helperList, rowBytes, rowsBytes, RowFits}
+use Rattle.transitions.specs.Held.{transitionsFrom, heldModel, heldRows, HoldsModel, HoldsRows, Own, Reads}
+use Rattle.records.specs.Bytes.{hypersBytes, nextEdges, helperList, rowBytes, rowsBytes, RowFits}
 use Rattle.wire.proofs.Written.{writeAll-append}
 use Rattle.wire.proofs.Written.{span-written}
 use Rattle.wire.proofs.Stride.{items-get}

@@ -30,14 +30,15 @@ use Rattle.formula.specs.declared.Row.{Row}
 use Rattle.formula.specs.declared.Row.the-variants.{Until}
 use Rattle.reduction.specs.Built.{ifUntil, isUntil, untils, helperAt, layout, cover, CoverEnd, graphOf}
 use Rattle.build.specs.declared.Built.the-variants as Built
-use Rattle.build.specs.declared.sizing.Size as size
-use Rattle.build.specs.Size.{sizeOf, rowsEdges, inLimits}
-use Rattle.build.specs.Bytes.{rowsBytes, helpersBytes, coverBytes, coversFrom, coversOf}
+use Rattle.sizing.specs.declared.Size as size
+use Rattle.sizing.specs.Size.{sizeOf, rowsEdges, inLimits}
+use Rattle.records.specs.Bytes.{rowsBytes, helpersBytes, coverBytes, coversFrom, coversOf}
 use Rattle.build.specs.Built.{fits, roomy, builtOf, builtRoom, Writable}
-use Rattle.build.proofs.Untils.{other-row, by-row}
+use Rattle.sizing.proofs.Untils.{other-row, by-row}
+use Rattle.sizing.proofs.Limits.{counts-within}
 use Rattle.wire.proofs.Written.{writeAll-append}
 use Rattle.lists.proofs.Making.{span-empty}
-use Rattle.build.proofs.Whole.{size-of-graph, covers-of-graph, writing-length}
+use Rattle.sizing.proofs.Whole.{size-of-graph, covers-of-graph, writing-length}
 
 -- ---- the cover edges
 
@@ -106,14 +107,6 @@ graph-parts M rows long hypers long-is hypers-are =
     ∙ rw (← hypers-are, covers-of-graph M rows, graph-covers M rows, writeAll-append) (simp append-assoc)
 
 -- ---- the tests before it is written
-
--- what the limits say, one by one
-pub counts-within : (nodes : ℕ) (z : size.Size) → inLimits nodes z ≡ true → (nodes ≤ 4096) × (z .hypers ≤ 65535) × (z .targets ≤ 262144) × (z .most ≤ 65535)
-unfolding inLimits
-counts-within nodes z e =
-    let rest = and-right (leb nodes 4096) _ e in
-    let edges = and-right (leb (z .hypers) 65535) _ rest in
-    (leb-true _ _ (and-left _ _ e), leb-true _ _ (and-left _ _ rest), leb-true _ _ (and-left _ _ edges), leb-true _ _ (and-right (leb (z .targets) 262144) _ edges))
 
 -- so many states and rows, so many of them untils, and the size of all hyperedges, as they were counted
 pub record Counted (M : Model) (rows : List Row) (n k u : ℕ) (z : size.Size) : Type 0 where

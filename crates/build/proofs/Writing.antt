@@ -22,12 +22,12 @@ use Rattle.graph.specs.WellFormed.{targetsOf}
 use Rattle.graph.specs.Write.{writeHeader, writeGraph}
 use Rattle.reduction.specs.Built.{isUntil, untils, graphOf, Fits}
 use Rattle.build.specs.Built.{fits, Writable}
-use Rattle.build.specs.Bytes.{rowsBytes, helpersBytes, coversOf, HelpersFit}
-use Rattle.build.specs.Held.{heldModel, heldRows, HoldsModel, HoldsRows}
-use Rattle.build.proofs.Accepted.{rows-length}
+use Rattle.records.specs.Bytes.{rowsBytes, helpersBytes, coversOf, HelpersFit}
+use Rattle.transitions.specs.Held.{heldModel, heldRows, HoldsModel, HoldsRows}
+use Rattle.transitions.proofs.Accepted.{rows-length}
 use Rattle.build.proofs.Parts.{graph-parts}
-use Rattle.build.proofs.Sizes.{few-narrow}
-use Rattle.build.proofs.Whole.{size-of-graph}
+use Rattle.build.proofs.Narrow.{few-narrow}
+use Rattle.sizing.proofs.Whole.{size-of-graph}
 
 -- what the test says, limit by limit
 pub fits-each : (g : Graph) → fits g ≡ true → Fits g

@@ -1,14 +1,11 @@
 // The graph of an accepted model and formula, written into a lent room.
 mod message;
-mod records;
-mod sizing;
-mod transitions;
 
 ghost use mathlib.Core.Path.{_≡_};
 ghost use Prim.Native.Nat.{_+_, _*_, _≤_};
 ghost use lib.ListN.{length};
 ghost use Rattle.reduction.specs.Built as built;
-ghost use Rattle.build.specs.Held.{heldModel, heldRows, HoldsModel, HoldsRows};
+ghost use Rattle.transitions.specs.Held.{heldModel, heldRows, HoldsModel, HoldsRows};
 ghost use Rattle.build.specs.Built.{builtNumber, builtOffset, builtLength, builtOf, builtRoom};
 use refusal::Fault;
 

@@ -23,8 +23,8 @@ use Rattle.graph.specs.Format.{graphHeader}
 use Rattle.graph.specs.Layouts.{hyperLayout, coverLayout, decoded}
 use Rattle.graph.proofs.Answered.{checked-refused}
 use Rattle.graph.proofs.Exact.{accepted-written}
-use Rattle.rounds.specs.Promise.{Accepted}
-use Rattle.rounds.proofs.Begin.{Begin}
+use Rattle.graph.specs.WellFormed.{Accepted}
+use Rattle.graph.proofs.Ready.{Begin}
 use Rattle.claims.specs.Claims.{claimWidth, AcceptsClaims}
 use Rattle.claims.specs.declared.Judged.{Judged}
 use Rattle.claims.specs.declared.Judged.the-variants.{Yes, No, Refused}

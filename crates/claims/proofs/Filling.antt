@@ -20,7 +20,7 @@ use Rattle.rules.specs.Walks.{CoverCycle}
 use Rattle.rules.proofs.Cycles.{free-count}
 use Rattle.rounds.specs.declared.Outcome.{Outcome}
 use Rattle.rounds.specs.Outcome.{outcomeCount, storedValues, filled, ended}
-use Rattle.rounds.specs.Ready.{Storable}
+use Rattle.graph.specs.Ready.{Storable}
 use Rattle.rounds.proofs.Promised.{stored-length, filled-at}
 use Rattle.rounds.proofs.Laws.{settled-within}
 use Rattle.claims.specs.Claims.{rankAt, claimWidth, claimedValue, claimedRank, AcceptsClaims}

@@ -5,7 +5,7 @@ use mathlib.Core.Path.{_≡_}
 use lib.ListN.{length}
 use Rattle.rules.specs.Rounds.{Largest}
 use Rattle.graph.specs.Stored.{StoredGraph, ruled}
-use Rattle.rounds.specs.Promise.{Accepted}
+use Rattle.graph.specs.WellFormed.{Accepted}
 use Rattle.claims.specs.Claims.{claimedValue, AcceptsClaims}
 use Rattle.claims.specs.Answers.{claimsLength, WritesOf, Untouched}
 use Rattle.claims.specs.declared.Judged.{Judged}

@@ -17,7 +17,7 @@ ghost use Rattle.rules.specs.Walks.{CoverCycle};
 ghost use Rattle.graph.specs.Format.{graphHeader, targetCountAt, hyperWidth, nodeAt};
 ghost use Rattle.graph.specs.Layouts.{targetLayout, hyperLayout, coverLayout, decoded, TargetOk, HyperOk, CoverOk, Scannable};
 ghost use Rattle.graph.specs.Message.{readGraph};
-ghost use Rattle.rounds.specs.Ready.{Ready};
+ghost use Rattle.graph.specs.Ready.{Ready};
 ghost use Rattle.claims.specs.Claims.{rankAt, claimWidth, claimedValue, claimedRank, AcceptsClaims};
 ghost use Rattle.claims.specs.Answers.{judgedNumber, judgedOffset, writtenNumber, writtenOffset, readClaims, Judges, Writes, Filled};
 ghost use Rattle.claims.specs.Promise.{JudgedPromise, WrittenPromise};

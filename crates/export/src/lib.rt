@@ -21,7 +21,8 @@ ghost use Rattle.export.specs.Claimed.{judgedVerdict, JudgedBy, WrittenB
 use claims::Judged;
 ghost use Rattle.tally.specs.Entered as t;
 ghost use Rattle.tally.specs.Report as report;
-ghost use Rattle.export.specs.Sheet.{entryOf, notedOf, EnteredInto};
+ghost use Rattle.tally.specs.Returned.{entryOf};
+ghost use Rattle.export.specs.Sheet.{notedOf, EnteredInto};
 use tally::Entry;
 use tally::Tally;
 use verdict::AllStates;
@@ -333,24 +334,6 @@ pub extern "C" fn otzarvim_settle(
     }
 }
 
-// The entry of what a call returned: yes or no where it returned OK, else its refusal. What no call returns is an entry that the table
-// doesn't have.
-fn entry(number: u8, verdict: u8, rounds: u32) -> Entry
-    ensures { λ r. ⌜ r ≡ entryOf number verdict rounds ⌝ }
-{
-    if verdict == 0 {
-        return Entry::Refused(number, rounds);
-    }
-    if number != 0 {
-        return Entry::Refused(0, rounds);
-    }
-    match verdict {
-        1 => Entry::Yes(rounds),
-        2 => Entry::No(rounds),
-        _ => Entry::Refused(0, rounds),
-    }
-}
-
 // The tally after an entry, and the number of the answer.
 pub struct Noted {
     pub tally: Tally,
@@ -361,7 +344,7 @@ pub struct Noted {
 fn note(tally: Tally, number: u8, verdict: u8, rounds: u32) -> Noted
     ensures { λ r. ⌜ r ≡ notedOf (t.enterOf tally (entryOf number verdict rounds)) ⌝ }
 {
-    let entered = tally.enter(entry(number, verdict, rounds));
+    let entered = tally.enter(Entry::returned(number, verdict, rounds));
     let answer = entered.answer;
     let next = entered.tally;
     Noted {

@@ -1,4 +1,5 @@
--- Definitions: what a graph message holds, the messages of graphs, which graphs are well-formed, the answer of the check, and where a fault can lie.
+-- Definitions: what a graph message holds, the messages of graphs, which graphs are well-formed, the answer of the check, what work on an accepted
+-- message relies on, and where a fault can lie.
 pub mod Stored
 pub mod Format
 pub mod Message
@@ -6,4 +7,5 @@ pub mod Write
 pub mod WellFormed
 pub mod Answers
 pub mod Layouts
+pub mod Ready
 pub mod Located

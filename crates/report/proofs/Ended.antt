@@ -23,7 +23,7 @@ use Rattle.model.specs.Message.{readModel}
 use Rattle.model.proofs.Good.{header-good, model-good}
 use Rattle.formula.specs.Formula.{rootOf}
 use Rattle.formula.specs.Message.{readFormula}
-use Rattle.text.specs.Text.{text}
+use Rattle.wording.specs.Text.{text}
 use Rattle.lists.proofs.Making.{span-agree}
 use Rattle.verdict.specs.Question.{Question, readQuestion, graphFor, nodesOf, rootNode}
 use Rattle.verdict.specs.Answer.{roomed, readSettled, allOf, valuesOf}

@@ -5,8 +5,8 @@ use mathlib.Core.Bool.{Bool, true, false}
 use mathlib.Core.Path.{_≡_, refl}
 use native.Mathlib.Omega.{arith}
 use lib.ListN.{length, length-append}
-use Rattle.text.specs.Text.{word, decimal, longDecimal}
-use Rattle.text.proofs.Decimal.{decimal-length}
+use Rattle.decimals.specs.Decimal.{word, decimal, longDecimal}
+use Rattle.decimals.proofs.Decimal.{decimal-length}
 use Rattle.report.specs.Lines.{line, place, refusedLine, roundsLine, answerWord, stateLine}
 
 -- a word, a number, and the end of the line

@@ -14,11 +14,11 @@ use Rattle.formula.specs.declared.Row.{Row}
 use Rattle.formula.specs.Formula.{rootOf}
 use Rattle.formula.specs.Message.{readFormula}
 use Rattle.formula.proofs.Exact.{accepted-written}
-use Rattle.text.specs.Text.{text}
+use Rattle.wording.specs.Text.{text}
 use Rattle.text.specs.Written.{writtenLength, writtenOf, textRoom}
 use Rattle.text.specs.declared.Written.{Written}
 use Rattle.text.specs.declared.Written.the-variants as Written
-use Rattle.text.proofs.Length.{accepted-text-length}
+use Rattle.wording.proofs.Length.{accepted-text-length}
 use Rattle.lists.proofs.Making.{span-short}
 use Rattle.report.specs.Lines.{line, roundsLine}
 use Rattle.report.specs.Pieces.{statesLines, textIn}

@@ -2,7 +2,7 @@
 use Prim.Native.Nat.{ℕ, zero, suc}
 use mathlib.Core.List.{List, [], _∷_, _++_}
 use mathlib.Core.Bool.{Bool, true, false}
-use Rattle.text.specs.Text.{word, decimal, longDecimal}
+use Rattle.decimals.specs.Decimal.{word, decimal, longDecimal}
 
 -- every line is ended by a line feed
 abbrev pub line : List ℕ → List ℕ

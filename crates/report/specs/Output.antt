@@ -12,7 +12,7 @@ use Rattle.wire.specs.Read.{Read, good, bad, _>>=_, _>>_, demand, field}
 use Rattle.rules.specs.Rounds.{rounds}
 use Rattle.rules.specs.Count.{count}
 use Rattle.formula.specs.Formula.{rootOf}
-use Rattle.text.specs.Text.{text}
+use Rattle.wording.specs.Text.{text}
 use Rattle.verdict.specs.Question.{Question, ruledFor, rootNode}
 use Rattle.verdict.specs.Answer.{readSettled, bytesOf, valuesOf}
 use Rattle.report.specs.Lines.{line, refusedLine, roundsLine, stateLine}

@@ -7,7 +7,7 @@ use Rattle.lists.specs.Making.{span}
 use Rattle.wire.specs.Read.{Read, good, bad}
 use Rattle.formula.specs.declared.Row.{Row}
 use Rattle.formula.specs.Formula.{rootOf}
-use Rattle.text.specs.Text.{text}
+use Rattle.wording.specs.Text.{text}
 use Rattle.report.specs.declared.Cut.{Cut}
 use Rattle.report.specs.declared.Cut.the-variants as Cut
 use Rattle.report.specs.Lines.{line, roundsLine, stateLine}

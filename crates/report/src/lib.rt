@@ -3,7 +3,7 @@ ghost use mathlib.Core.Path.{_≡_};
 ghost use Prim.Native.Nat.{_+_, _≤_};
 ghost use mathlib.Core.List.{_++_};
 ghost use lib.ListN.{length};
-ghost use Rattle.text.specs.Text.{decimal};
+ghost use Rattle.decimals.specs.Decimal.{decimal};
 ghost use Rattle.io.specs.Counts.{Counts};
 ghost use Rattle.wire.specs.Laid.{Laid};
 ghost use Rattle.verdict.specs.Answer.{readSettled, bytesOf};
@@ -27,8 +27,8 @@ fn put_line(out: &mut [u8], at: usize, word: &[u8], n: u32) -> usize
     requires { ⌜ at + length (line (now word ++ decimal n)) ≤ length (now out) ⌝ }
     ensures { λ r. ⌜ Laid (now (out .entry)) at (line (now (word .entry) ++ decimal n)) (now (out .exit)) r ⌝ }
 {
-    let end = text::put_number(out, at, word, n);
-    text::put_word(out, end, b"\n")
+    let end = decimals::put_number(out, at, word, n);
+    decimals::put_word(out, end, b"\n")
 }
 
 // Where the field at fault starts, if one is at fault.
@@ -39,8 +39,8 @@ fn put_place(out: &mut [u8], at: usize, offset: usize) -> usize
     if offset == 0 {
         return at;
     }
-    let digits = text::put_word(out, at, b" at ");
-    text::put_long(out, digits, offset as u64)
+    let digits = decimals::put_word(out, at, b" at ");
+    decimals::put_long(out, digits, offset as u64)
 }
 
 // A refusal's line.
@@ -48,9 +48,9 @@ fn put_refused(out: &mut [u8], number: u8, offset: usize) -> usize
     requires { ⌜ length (refusedLine number offset) ≤ length (now out) ⌝ }
     ensures { λ r. ⌜ Laid (now (out .entry)) 0 (refusedLine number offset) (now (out .exit)) r ⌝ }
 {
-    let end = text::put_number(out, 0, b"refused ", number as u32);
+    let end = decimals::put_number(out, 0, b"refused ", number as u32);
     let last = put_place(out, end, offset);
-    text::put_word(out, last, b"\n")
+    decimals::put_word(out, last, b"\n")
 }
 
 // The line of the count of rounds.
@@ -66,11 +66,11 @@ fn put_state(out: &mut [u8], at: usize, a: u32, yes: bool) -> usize
     requires { ⌜ at + length (stateLine yes a) ≤ length (now out) ⌝ }
     ensures { λ r. ⌜ Laid (now (out .entry)) at (stateLine yes a) (now (out .exit)) r ⌝ }
 {
-    let word = text::put_decimal(out, at, a);
+    let word = decimals::put_decimal(out, at, a);
     if yes {
-        return text::put_word(out, word, b" yes\n");
+        return decimals::put_word(out, word, b" yes\n");
     }
-    text::put_word(out, word, b" no\n")
+    decimals::put_word(out, word, b" no\n")
 }
 
 // All states' lines, from the numbers of their nodes.
@@ -130,7 +130,7 @@ fn put_settled(
     ensures { λ r. ⌜ Laid (now (out .entry)) 0 (endedLines (readFormula p (now (f .entry))) count (now (values .entry)) first n) (now (out .exit)) r ⌝ }
 {
     let end = put_text(f, p, out);
-    let rounds = text::put_word(out, end, b"\n");
+    let rounds = decimals::put_word(out, end, b"\n");
     let states = put_rounds(out, rounds, count);
     put_states(out, states, values, first as usize, n)
 }

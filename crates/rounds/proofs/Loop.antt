@@ -26,12 +26,16 @@ use Rattle.graph.specs.Format.{graphHeader, coverTargetAt, coverWidth}
 use Rattle.graph.specs.Layouts.{hyperLayout, coverLayout, decoded}
 use Rattle.rounds.specs.declared.Outcome.the-variants as Outcome
 use Rattle.rounds.specs.Outcome.{ended, storedValues, filled}
-use Rattle.rounds.specs.Ready.{Climbs, Ready, Storable}
-use Rattle.rounds.specs.Room.{held, half, Done, Cleared, Same, Beside}
-use Rattle.rounds.specs.Index.{slotOf, unnoted, partOf, Spans, Noted, NotedCovers, Marked, Raised, Published}
-use Rattle.rounds.specs.declared.Marks.{Marks}
+use Rattle.graph.specs.Ready.{Climbs, Ready, Storable}
+use Rattle.halves.specs.Held.{held}
+use Rattle.halves.specs.Room.{half, Cleared, Same, Beside}
+use Rattle.scans.specs.Scan.{Done}
+use Rattle.halves.specs.Room.{Raised}
+use Rattle.notes.specs.Index.{slotOf, unnoted, Spans, Noted, NotedCovers, Marked, Published}
+use Rattle.scans.specs.Scan.{partOf}
+use Rattle.notes.specs.declared.Marks.{Marks}
 use Rattle.rounds.specs.Turns.{AtRound}
-use Rattle.rounds.proofs.Room.{half-at}
+use Rattle.halves.proofs.Room.{half-at}
 use Rattle.wire.proofs.Stride.{end-wide}
 use Rattle.wire.proofs.Parts.{∈-items, part-sound, part-number, part-end, part-of, part-has}
 

@@ -11,7 +11,6 @@ use native.Mathlib.Decide.{ℕ-discrete, decLt}
 use native.Mathlib.Omega.{arith}
 use Rattle.value.specs.Value.{Value, finite, _≼_}
 use Rattle.value.specs.Stored.{stored}
-use Rattle.value.proofs.Values.{≼-fin}
 use Rattle.value.proofs.Stored.{meaning-stored}
 use Rattle.refusal.specs.declared.Fault.{Fault}
 use Rattle.refusal.proofs.Numbers.{number-above}
@@ -22,18 +21,19 @@ use Rattle.rules.specs.Graph.{Graph, heaviest}
 use Rattle.rules.specs.Rounds.{Assignment, rounds}
 use Rattle.rules.specs.Count.{count}
 use Rattle.rules.proofs.Order.{largest-agree}
-use Rattle.rules.proofs.Size.{Light, value-bound, heaviest-light}
+use Rattle.rules.proofs.Size.{value-bound, heaviest-light}
 use Rattle.rules.proofs.Count.{count-first, count-le, count-largest}
 use Rattle.rules.proofs.Cycles.{free-count}
 use Rattle.graph.specs.Stored.{StoredGraph}
 use Rattle.graph.specs.Message.{readGraph}
 use Rattle.graph.specs.Write.{writeGraph}
-use Rattle.graph.specs.WellFormed.{WellFormed}
+use Rattle.graph.specs.WellFormed.{WellFormed, Accepted}
+use Rattle.graph.proofs.Ready.{rounds-fit}
 use Rattle.graph.proofs.Exact.{accepted-written}
 use Rattle.rounds.specs.declared.Outcome.the-variants.{Settled, Spent, Refused}
-use Rattle.rounds.specs.Outcome.{held, storedValues, filled, readRounds, ended, outcomeOf, roundsRoom}
-use Rattle.rounds.specs.Ready.{Storable}
-use Rattle.rounds.specs.Promise.{Accepted, Halves, SettledAt, SpentAt, Promise}
+use Rattle.halves.specs.Held.{held}
+use Rattle.rounds.specs.Outcome.{storedValues, filled, readRounds, ended, outcomeOf, roundsRoom}
+use Rattle.rounds.specs.Promise.{Halves, SettledAt, SpentAt, Promise}
 
 -- the stored values one by one
 pub stored-length : (n : ℕ) (x : Assignment) → length (storedValues n x) ≡ n
@@ -53,13 +53,6 @@ stored-at (suc n) x r v h = go (ℕ-discrete v n) (stored-at n x (stored (x n) �
         → getD ((storedValues n x ++ (stored (x n) ∷ [])) ++ r) v 0 ≡ stored (x v)
     go (yes e) before = rw (again, e) (getD-at (storedValues n x) (stored (x n)) r 0 n (stored-length n x))
     go (no e) before = rw again (before (omega arith))
-
--- a well-formed graph's finite values never reach the number that stores infinity: (n - 1) w is at most 4,095 times 4,294,967,295
-pub rounds-fit : (g : Graph) → WellFormed g → Storable g
-rounds-fit g wf i v k l e =
-    let light : Light g 4294967295 = record { weight = λ m n. omega (arith, wf .weights-fit m n) } in
-    let small = ≼-fin (subst (λ (a : Value). a ≼ ((g .nodes - 1) * 4294967295)) e (value-bound g (wf .closed) 4294967295 light i v l (rw e refl))) in
-    omega (arith, small, wf .nodes-fit)
 
 -- the parts of a filled room
 filled-parts : (g : Graph) (m : ℕ) (b : List ℕ)

@@ -1,7 +1,4 @@
--- Definitions: the outcome, the promise, and what the room holds on the way.
+-- Definitions: the outcome, the promise, and what the room holds where a turn begins.
 pub mod Outcome
 pub mod Promise
-pub mod Room
-pub mod Ready
-pub mod Index
 pub mod Turns

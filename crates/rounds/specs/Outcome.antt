@@ -2,11 +2,11 @@
 use Prim.Native.Nat.{ℕ, zero, suc, _+_, min}
 use mathlib.Core.List.{List, [], _∷_, _++_}
 use mathlib.Core.Bool.{cond}
-use lib.ListN.{length, drop, getD}
+use lib.ListN.{length, drop}
 use lib.Dec.{leb}
 use Rattle.refusal.specs.Number.{ok, overBudget, numberOf, nowhere}
 use Rattle.refusal.specs.declared.Refusal.the-variants.{Room}
-use Rattle.value.specs.Stored.{stored, meaning}
+use Rattle.value.specs.Stored.{stored}
 use Rattle.wire.specs.Read.{Read, good, bad, _>>=_, _>>_, demand}
 use Rattle.rules.specs.Graph.{Graph}
 use Rattle.rules.specs.Rounds.{Assignment, rounds}
@@ -38,10 +38,6 @@ outcomeCount (Refused e) = 0
 unfoldable pub storedValues : ℕ → Assignment → List ℕ
 storedValues zero x = []
 storedValues (suc n) x = storedValues n x ++ (stored (x n) ∷ [])
-
--- the assignment that stored numbers mean
-abbrev pub held : List ℕ → Assignment
-held room v = meaning (getD room v 0)
 
 -- the first n numbers hold round m, the next n hold round m + 1, and the numbers beyond 2n stay
 unfoldable pub filled : Graph → ℕ → List ℕ → List ℕ

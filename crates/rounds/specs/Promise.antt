@@ -11,15 +11,10 @@ use Rattle.rules.specs.Rounds.{rounds, Largest, Settled}
 use Rattle.rules.specs.Count.{First}
 use Rattle.rules.specs.Walks.{CoverCycle}
 use Rattle.graph.specs.Stored.{StoredGraph, ruled}
-use Rattle.graph.specs.Write.{writeGraph}
-use Rattle.graph.specs.WellFormed.{WellFormed}
-use Rattle.rounds.specs.Outcome.{outcomeNumber, outcomeCount, held}
+use Rattle.graph.specs.WellFormed.{Accepted}
+use Rattle.halves.specs.Held.{held}
+use Rattle.rounds.specs.Outcome.{outcomeNumber, outcomeCount}
 use Rattle.rounds.specs.declared.Outcome.{Outcome}
-
--- the message is the writing of the well-formed graph
-pub record Accepted (message : List ℕ) (graph : StoredGraph) : Type 0 where
-  pub writing : message ≡ writeGraph graph
-  pub well-formed : WellFormed graph
 
 -- the first n numbers are round i, the next n are round i + 1, and no finite number of the two is above (n - 1) w
 pub record Halves (graph : Graph) (i : ℕ) (room : List ℕ) : Type 0 where

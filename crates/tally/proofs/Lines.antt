@@ -9,8 +9,8 @@ use lib.Seq.{drop-cons, take-at}
 use borrow.Author.Tests.{lt-ltb, le-ltb}
 use Rattle.refusal.specs.declared.Refusal.the-variants.{Room}
 use Rattle.wire.specs.Laid.{laid, Laid}
-use Rattle.text.specs.Text.{longDecimal}
-use Rattle.text.proofs.Decimal.{decimal-length}
+use Rattle.decimals.specs.Decimal.{longDecimal}
+use Rattle.decimals.proofs.Decimal.{decimal-length}
 use Rattle.tally.specs.declared.Reported.the-variants as Reported
 use Rattle.tally.specs.Report.{lines, reportedOf, reportRoom}
 

@@ -3,6 +3,7 @@
 use mathlib.Core.Path.{_≡_, sym, _∙_}
 use denote.Ref.{now}
 use Rattle.tally.proofs.Answer.number.Reads as Answer-number
+use Rattle.tally.proofs.Entry.returned.Reads as Entry-returned
 use Rattle.tally.proofs.Tally.zero.Reads as Tally-zero
 use Rattle.tally.proofs.Tally.enter.Reads as Tally-enter
 use Rattle.tally.proofs.Tally.numbers.Reads as Tally-numbers
@@ -14,6 +15,11 @@ use Rattle.tally.proofs.report.Reads as report
 pub one-answer-number : (κs : _) (a : _) (r r′ : _) (s s′ : _) → Answer-number.Post κs a r s → Answer-number.Post κs a r′ s′
     → r ≡ r′
 one-answer-number κs a r r′ s s′ p q = p ∙ sym q
+
+-- `tally::Entry::returned`
+pub one-returned : (κs : _) (a : _) (r r′ : _) (s s′ : _) → Entry-returned.Post κs a r s → Entry-returned.Post κs a r′ s′
+    → r ≡ r′
+one-returned κs a r r′ s s′ p q = p ∙ sym q
 
 -- `tally::Tally::zero`
 pub one-zero : (κs : _) (a : _) (r r′ : _) (s s′ : _) → Tally-zero.Post κs a r s → Tally-zero.Post κs a r′ s′

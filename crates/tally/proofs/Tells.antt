@@ -7,8 +7,8 @@ use lib.ListN.{length, getD, take, drop, length-append}
 use lib.Seq.{take-at, drop-at}
 use Rattle.lists.specs.Lists.{_∈_}
 use Rattle.lists.proofs.Places.{first}
-use Rattle.text.specs.Text.{longDecimal}
-use Rattle.text.proofs.Decimal.{value, leading, after, leading-digits, after-digits, decimal-digits, decimal-value}
+use Rattle.decimals.specs.Decimal.{longDecimal}
+use Rattle.decimals.proofs.Decimal.{value, leading, after, leading-digits, after-digits, decimal-digits, decimal-value}
 use Rattle.tally.specs.declared.Tally.{Tally}
 use Rattle.tally.specs.Tally.{places}
 use Rattle.tally.specs.Report.{lines, numbersOf, Stored}

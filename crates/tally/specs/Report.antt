@@ -8,7 +8,7 @@ use lib.ListN.{length, drop}
 use Rattle.refusal.specs.Number.{ok, numberOf}
 use Rattle.refusal.specs.declared.Refusal.the-variants.{Room}
 use Rattle.lists.specs.Lists.{_∈_}
-use Rattle.text.specs.Text.{longDecimal}
+use Rattle.decimals.specs.Decimal.{longDecimal}
 use Rattle.tally.specs.declared.Tally.{Tally}
 use Rattle.tally.specs.declared.Reported.{Reported}
 use Rattle.tally.specs.declared.Reported.the-variants as Reported

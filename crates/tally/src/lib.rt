@@ -6,6 +6,7 @@ ghost use lib.Dec.{ltb};
 ghost use Rattle.wire.specs.Laid.{Laid};
 ghost use Rattle.tally.specs.Tally.{mostAccepted, isEntry, roundsOf, countPlace, together, atZero, takesMore, countedAt};
 ghost use Rattle.tally.specs.Entered.{answerNumber, enterOf};
+ghost use Rattle.tally.specs.Returned.{entryOf};
 ghost use Rattle.tally.specs.Report.{lines, numbersOf, reportedNumber, reportedLength, reportedOf, reportRoom};
 use refusal::Refusal;
 
@@ -49,6 +50,24 @@ impl Answer {
 }
 
 impl Entry {
+    // The entry of what a call returned: yes or no where it returned OK, else its refusal. What no call returns is an entry that the table
+    // doesn't have.
+    pub fn returned(number: u8, verdict: u8, rounds: u32) -> Self
+        ensures { λ r. ⌜ r ≡ entryOf number verdict rounds ⌝ }
+    {
+        if verdict == 0 {
+            return Entry::Refused(number, rounds);
+        }
+        if number != 0 {
+            return Entry::Refused(0, rounds);
+        }
+        match verdict {
+            1 => Entry::Yes(rounds),
+            2 => Entry::No(rounds),
+            _ => Entry::Refused(0, rounds),
+        }
+    }
+
     // Whether it is yes, no or a number of the table.
     fn is_entry(self) -> bool
         ensures { λ r. ⌜ r ≡ isEntry self ⌝ }
@@ -227,7 +246,7 @@ fn put_lines(room: &mut [u8], numbers: &[u64]) -> usize
     let mut at = 0;
     let mut i = 0;
     while i < numbers.len() {
-        let end = text::put_long(room, at, numbers[i]);
+        let end = decimals::put_long(room, at, numbers[i]);
         room[end] = 10;
         at = end + 1;
         i += 1;
@@ -245,5 +264,5 @@ pub fn report(numbers: &[u64; 15], room: &mut [u8]) -> Reported
     if room.len() < length {
         return Reported::Refused(Refusal::Room);
     }
-    Reported::Text(text::put_word(room, 0, &text[..length]))
+    Reported::Text(decimals::put_word(room, 0, &text[..length]))
 }

@@ -18,9 +18,9 @@ use Rattle.formula.specs.WellFormed.{RowAt, WellFormed}
 use Rattle.formula.proofs.Good.{formula-good, header-good}
 use Rattle.formula.proofs.Accepted.{accepted-holds}
 use Rattle.formula.proofs.Exact.{accepted-written}
-use Rattle.text.specs.Text.{text}
-use Rattle.text.specs.Rows.{countOf, rowsOf, rowText, Ready}
-use Rattle.text.proofs.Length.{accepted-text-short}
+use Rattle.wording.specs.Text.{text}
+use Rattle.wording.specs.Rows.{countOf, rowsOf, rowText, Ready}
+use Rattle.wording.proofs.Length.{accepted-text-short}
 
 -- the root of an accepted message, by position
 pub record Root (x : Read (List Row)) (s : List ℕ) (f : ℕ) : Type 0 where

@@ -9,10 +9,10 @@ use Rattle.wire.specs.Read.{good}
 use Rattle.formula.specs.declared.Row.{Row}
 use Rattle.formula.specs.Formula.{rootOf}
 use Rattle.formula.specs.WellFormed.{WellFormed}
-use Rattle.text.specs.Text.{text}
+use Rattle.wording.specs.Text.{text}
 use Rattle.text.specs.Written.{writtenOf}
 use Rattle.text.specs.declared.Written.the-variants.{Text}
-use Rattle.text.proofs.Length.{accepted-text-short}
+use Rattle.wording.proofs.Length.{accepted-text-short}
 
 -- a room of 2,048 bytes is never too small
 pub room-enough : {p : ℕ} {rows : List Row} (b : List ℕ) → WellFormed p rows → 2048 ≤ length b → writtenOf (good rows) b ≡ Text (length (text (rootOf rows)))

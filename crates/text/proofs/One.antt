@@ -3,9 +3,6 @@
 use mathlib.Core.Path.{_≡_, sym, _∙_}
 use denote.Ref.{now}
 use Rattle.text.proofs.text.Reads as text
-use Rattle.text.proofs.put_word.Reads as put-word
-use Rattle.text.proofs.put_decimal.Reads as put-decimal
-use Rattle.text.proofs.put_number.Reads as put-number
 use Rattle.text.proofs.Written.number.Reads as Written-number
 use Rattle.text.proofs.Written.offset.Reads as Written-offset
 use Rattle.text.proofs.Written.length.Reads as Written-length
@@ -24,21 +21,6 @@ one-number κs a r r′ s s′ p q = p ∙ sym q
 pub one-length : (κs : _) (a : _) (r r′ : _) (s s′ : _) → Written-length.Post κs a r s → Written-length.Post κs a r′ s′
     → r ≡ r′
 one-length κs a r r′ s s′ p q = p ∙ sym q
-
--- `text::put_word`: the answer and the room
-pub one-put-word : (κs : _) (a : _) (r r′ : _) (s s′ : _) → put-word.Post κs a r s → put-word.Post κs a r′ s′
-    → (r ≡ r′) × (now (s .0) ≡ now (s′ .0))
-one-put-word κs a r r′ s s′ p q = (p .next-is ∙ sym (q .next-is), p .room-is ∙ sym (q .room-is))
-
--- `text::put_decimal`: the answer and the room
-pub one-put-decimal : (κs : _) (a : _) (r r′ : _) (s s′ : _) → put-decimal.Post κs a r s → put-decimal.Post κs a r′ s′
-    → (r ≡ r′) × (now (s .0) ≡ now (s′ .0))
-one-put-decimal κs a r r′ s s′ p q = (p .next-is ∙ sym (q .next-is), p .room-is ∙ sym (q .room-is))
-
--- `text::put_number`: the answer and the room
-pub one-put-number : (κs : _) (a : _) (r r′ : _) (s s′ : _) → put-number.Post κs a r s → put-number.Post κs a r′ s′
-    → (r ≡ r′) × (now (s .0) ≡ now (s′ .0))
-one-put-number κs a r r′ s s′ p q = (p .next-is ∙ sym (q .next-is), p .room-is ∙ sym (q .room-is))
 
 -- `text::Written::offset`
 pub one-offset : (κs : _) (a : _) (r r′ : _) (s s′ : _) → Written-offset.Post κs a r s → Written-offset.Post κs a r′ s′

@@ -1,4 +1,2 @@
--- Definitions: the text of a formula, and the answer of writing it.
-pub mod Text
+-- Definitions: the answer of writing the text of a formula.
 pub mod Written
-pub mod Rows

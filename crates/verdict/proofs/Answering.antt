@@ -12,8 +12,8 @@ use Rattle.wire.specs.Bytes.{Bytes}
 use Rattle.wire.specs.Read.{bad}
 use Rattle.wire.proofs.Reading.{reading, good-then, bad-then}
 use Rattle.reduction.specs.Built.{untils, graphOf}
-use Rattle.build.specs.Held.{heldModel, heldRows}
-use Rattle.build.proofs.Accepted.{rows-length}
+use Rattle.transitions.specs.Held.{heldModel, heldRows}
+use Rattle.transitions.proofs.Accepted.{rows-length}
 use Rattle.verdict.specs.declared.Answer.{Answer}
 use Rattle.verdict.specs.declared.Answer.the-variants as Answer
 use Rattle.verdict.specs.declared.AllStates.{AllStates}

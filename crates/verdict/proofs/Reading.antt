@@ -18,8 +18,8 @@ use Rattle.formula.specs.Message.{readFormula}
 use Rattle.formula.specs.Answers as formula
 use Rattle.formula.specs.declared.Checked.the-variants as Formula
 use Rattle.formula.proofs.Answered.{checked-formula, checked-refused}
-use Rattle.build.specs.Held.{heldModel, HoldsModel}
-use Rattle.build.proofs.Holding.{model-held, rows-held}
+use Rattle.transitions.specs.Held.{heldModel, HoldsModel}
+use Rattle.transitions.proofs.Holding.{model-held, rows-held}
 use Rattle.verdict.specs.Question.{Question, readQuestion}
 use Rattle.verdict.specs.Asking.{Held}
 

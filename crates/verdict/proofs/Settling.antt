@@ -23,8 +23,8 @@ use Rattle.rounds.specs.Outcome as rounds
 use Rattle.rounds.proofs.Laws.{count-reported}
 use Rattle.build.specs.declared.Built.{Built}
 use Rattle.build.specs.declared.Built.the-variants as Built
-use Rattle.build.specs.Held.{heldModel}
-use Rattle.build.proofs.Accepted.{rows-length}
+use Rattle.transitions.specs.Held.{heldModel}
+use Rattle.transitions.proofs.Accepted.{rows-length}
 use Rattle.build.specs.Built.{fits, roomy, builtOf, builtRoom}
 use Rattle.verdict.specs.declared.AllStates.{AllStates}
 use Rattle.verdict.specs.declared.AllStates.the-variants as AllStates

@@ -3,7 +3,7 @@ use Prim.Native.Nat.{ℕ}
 use mathlib.Core.List.{List}
 use mathlib.Core.Path.{_≡_}
 use Rattle.wire.specs.Read.{good, bad}
-use Rattle.build.specs.Held.{heldModel, heldRows, HoldsModel, HoldsRows}
+use Rattle.transitions.specs.Held.{heldModel, heldRows, HoldsModel, HoldsRows}
 use Rattle.verdict.specs.declared.Asked.{Asked}
 use Rattle.verdict.specs.declared.Asked.the-variants as Asked
 use Rattle.verdict.specs.Question.{Question, readQuestion}

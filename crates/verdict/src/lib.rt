@@ -1,6 +1,6 @@
 // The whole question: a model, a formula, a state and a budget; yes, no, or a refusal.
 ghost use mathlib.Core.Path.{_≡_};
-ghost use Rattle.build.specs.Held.{HoldsModel, HoldsRows};
+ghost use Rattle.transitions.specs.Held.{HoldsModel, HoldsRows};
 ghost use Rattle.verdict.specs.Answer.{answerNumber, answerOffset, answerVerdict, answerCount, answerLength, allNumber, allOffset, allCount, allLength, roomed, readBuilt, readSettled, readAsked, answerOf, allOf, builtAlone, bytesOf, valuesOf};
 ghost use Rattle.verdict.specs.Asking.{Asking, heldQuestion};
 ghost use Rattle.verdict.specs.Question.{readQuestion, nodesOf};

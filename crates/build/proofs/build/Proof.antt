@@ -12,11 +12,12 @@ use Rattle.graph.specs.Write.{writeGraph}
 use Rattle.model.specs.Model.{Model}
 use Rattle.formula.specs.declared.Row.{Row}
 use Rattle.reduction.specs.Built.{graphOf}
-use Rattle.build.specs.Held.{heldModel, heldRows}
-use Rattle.build.specs.Size.{inLimits}
+use Rattle.transitions.specs.Held.{heldModel, heldRows}
+use Rattle.sizing.specs.Size.{inLimits}
 use Rattle.build.specs.Built.{fits, roomy}
-use Rattle.build.proofs.Accepted.{states-few, rows-length}
-use Rattle.build.proofs.Parts.{Counted, counts-within, limits-are, covers-few, hypers-are, long-is, bytes-short, values-short, graph-roomy, size-refused, room-refused, writable, graph-built}
+use Rattle.transitions.proofs.Accepted.{states-few, rows-length}
+use Rattle.build.proofs.Parts.{Counted, limits-are, covers-few, hypers-are, long-is, bytes-short, values-short, graph-roomy, size-refused, room-refused, writable, graph-built}
+use Rattle.sizing.proofs.Limits.{counts-within}
 use Rattle.build.proofs.Writing.{untils-few}
 use Rattle.build.proofs.build.Statement.{statement}
 use Rattle.build.proofs.build.Tie as tie

@@ -4,7 +4,7 @@ use native.Mathlib.Omega.{arith}
 use borrow.Author.Needs.{needs}
 use Rattle.lists.proofs.Tests.{by}
 use Rattle.wire.specs.Bytes.{Bytes}
-use Rattle.rounds.proofs.Begin.{Begin, begin}
+use Rattle.graph.proofs.Ready.{Begin, begin}
 use Rattle.claims.proofs.Answering.{begun-nodes, shown-refused, shown-length, shown-yes, shown-no}
 use Rattle.claims.proofs.check.Statement.{statement}
 use Rattle.claims.proofs.check.Tie as tie

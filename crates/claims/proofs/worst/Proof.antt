@@ -9,7 +9,7 @@ use Rattle.wire.specs.Layout.{items, Sound}
 use Rattle.wire.proofs.Layouts.{sound-more}
 use Rattle.rules.specs.Rounds as rules
 use Rattle.graph.specs.Layouts.{targetLayout, TargetOk}
-use Rattle.rounds.proofs.Scan.{worst-turn, worst-end}
+use Rattle.graph.proofs.Worst.{worst-turn, worst-end}
 use Rattle.claims.specs.Claims.{claimedValue}
 use Rattle.claims.proofs.worst.Statement.{statement}
 use Rattle.claims.proofs.worst.Tie as tie

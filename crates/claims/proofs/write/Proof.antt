@@ -7,7 +7,7 @@ use Rattle.lists.proofs.Tests.{by}
 use Rattle.wire.specs.Bytes.{Bytes}
 use Rattle.rules.specs.Walks.{CoverCycle}
 use Rattle.graph.specs.Layouts.{decoded}
-use Rattle.rounds.proofs.Begin.{Begin, begin}
+use Rattle.graph.proofs.Ready.{Begin, begin}
 use Rattle.claims.proofs.Answering.{begun-nodes, begun-covers, written-refused, written-cyclic, written-narrow, written-filled}
 use Rattle.claims.proofs.write.Statement.{statement}
 use Rattle.claims.proofs.write.Tie as tie

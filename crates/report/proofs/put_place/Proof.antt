@@ -7,7 +7,7 @@ use native.Mathlib.Omega.{arith}
 use lib.ListN.{length, length-append}
 use borrow.Author.Needs.{needs}
 use Rattle.wire.proofs.Laid.{nothing, _then_, fits}
-use Rattle.text.specs.Text.{word, longDecimal}
+use Rattle.decimals.specs.Decimal.{word, longDecimal}
 use Rattle.report.specs.Lines.{place}
 use Rattle.report.proofs.Lines.{place-some}
 use Rattle.report.proofs.put_place.Statement.{statement}

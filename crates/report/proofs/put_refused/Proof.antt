@@ -6,7 +6,7 @@ use native.Mathlib.Omega.{arith}
 use lib.ListN.{length, length-append}
 use borrow.Author.Needs.{needs}
 use Rattle.wire.proofs.Laid.{_then_, fits, fits-before}
-use Rattle.text.specs.Text.{word, decimal}
+use Rattle.decimals.specs.Decimal.{word, decimal}
 use Rattle.report.specs.Lines.{place, refusedLine}
 use Rattle.report.proofs.put_refused.Statement.{statement}
 use Rattle.report.proofs.put_refused.Tie as tie

@@ -7,7 +7,7 @@ use native.Mathlib.Omega.{arith}
 use lib.ListN.{length, length-append}
 use borrow.Author.Needs.{needs}
 use Rattle.wire.proofs.Laid.{_then_, fits}
-use Rattle.text.specs.Text.{decimal}
+use Rattle.decimals.specs.Decimal.{decimal}
 use Rattle.report.specs.Lines.{answerWord}
 use Rattle.report.proofs.Lines.{state-parts}
 use Rattle.report.proofs.put_state.Statement.{statement}

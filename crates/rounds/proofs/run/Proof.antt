@@ -8,11 +8,11 @@ use borrow.Author.Needs.{needs}
 use lib.ListN.{length}
 use Rattle.wire.specs.Layout.{Sound, end}
 use Rattle.graph.specs.Layouts.{hyperLayout, coverLayout, decoded}
-use Rattle.rounds.specs.Room.{Beside}
-use Rattle.rounds.specs.Index.{partOf}
+use Rattle.halves.specs.Room.{Beside}
+use Rattle.scans.specs.Scan.{partOf}
 use Rattle.rounds.specs.Turns.{AtRound}
-use Rattle.rounds.proofs.Infinite.{covers-idle, stays-infinite}
-use Rattle.rounds.proofs.Next.{round-done}
+use Rattle.scans.proofs.Infinite.{covers-idle, stays-infinite}
+use Rattle.scans.proofs.Next.{round-done}
 use Rattle.rounds.proofs.Loop.{begins, from-here, holds-filled, filled-past, ends-settled, ends-spent, goes-on, whole-part}
 use Rattle.rounds.proofs.run.Statement.{statement}
 use Rattle.rounds.proofs.run.Tie as tie

@@ -6,9 +6,9 @@ use native.Mathlib.Omega.{arith}
 use lib.ListN.{length}
 use Rattle.wire.specs.Layout.{Sound}
 use Rattle.graph.specs.Layouts.{coverLayout, decoded}
-use Rattle.rounds.specs.Room.{Beside}
+use Rattle.halves.specs.Room.{Beside}
 use Rattle.rounds.specs.Turns.{AtRound}
-use Rattle.rounds.proofs.Noting.{noted-none, covers-none}
+use Rattle.notes.proofs.Noting.{noted-none, covers-none}
 use Rattle.rounds.proofs.Loop.{Marking, holds-filled, ends-settled, ends-spent, goes-on, upto, there, marked-sound, marked-past, covers-climb, covers-upto, marked-part, marked-beside}
 use Rattle.rounds.proofs.run_on.Statement.{statement}
 use Rattle.rounds.proofs.run_on.Tie as tie

@@ -4,7 +4,8 @@ use native.Mathlib.Omega.{arith}
 use borrow.Author.Needs.{needs}
 use Rattle.lists.proofs.Tests.{by}
 use Rattle.wire.specs.Bytes.{Bytes}
-use Rattle.rounds.proofs.Begin.{Begin, begin, shown-refused, shown-room, shown-ran}
+use Rattle.graph.proofs.Ready.{Begin, begin}
+use Rattle.rounds.proofs.Begin.{shown-refused, shown-room, shown-ran}
 use Rattle.rounds.proofs.solve.Statement.{statement}
 use Rattle.rounds.proofs.solve.Tie as tie
 

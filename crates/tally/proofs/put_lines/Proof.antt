@@ -4,7 +4,7 @@ use mathlib.Core.List.{List, [], _∷_}
 use native.Mathlib.Omega.{arith}
 use lib.ListN.{length, drop, getD, length-append}
 use Rattle.wire.proofs.Laid.{Left, all-left, none-left, left-fits, left-then, more, same-length as kept-length}
-use Rattle.text.specs.Text.{longDecimal}
+use Rattle.decimals.specs.Decimal.{longDecimal}
 use Rattle.tally.specs.Report.{lines}
 use Rattle.tally.proofs.Spelled.{past-end}
 use Rattle.tally.proofs.Lines.{lineOf, lines-drop}

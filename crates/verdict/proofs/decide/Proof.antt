@@ -8,7 +8,7 @@ use lib.ListN.{length}
 use borrow.Author.Needs.{needs}
 use Rattle.lists.proofs.Tests.{by}
 use Rattle.wire.specs.Bytes.{Bytes}
-use Rattle.build.specs.Held.{heldModel}
+use Rattle.transitions.specs.Held.{heldModel}
 use Rattle.verdict.specs.declared.AllStates.{AllStates}
 use Rattle.verdict.specs.declared.Answer.{Answer}
 use Rattle.verdict.specs.Question.{Question}

@@ -2,7 +2,7 @@
 use denote.Ref.{now}
 use mathlib.Core.Path.{subst}
 use borrow.Author.Needs.{needs}
-use Rattle.build.proofs.Accepted.{states-few}
+use Rattle.transitions.proofs.Accepted.{states-few}
 use Rattle.verdict.specs.Asking.{Asking, Held}
 use Rattle.verdict.proofs.Answering.{nodes-refused, nodes-counted}
 use Rattle.verdict.proofs.nodes.Statement.{statement}

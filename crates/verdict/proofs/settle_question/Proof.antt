@@ -10,8 +10,8 @@ use Rattle.lists.proofs.Tests.{by}
 use Rattle.graph.specs.WellFormed.{WellFormed}
 use Rattle.graph.specs.Write.{writeGraph}
 use Rattle.rounds.specs.declared.Outcome.{Outcome}
-use Rattle.rounds.proofs.Begin.{Written, header-inside, written-ready}
-use Rattle.build.proofs.Accepted.{states-few, rows-length}
+use Rattle.graph.proofs.Ready.{Written, header-inside, written-ready}
+use Rattle.transitions.proofs.Accepted.{states-few, rows-length}
 use Rattle.verdict.specs.Question.{Question, graphFor}
 use Rattle.verdict.specs.Asking.{heldQuestion}
 use Rattle.verdict.proofs.Fitting.{fits-well}

@@ -7,7 +7,7 @@ use Rattle.lists.specs.Making.{span}
 use Rattle.wire.proofs.Laid.{stored, _then_, said}
 use Rattle.wire.proofs.Laid as laid
 use Rattle.graph.specs.Format.{coverBoundAt, coverTargetAt, coverWidth}
-use Rattle.build.specs.Bytes.{coverBytes}
+use Rattle.records.specs.Bytes.{coverBytes}
 use Rattle.build.proofs.Nodes.{place-fits}
 use Rattle.build.proofs.Covers.{coverOf, cover-length, covers-coded}
 use Rattle.wire.proofs.Spans.{SpanLeft, span-begun, span-done, span-fits, span-then}

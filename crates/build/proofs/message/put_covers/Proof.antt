@@ -4,9 +4,9 @@ use mathlib.Core.Path.{sym, ap, _∙_}
 use native.Mathlib.Omega.{arith}
 use borrow.Author.Needs.{needs}
 use Rattle.reduction.specs.Built.{isUntil}
-use Rattle.build.specs.Held.{heldRows}
-use Rattle.build.specs.Bytes.{coversOf}
-use Rattle.build.proofs.Untils.{other-tag}
+use Rattle.transitions.specs.Held.{heldRows}
+use Rattle.records.specs.Bytes.{coversOf}
+use Rattle.sizing.proofs.Untils.{other-tag}
 use Rattle.build.proofs.Covers.{Covering, covering-all, covering-none, row-readable, helper-fits, until-fits, until-covered, other-covered}
 use Rattle.build.proofs.message.put_covers.Statement.{statement}
 use Rattle.build.proofs.message.put_covers.Tie as tie

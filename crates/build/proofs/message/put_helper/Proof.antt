@@ -14,10 +14,10 @@ use Rattle.rules.specs.Graph.{Target}
 use Rattle.graph.specs.Write.{writeTarget, writeHyper}
 use Rattle.model.specs.Model.{Transition}
 use Rattle.reduction.specs.Built.{to, hyper, ifAny}
-use Rattle.build.specs.Held.{transitionsFrom}
-use Rattle.build.specs.Bytes.{hypersBytes, someSteps, everySteps, stepsBytes}
+use Rattle.transitions.specs.Held.{transitionsFrom}
+use Rattle.records.specs.Bytes.{hypersBytes, someSteps, everySteps, stepsBytes}
 use Rattle.graph.proofs.Exact.{target-length}
-use Rattle.build.proofs.Edges.{head-length, hypers-more, single-laid, more-laid, hyper-laid}
+use Rattle.records.proofs.Edges.{head-length, hypers-more, single-laid, more-laid, hyper-laid}
 use Rattle.build.proofs.Helpers.{right-fits, steps-some, steps-none, every-parts, steps-count, some-stepped, every-stepped}
 use Rattle.build.proofs.message.put_helper.Statement.{statement}
 use Rattle.build.proofs.message.put_helper.Tie as tie

@@ -5,10 +5,10 @@ use native.Mathlib.Numerals.{add-one}
 use native.Mathlib.Omega.{arith}
 use lib.ListN.{getD}
 use borrow.Author.Needs.{needs}
-use Rattle.build.specs.Held.{heldModel, Own}
-use Rattle.build.specs.Bytes.{helperBytes}
-use Rattle.build.proofs.Accepted.{states-few}
-use Rattle.build.proofs.Ranges.{starts-own}
+use Rattle.transitions.specs.Held.{heldModel, Own}
+use Rattle.records.specs.Bytes.{helperBytes}
+use Rattle.transitions.proofs.Accepted.{states-few}
+use Rattle.transitions.proofs.Ranges.{starts-own}
 use Rattle.build.proofs.Nodes.{place-fits, own-read}
 use Rattle.build.proofs.Helpers.{own-narrow, helperOf, helper-spans, helper-is}
 use Rattle.wire.proofs.Spans.{SpanLeft, span-begun, span-done, span-fits, span-then}

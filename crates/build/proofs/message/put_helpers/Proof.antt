@@ -7,9 +7,9 @@ use borrow.Author.Needs.{needs}
 use Rattle.formula.specs.declared.Row.the-variants.{Until}
 use Rattle.formula.specs.Layouts.{rowAt}
 use Rattle.reduction.specs.Built.{isUntil, untils}
-use Rattle.build.specs.Held.{heldModel, heldRows}
-use Rattle.build.specs.Bytes.{helpersBytes}
-use Rattle.build.proofs.Untils.{other-tag}
+use Rattle.transitions.specs.Held.{heldModel, heldRows}
+use Rattle.records.specs.Bytes.{helpersBytes}
+use Rattle.sizing.proofs.Untils.{other-tag}
 use Rattle.build.proofs.Helpers.{RowsLeft, rows-all, rows-none, until-fit, until-fits, until-then, other-then}
 use Rattle.build.proofs.message.put_helpers.Statement.{statement}
 use Rattle.build.proofs.message.put_helpers.Tie as tie

@@ -10,9 +10,9 @@ use Rattle.lists.proofs.Places.{first, second}
 use Rattle.wire.proofs.Laid.{fits}
 use Rattle.graph.specs.Write.{writeHyper}
 use Rattle.reduction.specs.Built.{to, rowEdges}
-use Rattle.build.specs.Held.{transitionsFrom, heldModel}
-use Rattle.build.specs.Bytes.{singleWidth, pairWidth, hypersBytes, nextEdges}
-use Rattle.build.proofs.Edges.{single-length, pair-length, single-laid, more-laid, hypers-more, first-fits, bare-fits, bare-laid, none-laid}
+use Rattle.transitions.specs.Held.{transitionsFrom, heldModel}
+use Rattle.records.specs.Bytes.{singleWidth, pairWidth, hypersBytes, nextEdges}
+use Rattle.records.proofs.Edges.{single-length, pair-length, single-laid, more-laid, hypers-more, first-fits, bare-fits, bare-laid, none-laid}
 use Rattle.build.proofs.Nodes.{operand-fits, next-are, own-read}
 use Rattle.build.proofs.message.put_row.Statement.{statement}
 use Rattle.build.proofs.message.put_row.Tie as tie

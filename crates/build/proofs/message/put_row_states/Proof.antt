@@ -7,10 +7,10 @@ use native.Mathlib.Omega.{arith}
 use lib.ListN.{getD}
 use borrow.Author.Needs.{needs}
 use Rattle.reduction.specs.Built.{rowEdges}
-use Rattle.build.specs.Held.{heldModel, Own}
-use Rattle.build.specs.Bytes.{hypersBytes, rowBytes}
-use Rattle.build.proofs.Accepted.{states-few}
-use Rattle.build.proofs.Ranges.{starts-own}
+use Rattle.transitions.specs.Held.{heldModel, Own}
+use Rattle.records.specs.Bytes.{hypersBytes, rowBytes}
+use Rattle.transitions.proofs.Accepted.{states-few}
+use Rattle.transitions.proofs.Ranges.{starts-own}
 use Rattle.build.proofs.Nodes.{row-spans, until-laid}
 use Rattle.wire.proofs.Spans.{SpanLeft, span-begun, span-done, span-fits, span-then}
 use Rattle.build.proofs.message.put_row_states.Statement.{statement}

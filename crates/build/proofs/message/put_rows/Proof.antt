@@ -8,8 +8,8 @@ use Rattle.wire.specs.Layout.{items}
 use Rattle.wire.proofs.Laid.{Left, all-left, left-fits, left-then, none-left}
 use Rattle.formula.specs.Format.{formulaHeader, rowWidth, placeOf}
 use Rattle.formula.specs.Layouts.{rowAt, rowLayout}
-use Rattle.build.specs.Held.{heldModel, heldRows}
-use Rattle.build.specs.Bytes.{rowBytes, rowsBytes}
+use Rattle.transitions.specs.Held.{heldModel, heldRows}
+use Rattle.records.specs.Bytes.{rowBytes, rowsBytes}
 use Rattle.build.proofs.Nodes.{rows-more, rows-none, row-fits}
 use Rattle.wire.proofs.Stride.{items-left}
 use Rattle.build.proofs.message.put_rows.Statement.{statement}

@@ -11,8 +11,8 @@ use Rattle.wire.specs.Laid.{laid}
 use Rattle.wire.proofs.Laid.{_then_, fits}
 use Rattle.reduction.specs.Built.{untils}
 use Rattle.graph.specs.Write.{writeHeader}
-use Rattle.build.specs.Held.{heldModel, heldRows}
-use Rattle.build.specs.Bytes.{rowsBytes, helpersBytes, coversOf}
+use Rattle.transitions.specs.Held.{heldModel, heldRows}
+use Rattle.records.specs.Bytes.{rowsBytes, helpersBytes, coversOf}
 use Rattle.build.proofs.Writing.{untils-few, nodes-few, rows-few, helpers-fit, written-parts, parts-fit, header-length}
 use Rattle.build.proofs.message.write.Statement.{statement}
 use Rattle.build.proofs.message.write.Tie as tie

@@ -1,0 +1,2 @@
+-- Definitions: words and decimal numbers as bytes.
+pub mod Decimal

@@ -1,0 +1,2 @@
+-- Definitions: the bytes of a graph's parts.
+pub mod Bytes

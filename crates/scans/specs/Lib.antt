@@ -1,0 +1,2 @@
+-- Definitions: the room while the records of a round are taken in.
+pub mod Scan

@@ -1,0 +1,9 @@
+-- Laws of sizes.
+--     Untils     rows that are no until
+--     Sizes      how much room hyperedges take, of a row and of all
+--     Whole      the size of a graph that is built, and of its message
+--     Limits     what the limits say, one by one
+pub mod Untils
+pub mod Sizes
+pub mod Whole
+pub mod Limits

@@ -1,0 +1,2 @@
+-- Definitions: how much room hyperedges take.
+pub mod Size

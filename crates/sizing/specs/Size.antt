@@ -1,0 +1,52 @@
+-- How much room the hyperedges of a graph take: how many, how many targets in all, and in the one with the most.
+use Prim.Native.Nat.{ℕ, _+_, _*_, min, max}
+use mathlib.Core.List.{List, [], _∷_, _++_}
+use mathlib.Core.Bool.{Bool, cond, _&&_}
+use lib.ListN.{length}
+use lib.Dec.{ltb, leb}
+use Rattle.lists.specs.Making.{span}
+use Rattle.rules.specs.Graph.{Target}
+use Rattle.model.specs.Model.{Model}
+use Rattle.formula.specs.declared.Row.{Row}
+use Rattle.formula.specs.declared.Quantifier.{Quantifier}
+use Rattle.formula.specs.declared.Quantifier.the-variants.{Some, Every}
+use Rattle.reduction.specs.Built.{rowEdges, helperEdges, ifUntil}
+use Rattle.sizing.specs.declared.Size.{Size}
+
+-- the size of no hyperedge
+abbrev pub noSize : Size
+noSize = record { hypers = 0; targets = 0; most = 0 }
+
+-- the size of two lists of hyperedges together
+abbrev pub addSize : Size → Size → Size
+addSize x y = record { hypers = x .hypers + y .hypers; targets = x .targets + y .targets; most = max (x .most) (y .most) }
+
+-- of the target lists of hyperedges
+unfoldable pub sizeOf : List (List Target) → Size
+sizeOf [] = noSize
+sizeOf (ts ∷ tss) = addSize (record { hypers = 1; targets = length ts; most = length ts }) (sizeOf tss)
+
+-- the target lists of a row's nodes and of its helpers', state by state; the helpers' place does not matter here
+unfoldable pub stateEdges : Model → Row → ℕ → List (List Target)
+stateEdges M row a = rowEdges M row a ++ helperEdges M row 0 a
+
+unfoldable pub rowsEdges : Model → List Row → List (List Target)
+rowsEdges M [] = []
+rowsEdges M (row ∷ rows) = span (stateEdges M row) 0 (M .states) ++ rowsEdges M rows
+
+-- of an EX or AX with so many transitions within the bound, and of an until's helper with so many transitions
+abbrev pub nextSize : Quantifier → ℕ → Size
+nextSize Some near = record { hypers = near; targets = near; most = min near 1 }
+nextSize Every near = record { hypers = 1; targets = near; most = near }
+
+abbrev pub stepSize : Quantifier → ℕ → Size
+stepSize Some many = record { hypers = 1 + many; targets = 1 + 2 * many; most = cond (ltb many 1) 1 2 }
+stepSize Every many = cond (ltb many 1) (record { hypers = 1; targets = 1; most = 1 }) (record { hypers = 2; targets = 2 + many; most = 1 + many })
+
+-- of a row's helper, which only an until has
+abbrev pub helperSize : Row → ℕ → Size
+helperSize row many = ifUntil row (λ q l r b. stepSize q many) noSize
+
+-- so many nodes, and hyperedges of this size, pass no limit
+unfoldable pub inLimits : ℕ → Size → Bool
+inLimits nodes z = leb nodes 4096 && (leb (z .hypers) 65535 && (leb (z .targets) 262144 && leb (z .most) 65535))

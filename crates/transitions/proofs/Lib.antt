@@ -1,0 +1,9 @@
+-- Laws of what accepted messages hold.
+--     Holding    what accepted messages hold, by position
+--     Counting   a loop that counts the records that pass a test
+--     Ranges     with transitions in order, where each state's stand
+--     Accepted   what accepted messages say of the model and the rows that they hold
+pub mod Holding
+pub mod Counting
+pub mod Ranges
+pub mod Accepted
