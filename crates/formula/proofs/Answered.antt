@@ -5,19 +5,39 @@ use mathlib.Core.Path.{_≡_, refl}
 use native.Mathlib.Omega.{arith}
 use lib.ListN.{length}
 use Rattle.refusal.specs.declared.Fault.{Fault}
-use Rattle.wire.specs.Read.{Read, good, bad}
-use Rattle.formula.specs.Answers.{judged, counted, checked}
+use Rattle.wire.specs.Read.{Read, good, bad, _>>=_}
+use Rattle.formula.specs.Answers.{operandsOf, listed, kept, judged, counted, checked}
 use Rattle.formula.specs.declared.Row.{Row}
+use Rattle.formula.specs.declared.Row.the-variants.{True, False, Proposition, Negation, And, Or, Next, Until}
+use Rattle.formula.specs.Rows.{operands}
+use Rattle.formula.specs.declared.Operands.{Operands}
 use Rattle.formula.specs.declared.Judged.the-variants as Judged
 use Rattle.formula.specs.declared.Checked.the-variants as Checked
 
-pub judged-fine : (x : Read Row) {row : Row} → judged x ≡ Judged.Fine row → x ≡ good row
-unfolding judged
-judged-fine (good a) e = cc
-judged-fine (bad a) e = cc
+-- operands that were kept are those of the row that was read
+pub record Kept (x : Read Row) (k : Operands) : Type 0 where
+  pub row : Row
+  pub read : x ≡ good row
+  pub are : operandsOf row ≡ k
+
+pub listed-are : (row : Row) → listed (operandsOf row) ≡ operands row
+unfolding operandsOf
+listed-are True = refl
+listed-are False = refl
+listed-are (Proposition i) = refl
+listed-are (Negation i) = refl
+listed-are (And l r) = refl
+listed-are (Or l r) = refl
+listed-are (Next q k l b) = refl
+listed-are (Until q l r b) = refl
+
+pub judged-fine : (x : Read Row) {k : Operands} → judged x ≡ Judged.Fine k → Kept x k
+unfolding kept _>>=_
+judged-fine (good a) {k} e = record { row = a; read = refl; are = cc }
+judged-fine (bad a) e = let z : _≡_ {A = ℕ} 0 1 = cc in absurd (omega arith)
 
 pub judged-refused : (x : Read Row) {f : Fault} → judged x ≡ Judged.Refused f → x ≡ bad f
-unfolding judged
+unfolding kept _>>=_
 judged-refused (good a) e = cc
 judged-refused (bad a) e = cc
 

@@ -1,17 +1,15 @@
 -- A message is accepted as a formula exactly when it is the writing of its rows, and the rows are well-formed. Assumes nothing.
-use Prim.Native.Nat.{ℕ, zero, suc, _+_, _-_, _<_}
-use mathlib.Core.Bool.{true, false}
+use Prim.Native.Nat.{ℕ, zero, suc, _+_, _<_}
+use mathlib.Core.Bool.{false}
 use mathlib.Core.List.{List, [], _∷_, _++_, List·Memᴰ·head, List·Memᴰ·tail, List·Memᴰ·append-cases}
 use mathlib.Core.Logic.{_↔_, ⊎-elim}
 use mathlib.Core.Path.{_≡_, refl, sym, ap, subst, _∙_}
 use native.Mathlib.Nat.{add-zero, zero-add}
 use native.Mathlib.Omega.{arith}
-use lib.Dec.{eqb}
 use lib.ListN.{length, getD, drop, length-append}
-use borrow.Author.Tests.{le-leb, eq-eqb, eqb-true}
-use Rattle.lists.specs.Lists.{_∈_, all, upTo}
+use borrow.Author.Tests.{le-leb, eq-eqb}
+use Rattle.lists.specs.Lists.{_∈_, all}
 use Rattle.lists.proofs.Places.{place-lt, place-∈, ∈-place}
-use Rattle.lists.proofs.Lists.{all-true, true-all, ∈-upTo, upTo-∈}
 use Rattle.wire.specs.Start.{startWidth}
 use Rattle.wire.specs.declared.State.{State}
 use Rattle.wire.specs.Bytes.{bytes, Bytes}
@@ -25,13 +23,14 @@ use Rattle.wire.proofs.Counts.{good-count}
 use Rattle.wire.proofs.Exact.{good-bind, good-after, good-demand, length-writeAll, Exact, FitsAll, none, more, all-reads, all-written, message-length, message-rest, start-reads, start-written}
 use Rattle.formula.specs.Format.{formulaHeader, formulaHead, rowsCount, leftAt, rightAt, zeroAt, boundAt, rowWidth, formulaLength}
 use Rattle.formula.specs.declared.Row.{Row}
-use Rattle.formula.specs.Rows.{rowOf, usesLeft, usesRight, usesBound, operands, propositions, actions, uses, usedOnce}
+use Rattle.formula.specs.Rows.{rowOf, usesLeft, usesRight, usesBound, operands, propositions}
 use Rattle.formula.specs.Message.{rowFrom, fieldsFrom, rows, readHeader, readFormula}
 use Rattle.formula.specs.Write.{fields, writeRow, writeFormula}
 use Rattle.formula.specs.WellFormed.{SayableRow, RowAt, WellFormed}
 use Rattle.formula.proofs.Good.{row-good, header-good, formula-good, good-formula}
 use Rattle.formula.proofs.Judging.{Named, spare-fields, named-fields}
 use Rattle.formula.proofs.Using.{good-spare, good-operand}
+use Rattle.formula.proofs.Marks.{used-each, each-used}
 use Rattle.formula.proofs.Spelt.{names, left, right, spelt, row-length, said}
 
 -- ---- rows
@@ -134,16 +133,6 @@ module _ (s : List ℕ) (p : ℕ) where
   at-fits st [] f = none
   at-fits st (row ∷ rs) f =
       more (rw add-zero at (f 0 row refl)) (at-fits (rows s p .next st row) rs (λ i row e. subst (λ (n : ℕ). RowFits p n row) (omega arith) (f (suc i) row e)))
-
--- ---- the rule of use
-
-used-each : (rs : List Row) → usedOnce rs ≡ true → (i : ℕ) → suc i < length rs → uses i rs ≡ 1
-unfolding usedOnce
-used-each rs e i h = eqb-true _ _ (all-true (λ j. eqb (uses j rs) 1) (upTo (length rs - 1)) e i (upTo-∈ (length rs - 1) (omega arith)))
-
-each-used : (rs : List Row) → ((i : ℕ) → suc i < length rs → uses i rs ≡ 1) → usedOnce rs ≡ true
-unfolding usedOnce
-each-used rs f = true-all (λ j. eqb (uses j rs) 1) (upTo (length rs - 1)) (λ i m. let h = ∈-upTo (length rs - 1) m in eq-eqb _ _ (f i (omega arith)))
 
 -- ---- whole messages
 

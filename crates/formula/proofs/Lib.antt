@@ -3,8 +3,9 @@
 --     Judging    the tests of a row's fields, in terms of the row
 --     Using      which fields each kind of operator uses, and how each is read
 --     Spared     a row's fields told as numbers, those that its operator doesn't use looked at together
+--     Keeping    the operands of a row by the kind of its operator
 --     Good       what a good reading says of the bytes
---     Uses       how often rows are operands, counted in a table
+--     Marks      how often rows are operands: marks, and the rule of use
 --     Begun      what a loop over rows has read, and what is left
 --     Accepted   what an accepted message holds, by position
 --     Answered   the reading from an answer
@@ -17,8 +18,9 @@ pub mod Spelt
 pub mod Judging
 pub mod Using
 pub mod Spared
+pub mod Keeping
 pub mod Good
-pub mod Uses
+pub mod Marks
 pub mod Begun
 pub mod Accepted
 pub mod Answered

@@ -12,10 +12,11 @@ use Rattle.lists.specs.Lists.{_∈_}
 use Rattle.lists.proofs.Places.{first, second, place-lt}
 use Rattle.formula.specs.declared.Row.{Row}
 use Rattle.formula.specs.declared.Row.the-variants.{True, False, Proposition, Negation, And, Or, Next, Until}
-use Rattle.formula.specs.Rows.{operands, times, uses}
+use Rattle.formula.specs.Rows.{operands, times}
 use Rattle.formula.specs.Formula.{Formula, and, or, next, until, grow, tree, formulaOf, rootOf, size, Reaches, here, through}
 use Rattle.formula.specs.WellFormed.{RowAt, WellFormed}
-use Rattle.formula.proofs.Sums.{sumOf, sumFrom, times-append, sumOf-append, times-∈, sumFrom-last, sumFrom-same, sumOf-range}
+use Rattle.formula.proofs.Marks.{allOperands, uses-times}
+use Rattle.formula.proofs.Sums.{sumOf, sumFrom, sumOf-append, times-∈, sumFrom-last, sumFrom-same, sumOf-range}
 
 -- operands are earlier rows, as in well-formed rows
 pub record Ordered (rows : List Row) : Type 0 where
@@ -55,15 +56,6 @@ module _ (rows : List Row) (ok : Ordered rows) where
 
 -- ---- all operands together
 
-operandsOf : List Row → List ℕ
-operandsOf [] = []
-operandsOf (row ∷ rows) = operands row ++ operandsOf rows
-
-uses-times : (i : ℕ) (rows : List Row) → uses i rows ≡ times i (operandsOf rows)
-unfolding uses times operandsOf
-uses-times i [] = refl
-uses-times i (row ∷ rows) = omega (arith, uses-times i rows, times-append i (operands row) (operandsOf rows))
-
 -- an operand of some row
 record Used (rows : List Row) (l : ℕ) : Type 0 where
   place : ℕ
@@ -71,12 +63,12 @@ record Used (rows : List Row) (l : ℕ) : Type 0 where
   at : RowAt rows place row
   operand : l ∈ operands row
 
-used : (rows : List Row) {l : ℕ} → l ∈ operandsOf rows → Used rows l
-unfolding operandsOf
+used : (rows : List Row) {l : ℕ} → l ∈ allOperands rows → Used rows l
+unfolding allOperands
 used [] m = absurd (List·Memᴰ·not-nil m)
 used (row ∷ rows) {l} m = go (List·Memᴰ·append-cases (operands row) m) (used rows)
   where
-    go : (l ∈ operands row) ⊎ (l ∈ operandsOf rows) → (l ∈ operandsOf rows → Used rows l) → Used (row ∷ rows) l
+    go : (l ∈ operands row) ⊎ (l ∈ allOperands rows) → (l ∈ allOperands rows → Used rows l) → Used (row ∷ rows) l
     go (inl h) rest = record { place = 0; row = row; at = refl; operand = h }
     go (inr h) rest = let u = rest h in record { place = suc (u .place); row = u .row; at = u .at; operand = u .operand }
 
@@ -95,20 +87,20 @@ size-grow (Until q l r b) φ = omega arith
 
 -- the rows from place k on have one operator or proposition each, and those of their operands
 rows-sum : (w : ℕ → ℕ) (rows : List Row) (k : ℕ) → ((i : ℕ) (row : Row) → RowAt rows i row → w (k + i) ≡ 1 + sumOf w (operands row))
-    → sumFrom w k (length rows) ≡ length rows + sumOf w (operandsOf rows)
-unfolding sumFrom sumOf operandsOf
+    → sumFrom w k (length rows) ≡ length rows + sumOf w (allOperands rows)
+unfolding sumFrom sumOf allOperands
 rows-sum w [] k f = refl
 rows-sum w (row ∷ rows) k f =
     let here : w k ≡ 1 + sumOf w (operands row) = rw add-zero at (f 0 row refl) in
     let rest = rows-sum w rows (suc k) (λ i r e. ap w (omega arith) ∙ f (suc i) r e) in
-    omega (arith, sumOf-append w (operands row) (operandsOf rows))
+    omega (arith, sumOf-append w (operands row) (allOperands rows))
 
 module _ {p : ℕ} {rows : List Row} (well : WellFormed p rows) where
   -- every row but the last is an operand exactly once, and the last is none
-  once : (i : ℕ) → i < length rows - 1 → times i (operandsOf rows) ≡ 1
+  once : (i : ℕ) → i < length rows - 1 → times i (allOperands rows) ≡ 1
   once i h = sym (uses-times i rows) ∙ well .used-once i (omega arith)
 
-  operand-below : (l : ℕ) → l ∈ operandsOf rows → l < length rows - 1
+  operand-below : (l : ℕ) → l ∈ allOperands rows → l < length rows - 1
   operand-below l m = let u = used rows m in omega (arith, well .earlier (u .place) (u .at) (u .operand), place-lt rows (u .place) (u .at))
 
   -- the root has as many operators and propositions as there are rows
@@ -116,10 +108,10 @@ module _ {p : ℕ} {rows : List Row} (well : WellFormed p rows) where
   tree-size =
       let w : ℕ → ℕ = λ i. size (formulaOf rows i) in
       let last : ℕ = length rows - 1 in
-      let total : sumFrom w 0 (length rows) ≡ length rows + sumOf w (operandsOf rows) =
+      let total : sumFrom w 0 (length rows) ≡ length rows + sumOf w (allOperands rows) =
       rows-sum w rows 0 (λ i row e. ap w (zero-add i) ∙ ap size (formula-of-row rows (ordered well) i e) ∙ size-grow row (formulaOf rows)) in
-      let others : sumOf w (operandsOf rows) ≡ sumFrom w 0 last =
-      sumOf-range w (operandsOf rows) last operand-below
+      let others : sumOf w (allOperands rows) ≡ sumFrom w 0 last =
+      sumOf-range w (allOperands rows) last operand-below
       ∙ sumFrom-same _ w 0 last (λ i h k. ap (λ (t : ℕ). t * w i) (once i (omega arith)) ∙ one-mul (w i)) in
       let ends : sumFrom w 0 (length rows) ≡ sumFrom w 0 last + w last =
       ap (sumFrom w 0) (omega (arith, well .some-row)) ∙ sumFrom-last w 0 last ∙ ap (λ (i : ℕ). sumFrom w 0 last + w i) (zero-add last) in
@@ -133,7 +125,7 @@ module _ {p : ℕ} {rows : List Row} (well : WellFormed p rows) where
       go : (i ≡ length rows - 1) ⊎ (i < length rows - 1) → ((j : ℕ) → length rows ≤ j + d → j < length rows → Reaches rows (length rows - 1) j) → Reaches rows (length rows - 1) i
       go (inl e) rest = subst (Reaches rows (length rows - 1)) (sym e) here
       go (inr l) rest =
-          let u = used rows (times-∈ i (operandsOf rows) (rw (once i l) (omega arith))) in
+          let u = used rows (times-∈ i (allOperands rows) (rw (once i l) (omega arith))) in
           let after = well .earlier (u .place) (u .at) (u .operand) in
           through (rest (u .place) (omega arith) (place-lt rows (u .place) (u .at))) (u .at) (u .operand)
 

@@ -4,6 +4,7 @@ pub mod Rows
 pub mod Format
 pub mod Message
 pub mod Told
+pub mod Marked
 pub mod Write
 pub mod WellFormed
 pub mod Answers

@@ -71,11 +71,16 @@ readHeader s = do
   demand (eqb (length s) (formulaLength f)) Length nowhere
   good f
 
--- a whole message: the p handed in comes before any byte; the header, the rows, and after all of them the rule of use
+-- the f rows, and after all of them the rule of use
+abbrev pub readRows : List ℕ → (p f : ℕ) → Read (List Row)
+readRows s p f = do
+  rs ← readAll (rows s p) f (start formulaHeader)
+  demand (usedOnce rs) Form nowhere
+  good rs
+
+-- a whole message: the p handed in comes before any byte; the header, and the rows
 unfoldable pub readFormula : ℕ → List ℕ → Read (List Row)
 readFormula p s = do
   demand (leb p 32) Limit nowhere
   f ← readHeader s
-  rs ← readAll (rows s p) f (start formulaHeader)
-  demand (usedOnce rs) Form nowhere
-  good rs
+  readRows s p f

@@ -7,8 +7,10 @@ use lib.Dec.{eqb}
 use Rattle.refusal.specs.declared.Refusal.the-variants.{Form}
 use Rattle.wire.specs.declared.Field.the-variants.{Number}
 use Rattle.wire.specs.Field.{fieldAt}
-use Rattle.wire.specs.Read.{Read, good, _>>_, demand}
+use Rattle.wire.specs.Read.{Read, good, _>>=_, _>>_, demand, below, misnamed}
 use Rattle.formula.specs.declared.Fields.{Fields}
+use Rattle.formula.specs.declared.Operands.{Operands}
+use Rattle.formula.specs.declared.Operands.the-variants.{None, One, Both}
 use Rattle.formula.specs.Format.{leftAt, rightAt, zeroAt, boundAt}
 
 -- the fields that stand in a row
@@ -17,6 +19,10 @@ pub record Told (row : List ℕ) (fields : Fields) : Type 0 where
   pub right-told : fieldAt 1 row rightAt ≡ Number (fields .right)
   pub zero-told : fieldAt 1 row zeroAt ≡ Number (fields .zero)
   pub bound-told : fieldAt 4 row boundAt ≡ Number (fields .bound)
+
+-- the fields behind left that must be zero, where left is used
+abbrev pub idle : (right spare bound : ℕ) → Fields
+idle right spare bound = record { left = 0; right = right; zero = spare; bound = bound }
 
 -- whether fields are all zero
 abbrev pub allZero : Fields → Bool
@@ -30,3 +36,30 @@ unused offset f = do
   demand (eqb (f .zero) 0) Form (offset + zeroAt)
   demand (eqb (f .bound) 0) Form (offset + boundAt)
   good 0
+
+-- the operands of a row of each kind: its unused fields first, then left, then right
+unfoldable pub leftName : List ℕ → (offset limit : ℕ) → Fields → Read ℕ
+leftName row offset limit idle = do
+  u ← unused offset idle
+  below 1 row leftAt limit (misnamed (offset + leftAt))
+
+unfoldable pub constant : (offset : ℕ) → Fields → Read Operands
+constant offset idle = do
+  u ← unused offset idle
+  good None
+
+unfoldable pub proposition : List ℕ → (offset p : ℕ) → Fields → Read Operands
+proposition row offset p idle = do
+  l ← leftName row offset p idle
+  good None
+
+unfoldable pub oneOperand : List ℕ → (offset place : ℕ) → Fields → Read Operands
+oneOperand row offset place idle = do
+  l ← leftName row offset place idle
+  good (One l)
+
+unfoldable pub bothOperands : List ℕ → (offset place : ℕ) → Fields → Read Operands
+bothOperands row offset place idle = do
+  l ← leftName row offset place idle
+  r ← below 1 row rightAt place (misnamed (offset + rightAt))
+  good (Both l r)

@@ -2,21 +2,17 @@
 ghost use mathlib.Core.Path.{_≡_};
 ghost use Prim.Native.Nat.{ℕ, _+_, _*_, _^_, _≤_, _<_};
 ghost use mathlib.Core.Bool.{false};
-ghost use mathlib.Core.List.{List, [], _∷_};
+ghost use mathlib.Core.List.{List, [], _∷_, _++_};
 ghost use lib.ListN.{length, getD};
 ghost use Rattle.lists.specs.Lists.{_∈_};
-ghost use Rattle.wire.specs.declared.Field.the-variants.{Number};
-ghost use Rattle.wire.specs.Field.{fieldAt};
-ghost use Rattle.wire.specs.Read.{good, bad, below, found, misnamed};
-ghost use Rattle.wire.specs.Reader.{readAll};
-ghost use Rattle.wire.specs.Step.{start};
-ghost use Rattle.formula.specs.declared.Row.{Row};
+ghost use Rattle.wire.specs.Read.{bad, below, found, misnamed};
 ghost use Rattle.formula.specs.Rows as rows;
 ghost use Rattle.formula.specs.Message as m;
 ghost use Rattle.formula.specs.Told as spare;
+ghost use Rattle.formula.specs.Marked.{Marked};
 ghost use Rattle.formula.specs.Layouts.{rowAt};
 ghost use Rattle.formula.specs.Answers as answers;
-ghost use Rattle.formula.specs.Format.{formulaHeader, rowWidth, formulaLength};
+ghost use Rattle.formula.specs.Format.{rowWidth, formulaLength};
 use refusal::Fault;
 use refusal::Refusal;
 use value::Bound;
@@ -41,6 +37,9 @@ const ROWS: Count = Count {
     least: 1,
     most: 64,
 };
+
+// How many operators there are: they are numbered from 0.
+const OPERATORS: u64 = 12;
 
 // Where the fields of a row stand behind its operator, and how wide it is.
 pub const LEFT_AT: usize = 1;
@@ -108,9 +107,16 @@ struct Fields {
     bound: u32,
 }
 
-// A row without fault, or its first fault.
+// The rows that a row has for operands.
+pub enum Operands {
+    None,
+    One(u32),
+    Both(u32, u32),
+}
+
+// The operands of a row without fault, or its first fault.
 pub enum Judged {
-    Fine(Row),
+    Fine(Operands),
     Refused(Fault),
 }
 
@@ -160,6 +166,18 @@ fn row_of(operator: u32, left: u32, right: u32, bound: u32) -> Row
         9 => Row::Until(Quantifier::Every, left, right, within),
         10 => Row::Next(Quantifier::Some, Action::Only(right), left, within),
         _ => Row::Next(Quantifier::Every, Action::Only(right), left, within),
+    }
+}
+
+// The fields behind left that an operator doesn't use, and 0 for those that it uses, as it does left.
+fn idle(right: u32, zero: u32, bound: u32) -> Fields
+    ensures { λ r. ⌜ r ≡ spare.idle right zero bound ⌝ }
+{
+    Fields {
+        left: 0,
+        right,
+        zero,
+        bound,
     }
 }
 
@@ -223,69 +241,63 @@ fn named(row: &[u8], offset: usize, field: usize, limit: u32) -> Field
     wire::read_below(row, field, Width::One, limit as u64, name)
 }
 
-// Each kind of operator looks first at the fields that it doesn't use, of those told to it, then reads the others: so the compiler has a
-// branch for each kind.
+// Each kind of operator looks first at the fields that it doesn't use, then at those that name something: so the compiler has a branch
+// for each kind. The check keeps operands alone: a row that is made here and taken apart again goes through memory.
 
-// True and false use no field.
-fn read_constant(offset: usize, operator: u32, told: Fields) -> Judged
-    requires { ⌜ (offset + rowWidth < 2 ^ 64) × (operator ≤ 1) ⌝ }
-    ensures { λ r. ⌜ ((row : List ℕ) (p place : ℕ) → spare.Told row told → r ≡ answers.judged (m.fieldsFrom row 0 offset p place operator)) ⌝ }
+// Left, once the unused fields are zero.
+fn left_name(row: &[u8], offset: usize, limit: u32, idle: Fields) -> Field
+    requires { ⌜ offset + rowWidth < 2 ^ 64 ⌝ }
+    ensures { λ r. ⌜ r ≡ found (spare.leftName (now (row .entry)) offset limit idle) ⌝ }
 {
-    let idle = unused(offset, told);
-    let Field::Number(_) = idle else {
-        return Judged::Refused(idle.fault());
+    let zero = unused(offset, idle);
+    let Field::Number(_) = zero else {
+        return zero;
     };
-    if operator == 0 {
-        return Judged::Fine(Row::True);
-    }
-    Judged::Fine(Row::False)
+    named(row, offset, LEFT_AT, limit)
 }
 
-// A proposition and its negation use left.
-fn read_proposition(row: &[u8], offset: usize, operator: u32, p: u32, told: Fields) -> Judged
-    requires { ⌜ (offset + rowWidth < 2 ^ 64) × (2 ≤ operator) × (operator ≤ 3) × spare.Told (now row) told ⌝ }
-    ensures { λ r. ⌜ ((place : ℕ) → r ≡ answers.judged (m.fieldsFrom (now (row .entry)) 0 offset p place operator)) ⌝ }
+// True and false name nothing.
+fn constant(offset: usize, idle: Fields) -> Judged
+    requires { ⌜ offset + rowWidth < 2 ^ 64 ⌝ }
+    ensures { λ r. ⌜ r ≡ answers.kept (spare.constant offset idle) ⌝ }
 {
-    let idle = unused(
-        offset,
-        Fields {
-            left: 0,
-            right: told.right,
-            zero: told.zero,
-            bound: told.bound,
-        },
-    );
-    let Field::Number(_) = idle else {
-        return Judged::Refused(idle.fault());
+    let zero = unused(offset, idle);
+    let Field::Number(_) = zero else {
+        return Judged::Refused(zero.fault());
     };
-    let first = named(row, offset, LEFT_AT, p);
+    Judged::Fine(Operands::None)
+}
+
+// A proposition and its negation name it in left.
+fn proposition(row: &[u8], offset: usize, p: u32, idle: Fields) -> Judged
+    requires { ⌜ offset + rowWidth < 2 ^ 64 ⌝ }
+    ensures { λ r. ⌜ r ≡ answers.kept (spare.proposition (now (row .entry)) offset p idle) ⌝ }
+{
+    let first = left_name(row, offset, p, idle);
+    let Field::Number(_) = first else {
+        return Judged::Refused(first.fault());
+    };
+    Judged::Fine(Operands::None)
+}
+
+// EX and AX have an operand in left.
+fn one_operand(row: &[u8], offset: usize, place: u32, idle: Fields) -> Judged
+    requires { ⌜ offset + rowWidth < 2 ^ 64 ⌝ }
+    ensures { λ r. ⌜ r ≡ answers.kept (spare.oneOperand (now (row .entry)) offset place idle) ⌝ }
+{
+    let first = left_name(row, offset, place, idle);
     let Field::Number(left) = first else {
         return Judged::Refused(first.fault());
     };
-    if operator == 2 {
-        return Judged::Fine(Row::Proposition(left));
-    }
-    Judged::Fine(Row::Negation(left))
+    Judged::Fine(Operands::One(left))
 }
 
-// And, or use left and right.
-fn read_pair(row: &[u8], offset: usize, operator: u32, place: u32, told: Fields) -> Judged
-    requires { ⌜ (offset + rowWidth < 2 ^ 64) × (4 ≤ operator) × (operator ≤ 5) × spare.Told (now row) told ⌝ }
-    ensures { λ r. ⌜ ((p : ℕ) → r ≡ answers.judged (m.fieldsFrom (now (row .entry)) 0 offset p place operator)) ⌝ }
+// And, or and the untils have one in right too.
+fn both_operands(row: &[u8], offset: usize, place: u32, idle: Fields) -> Judged
+    requires { ⌜ offset + rowWidth < 2 ^ 64 ⌝ }
+    ensures { λ r. ⌜ r ≡ answers.kept (spare.bothOperands (now (row .entry)) offset place idle) ⌝ }
 {
-    let idle = unused(
-        offset,
-        Fields {
-            left: 0,
-            right: 0,
-            zero: told.zero,
-            bound: told.bound,
-        },
-    );
-    let Field::Number(_) = idle else {
-        return Judged::Refused(idle.fault());
-    };
-    let first = named(row, offset, LEFT_AT, place);
+    let first = left_name(row, offset, place, idle);
     let Field::Number(left) = first else {
         return Judged::Refused(first.fault());
     };
@@ -293,115 +305,7 @@ fn read_pair(row: &[u8], offset: usize, operator: u32, place: u32, told: Fields)
     let Field::Number(right) = second else {
         return Judged::Refused(second.fault());
     };
-    if operator == 4 {
-        return Judged::Fine(Row::And(left, right));
-    }
-    Judged::Fine(Row::Or(left, right))
-}
-
-// EX and AX of any action use left and the bound.
-fn read_next(row: &[u8], offset: usize, operator: u32, place: u32, told: Fields) -> Judged
-    requires { ⌜ (offset + rowWidth < 2 ^ 64) × (6 ≤ operator) × (operator ≤ 7) × spare.Told (now row) told ⌝ }
-    ensures { λ r. ⌜ ((p : ℕ) → r ≡ answers.judged (m.fieldsFrom (now (row .entry)) 0 offset p place operator)) ⌝ }
-{
-    let idle = unused(
-        offset,
-        Fields {
-            left: 0,
-            right: told.right,
-            zero: told.zero,
-            bound: 0,
-        },
-    );
-    let Field::Number(_) = idle else {
-        return Judged::Refused(idle.fault());
-    };
-    let first = named(row, offset, LEFT_AT, place);
-    let Field::Number(left) = first else {
-        return Judged::Refused(first.fault());
-    };
-    let last = wire::read(row, BOUND_AT, Width::Four);
-    let Field::Number(bound) = last else {
-        return Judged::Refused(last.fault());
-    };
-    let within = Bound::coded(bound);
-    if operator == 6 {
-        return Judged::Fine(Row::Next(Quantifier::Some, Action::Any, left, within));
-    }
-    Judged::Fine(Row::Next(Quantifier::Every, Action::Any, left, within))
-}
-
-// The untils use left, right and the bound.
-fn read_until(row: &[u8], offset: usize, operator: u32, place: u32, told: Fields) -> Judged
-    requires { ⌜ (offset + rowWidth < 2 ^ 64) × (8 ≤ operator) × (operator ≤ 9) × spare.Told (now row) told ⌝ }
-    ensures { λ r. ⌜ ((p : ℕ) → r ≡ answers.judged (m.fieldsFrom (now (row .entry)) 0 offset p place operator)) ⌝ }
-{
-    let idle = unused(
-        offset,
-        Fields {
-            left: 0,
-            right: 0,
-            zero: told.zero,
-            bound: 0,
-        },
-    );
-    let Field::Number(_) = idle else {
-        return Judged::Refused(idle.fault());
-    };
-    let first = named(row, offset, LEFT_AT, place);
-    let Field::Number(left) = first else {
-        return Judged::Refused(first.fault());
-    };
-    let second = named(row, offset, RIGHT_AT, place);
-    let Field::Number(right) = second else {
-        return Judged::Refused(second.fault());
-    };
-    let last = wire::read(row, BOUND_AT, Width::Four);
-    let Field::Number(bound) = last else {
-        return Judged::Refused(last.fault());
-    };
-    let within = Bound::coded(bound);
-    if operator == 8 {
-        return Judged::Fine(Row::Until(Quantifier::Some, left, right, within));
-    }
-    Judged::Fine(Row::Until(Quantifier::Every, left, right, within))
-}
-
-// EX and AX of an action use them too; the action, in right, is any number of a byte.
-fn read_acting(row: &[u8], offset: usize, operator: u32, place: u32, told: Fields) -> Judged
-    requires { ⌜ (offset + rowWidth < 2 ^ 64) × (10 ≤ operator) × (operator ≤ 11) × spare.Told (now row) told ⌝ }
-    ensures { λ r. ⌜ ((p : ℕ) → r ≡ answers.judged (m.fieldsFrom (now (row .entry)) 0 offset p place operator)) ⌝ }
-{
-    let idle = unused(
-        offset,
-        Fields {
-            left: 0,
-            right: 0,
-            zero: told.zero,
-            bound: 0,
-        },
-    );
-    let Field::Number(_) = idle else {
-        return Judged::Refused(idle.fault());
-    };
-    let first = named(row, offset, LEFT_AT, place);
-    let Field::Number(left) = first else {
-        return Judged::Refused(first.fault());
-    };
-    let second = named(row, offset, RIGHT_AT, 256);
-    let Field::Number(right) = second else {
-        return Judged::Refused(second.fault());
-    };
-    let last = wire::read(row, BOUND_AT, Width::Four);
-    let Field::Number(bound) = last else {
-        return Judged::Refused(last.fault());
-    };
-    let within = Bound::coded(bound);
-    let only = Action::Only(right);
-    if operator == 10 {
-        return Judged::Fine(Row::Next(Quantifier::Some, only, left, within));
-    }
-    Judged::Fine(Row::Next(Quantifier::Every, only, left, within))
+    Judged::Fine(Operands::Both(left, right))
 }
 
 // A row that stands here in its message: its fields, and what they are by the kind of its operator. All are read before any is judged,
@@ -410,7 +314,11 @@ fn read_row(row: &[u8], offset: usize, p: u32, place: u32) -> Judged
     requires { ⌜ (offset + rowWidth < 2 ^ 64) × (rowWidth ≤ length (now row)) ⌝ }
     ensures { λ r. ⌜ r ≡ answers.judged (m.rowFrom (now (row .entry)) 0 offset p place) ⌝ }
 {
-    let field = wire::read(row, 0, Width::One);
+    let unknown = Fault {
+        refusal: Refusal::Form,
+        offset,
+    };
+    let field = wire::read_below(row, 0, Width::One, OPERATORS, unknown);
     let Field::Number(operator) = field else {
         return Judged::Refused(field.fault());
     };
@@ -439,33 +347,22 @@ fn read_row(row: &[u8], offset: usize, p: u32, place: u32) -> Judged
     read_kind(row, offset, p, place, operator, told)
 }
 
-// A row of this operator and these fields, by the kind of the operator.
+// A row of this operator and these fields, by the kind of the operator, of which each has two. An action, in right, is any number.
 fn read_kind(row: &[u8], offset: usize, p: u32, place: u32, operator: u32, told: Fields) -> Judged
-    requires { ⌜ (offset + rowWidth < 2 ^ 64) × (fieldAt 1 (now row) 0 ≡ Number operator) × spare.Told (now row) told ⌝ }
-    ensures { λ r. ⌜ r ≡ answers.judged (m.rowFrom (now (row .entry)) 0 offset p place) ⌝ }
+    requires { ⌜ (offset + rowWidth < 2 ^ 64) × (operator ≤ 11) × spare.Told (now row) told × (told .right < 256) ⌝ }
+    ensures { λ r. ⌜ r ≡ answers.judged (m.fieldsFrom (now (row .entry)) 0 offset p place operator) ⌝ }
 {
-    if operator < 4 {
-        if operator < 2 {
-            return read_constant(offset, operator, told);
-        }
-        return read_proposition(row, offset, operator, p, told);
+    let right = told.right;
+    let zero = told.zero;
+    let bound = told.bound;
+    match operator / 2 {
+        0 => constant(offset, told),
+        1 => proposition(row, offset, p, idle(right, zero, bound)),
+        2 => both_operands(row, offset, place, idle(0, zero, bound)),
+        3 => one_operand(row, offset, place, idle(right, zero, 0)),
+        4 => both_operands(row, offset, place, idle(0, zero, 0)),
+        _ => one_operand(row, offset, place, idle(0, zero, 0)),
     }
-    if operator < 6 {
-        return read_pair(row, offset, operator, place, told);
-    }
-    if operator < 8 {
-        return read_next(row, offset, operator, place, told);
-    }
-    if operator < 10 {
-        return read_until(row, offset, operator, place, told);
-    }
-    if operator < 12 {
-        return read_acting(row, offset, operator, place, told);
-    }
-    Judged::Refused(Fault {
-        refusal: Refusal::Form,
-        offset,
-    })
 }
 
 // The header, and that the message is as long as its count says.
@@ -497,67 +394,69 @@ pub fn row_at(s: &[u8], at: usize) -> Row
     row_of(operator, left, right, bound)
 }
 
-// One use more of a row.
-fn count_use(counts: &mut [u8], row: u32)
-    requires { ⌜ (row < length (now counts)) × (getD (now counts) row 0 < 255) ⌝ }
-    ensures { λ _. ⌜ ((i : ℕ) → getD (now (counts .exit)) i 0 ≡ getD (now (counts .entry)) i 0 + rows.times i (row ∷ [])) ⌝ }
+// How many uses rows make of others, and how many of them are of a row that was used before: so no pass over the rows is left at the end.
+struct Uses {
+    total: u32,
+    again: u32,
+}
+
+// One use more of a row; the rows used so far are marked.
+fn count_use(marks: &mut [u8], row: u32, uses: Uses) -> Uses
+    requires { ⌜ (row < length (now marks)) × (uses .total < 256) × (uses .again < 65536) ⌝ }
+    ensures { λ r. ⌜ (r .total ≡ uses .total + 1) × (r .again < uses .again + 256) ⌝ }
+    ensures { λ r. ⌜ ((ls : List ℕ) → Marked (now (marks .entry)) uses ls → Marked (now (marks .exit)) r (ls ++ (row ∷ []))) ⌝ }
 {
     let k = row as usize;
-    counts[k] += 1;
+    let before = marks[k];
+    marks[k] = 1;
+    Uses {
+        total: uses.total + 1,
+        again: uses.again + (before as u32),
+    }
 }
 
 // The uses that a row makes of others.
-fn count_row(counts: &mut [u8], row: Row)
-    requires { ⌜ ((l : ℕ) → l ∈ rows.operands row → l < length (now counts)) × ((i : ℕ) → getD (now counts) i 0 < 254) ⌝ }
-    ensures { λ _. ⌜ ((i : ℕ) → getD (now (counts .exit)) i 0 ≡ getD (now (counts .entry)) i 0 + rows.times i (rows.operands row)) ⌝ }
+fn count_row(marks: &mut [u8], row: Operands, uses: Uses) -> Uses
+    requires { ⌜ ((l : ℕ) → l ∈ answers.listed row → l < length (now marks)) × (uses .total < 255) × (uses .again < 255) ⌝ }
+    ensures { λ r. ⌜ ((ls : List ℕ) → Marked (now (marks .entry)) uses ls → Marked (now (marks .exit)) r (ls ++ answers.listed row)) ⌝ }
 {
     match row {
-        Row::True | Row::False | Row::Proposition(_) | Row::Negation(_) => {}
-        Row::Next(_, _, l, _) => count_use(counts, l),
-        Row::And(l, r) | Row::Or(l, r) | Row::Until(_, l, r, _) => {
-            count_use(counts, l);
-            count_use(counts, r);
+        Operands::None => uses,
+        Operands::One(l) => count_use(marks, l, uses),
+        Operands::Both(l, r) => {
+            let first = count_use(marks, l, uses);
+            count_use(marks, r, first)
         }
     }
 }
 
-// The f rows, and how often each is an operand. The header has fixed the length, so each row is a part of the message.
-fn all_rows(s: &[u8], p: u32, f: u32, counts: &mut [u8]) -> Checked
-    requires { ⌜ (length (now s) ≡ formulaLength f) × (f ≤ 64) ⌝ }
-    requires { ⌜ (length (now counts) ≡ 64) × ((i : ℕ) → getD (now counts) i 0 ≡ 0) ⌝ }
-    ensures { λ r. ⌜ r ≡ answers.checked (readAll (m.rows (now (s .entry)) p) f (start formulaHeader)) ⌝ }
-    ensures { λ r. ⌜ ((rs : List Row) → readAll (m.rows (now (s .entry)) p) f (start formulaHeader) ≡ good rs → (i : ℕ)
-        → getD (now (counts .exit)) i 0 ≡ rows.uses i rs) ⌝ }
+// The f rows, and how often each is an operand: every one but the last exactly once, so that f - 1 uses are made and none is a second one.
+// The header has fixed the length, so each row is a part of the message.
+fn all_rows(s: &[u8], p: u32, f: u32, marks: &mut [u8]) -> Checked
+    requires { ⌜ (length (now s) ≡ formulaLength f) × (1 ≤ f) × (f ≤ 64) ⌝ }
+    requires { ⌜ (length (now marks) ≡ 64) × ((i : ℕ) → getD (now marks) i 0 ≡ 0) ⌝ }
+    ensures { λ r. ⌜ r ≡ answers.checked (m.readRows (now (s .entry)) p f) ⌝ }
 {
     let mut at = HEADER;
     let mut place = 0;
+    let mut uses = Uses { total: 0, again: 0 };
     while place < f {
         let end = at + ROW;
         let row = match read_row(&s[at..end], at, p, place) {
             Judged::Fine(row) => row,
             Judged::Refused(e) => return Checked::Refused(e),
         };
-        count_row(counts, row);
+        uses = count_row(marks, row, uses);
         at = end;
         place += 1;
     }
-    Checked::Formula(f)
-}
-
-// Whether every row but the last of f rows, which are operands so often, is one exactly once. All are looked at, so that none waits for another.
-fn used_once(counts: &[u8], f: u32) -> bool
-    requires { ⌜ (length (now counts) ≡ 64) × (1 ≤ f) × (f ≤ 64) ⌝ }
-    ensures { λ r. ⌜ ((rs : List Row) → length rs ≡ f → ((i : ℕ) → getD (now (counts .entry)) i 0 ≡ rows.uses i rs) → r ≡ rows.usedOnce rs) ⌝ }
-{
-    let mut fine = true;
-    let mut i = (f - 1) as usize;
-    while 0 < i {
-        i -= 1;
-        if counts[i] != 1 {
-            fine = false;
-        }
+    if uses.again != 0 {
+        return Checked::Refused(MISUSED);
     }
-    fine
+    if uses.total + 1 == f {
+        return Checked::Formula(f);
+    }
+    Checked::Refused(MISUSED)
 }
 
 // A whole formula message, with the number of propositions it may name: how many rows it has, or its first fault.
@@ -571,13 +470,6 @@ pub fn check(s: &[u8], p: u32) -> Checked
     let Checked::Formula(f) = head else {
         return head;
     };
-    let mut counts = [0u8; 64];
-    let all = all_rows(s, p, f, &mut counts);
-    let Checked::Formula(_) = all else {
-        return all;
-    };
-    if !used_once(&counts, f) {
-        return Checked::Refused(MISUSED);
-    }
-    head
+    let mut marks = [0u8; 64];
+    all_rows(s, p, f, &mut marks)
 }

@@ -1,7 +1,7 @@
 -- What a good reading says: each field is there, each demand is met. Assumes nothing.
 use Prim.Native.Nat.{ℕ, _+_, _*_, _<_, _≤_}
 use mathlib.Core.List.{List, [], _∷_}
-use mathlib.Core.Path.{_≡_, sym, ap, subst, _∙_}
+use mathlib.Core.Path.{_≡_, refl, sym, ap, subst, _∙_}
 use lib.ListN.{length}
 use borrow.Author.Tests.{leb-true, eqb-true}
 use native.Mathlib.Nat.{add-zero, zero-add}
@@ -9,13 +9,13 @@ use native.Mathlib.Omega.{arith}
 use Rattle.wire.specs.declared.Field.the-variants.{Number}
 use Rattle.wire.specs.Field.{fieldAt}
 use Rattle.wire.specs.Read.{good}
-use Rattle.wire.specs.Reader.{readAll, past, one}
+use Rattle.wire.specs.Reader.{readAll, past, one, run}
 use Rattle.wire.specs.Start.{readStart}
 use Rattle.wire.proofs.Counts.{CountAt, count-good}
 use Rattle.wire.proofs.Fields.{value-inside}
 use Rattle.wire.proofs.Exact.{all-there}
 use Rattle.wire.proofs.Reading.{bind-good, and-good, demand-good, field-good, below-good, source-good, good-same}
-use Rattle.wire.proofs.Readers.{all-length}
+use Rattle.wire.proofs.Readers.{all-length, run-good, past-wide}
 use Rattle.rules.specs.Graph.{Graph, Hyper, Cover, Target}
 use Rattle.wire.specs.declared.State.{State}
 use Rattle.value.specs.Coded.{boundOf}
@@ -111,6 +111,13 @@ module _ (s : List ℕ) (n : ℕ) where
   -- the state past a good target is 6 bytes on
   pub targets-move : (st next : State) → one (targets s n) st ≡ good next → next .at ≡ st .at + targetWidth
   targets-move st next e = ap (λ (u : State). u .at) (sym (good-same (bind-good _ _ e .rest)))
+
+  -- and past k of them k times as far
+  pub targets-end : (k : ℕ) (st end : State) → run (targets s n) k st ≡ good end → end .at ≡ st .at + k * targetWidth
+  targets-end k st end e =
+      let ts = run-good (targets s n) k st end e in
+      let wide = past-wide (targets s n) targetWidth (λ u t. refl) st (ts .got) in
+      ap (λ (u : State). u .at) (sym (ts .ends)) ∙ wide ∙ ap (λ (j : ℕ). st .at + j * targetWidth) (all-length _ _ _ _ (ts .there))
 
   -- the state past a good hyperedge or cover edge lies inside the message, and its source exists
   pub hypers-stay : (st next : State) → one (hypers s n) st ≡ good next → (next .at ≤ length s) × (next .seen ≤ mostTargets) × (next .prev < n)

@@ -58,7 +58,7 @@ const COVERS: Count = Count {
 };
 
 // The most targets of all hyperedges together.
-pub const MOST_TARGETS: u32 = 262144;
+pub const MOST_TARGETS: usize = 262144;
 
 // Where the target count of a hyperedge stands, and how wide its fixed bytes are.
 pub const TARGET_COUNT_AT: usize = 2;
@@ -128,72 +128,63 @@ fn target(s: &[u8], n: u32, st: State) -> Step
     })
 }
 
-// k targets, whose bytes fit. The first is read before the loop: many hyperedges have no other.
+// k targets, whose bytes fit, two in a turn. The loop moves the position, so what stands behind them need not wait for their count.
 fn targets(s: &[u8], n: u32, k: u32, first: State) -> Step
     requires { ⌜ first .at + k * targetWidth ≤ length (now s) ⌝ }
     ensures { λ r. ⌜ r ≡ step (run (m.targets (now (s .entry)) n) k first) ⌝ }
 {
-    if k == 0 {
-        return Step::Next(first);
-    }
-    let read = target(s, n, first);
-    let Step::Next(next) = read else {
-        return read;
-    };
-    more_targets(s, n, k - 1, next)
-}
-
-// k targets more.
-fn more_targets(s: &[u8], n: u32, k: u32, first: State) -> Step
-    requires { ⌜ first .at + k * targetWidth ≤ length (now s) ⌝ }
-    ensures { λ r. ⌜ r ≡ step (run (m.targets (now (s .entry)) n) k first) ⌝ }
-{
+    let end = first.at + (k as usize) * TARGET;
     let mut st = first;
-    let mut i = k;
-    while 0 < i {
-        let read = target(s, n, st);
-        let Step::Next(next) = read else {
-            return read;
+    while st.at + TARGET < end {
+        let one = target(s, n, st);
+        let Step::Next(behind) = one else {
+            return one;
+        };
+        let other = target(s, n, behind);
+        let Step::Next(next) = other else {
+            return other;
         };
         st = next;
-        i -= 1;
+    }
+    if st.at < end {
+        return target(s, n, st);
     }
     Step::Next(st)
 }
 
-// One hyperedge: its count is read first, the last of its fixed bytes, so that all of them fit, and where the next one stands is known
-// early; then its source is judged, and its targets.
+// One hyperedge: its fixed bytes fit, then its source, then its count, which has what is left of the limit of all targets.
 fn hyper(s: &[u8], n: u32, st: State) -> Step
     requires { ⌜ (st .at ≤ length (now s)) × (st .seen ≤ mostTargets) × (st .prev ≤ n) ⌝ }
     ensures { λ r. ⌜ r ≡ step (one (m.hypers (now (s .entry)) n) st) ⌝ }
 {
     let at = st.at;
-    let count_at = at + TARGET_COUNT_AT;
-    let told = wire::read(s, count_at, Width::Two);
-    let Field::Number(count) = told else {
-        return Step::Refused(told.fault());
-    };
     let end = at + HYPER;
+    if s.len() < end {
+        return Step::Refused(wire::SHORT);
+    }
     let from = wire::read_source(&s[at..end], 0, n, st.prev, at);
     let Field::Number(source) = from else {
         return Step::Refused(from.fault());
     };
+    let count_at = at + TARGET_COUNT_AT;
+    let over = Fault {
+        refusal: Refusal::Limit,
+        offset: count_at,
+    };
+    let limit = (MOST_TARGETS + 1 - st.seen) as u64;
+    let told = wire::read_below(&s[at..end], TARGET_COUNT_AT, Width::Two, limit, over);
+    let Field::Number(count) = told else {
+        return Step::Refused(told.fault());
+    };
     hyper_targets(s, n, st, source, count)
 }
 
-// The targets of a hyperedge of this source and so many targets.
+// The targets of a hyperedge of this source and so many targets, which are not too many.
 fn hyper_targets(s: &[u8], n: u32, st: State, source: u32, count: u32) -> Step
-    requires { ⌜ (st .at + hyperWidth ≤ length (now s)) × (st .seen ≤ mostTargets) × (count ≤ 65535) ⌝ }
+    requires { ⌜ (st .at + hyperWidth ≤ length (now s)) × (st .seen + count ≤ mostTargets) ⌝ }
     ensures { λ r. ⌜ r ≡ step (m.afterTargets (now (s .entry)) n st source count) ⌝ }
 {
     let seen = st.seen;
-    let count_at = st.at + TARGET_COUNT_AT;
-    if MOST_TARGETS - seen < count {
-        return Step::Refused(Fault {
-            refusal: Refusal::Limit,
-            offset: count_at,
-        });
-    }
     let first = st.at + HYPER;
     let end = first + (count as usize) * TARGET;
     if s.len() < end {
@@ -205,18 +196,18 @@ fn hyper_targets(s: &[u8], n: u32, st: State, source: u32, count: u32) -> Step
         count,
         State {
             at: first,
-            prev: st.prev,
             seen,
+            prev: st.prev,
         },
     );
-    let Step::Next(_) = read else {
+    let Step::Next(past) = read else {
         return read;
     };
-    let total = seen + count;
+    let total = seen + (count as usize);
     Step::Next(State {
-        at: end,
-        prev: source,
+        at: past.at,
         seen: total,
+        prev: source,
     })
 }
 
@@ -346,5 +337,5 @@ pub fn check(s: &[u8]) -> Checked
     if end != s.len() {
         return Checked::Refused(wire::SHORT);
     }
-    Checked::Graph(n, h, c, last.seen)
+    Checked::Graph(n, h, c, last.seen as u32)
 }

@@ -33,6 +33,15 @@ module _ {S A : Type 0} (R : Reader S A) where
   run-more zero st h = absurd (not-suc-le-zero h)
   run-more (suc k) st h = simp sub-one (run-suc k st)
 
+  -- the last one
+  pub run-one : (st : S) → run R 1 st ≡ one R st
+  unfolding run readAll past _>>=_
+  run-one st = go (R .read st)
+    where
+      go : (x : Read A) → (x >>= λ a. readAll R 0 (R .next st a) >>= λ xs. good (a ∷ xs)) >>= (λ xs. good (past R st xs)) ≡ x >>= λ a. good (R .next st a)
+      go (good a) = refl
+      go (bad e) = refl
+
   -- k records are k
   pub all-length : (k : ℕ) (st : S) (xs : List A) → readAll R k st ≡ good xs → length xs ≡ k
   unfolding readAll

@@ -2,7 +2,8 @@
 use Prim.Native.Nat.{ℕ, _+_, _-_, _≤_, _<_}
 use mathlib.Core.List.{List}
 use lib.ListN.{length, take, drop}
-use borrow.Author.Tests.{ltb-true, lt-ltb, leb-true, le-leb}
+use lib.Dec.{ltb}
+use borrow.Author.Tests.{ltb-true, ltb-false, lt-ltb, leb-true, le-leb}
 use mathlib.Core.Path.{_≡_, refl, sym, ap, _∙_}
 use mathlib.Core.Bool.{Bool, true, false}
 use native.Mathlib.Nat.{add-zero}
@@ -140,6 +141,15 @@ module _ (k : ℕ) (s : List ℕ) (at limit : ℕ) (fault : Fault) where
   pub good-below : {n : ℕ} → field k s at ≡ good n → n < limit → below k s at limit fault ≡ good n
   unfolding below
   good-below {n} e less = simp (e, lt-ltb n limit less, good-then, good-and, met)
+
+  -- one that is there, and is refused, has its limit's fault
+  pub below-over : {n : ℕ} {f : Fault} → fieldAt k s at ≡ Number n → below k s at limit fault ≡ bad f → (limit ≤ n) × (f ≡ fault)
+  unfolding below unless
+  below-over {n} {f} here e = go (ltb n limit) refl (sym (simp (here, there, good-then)) ∙ e)
+    where
+      go : (t : Bool) → ltb n limit ≡ t → unless t fault >> good n ≡ bad f → (limit ≤ n) × (f ≡ fault)
+      go true h e′ = absurd (never (sym e′ ∙ good-and tt (good n)))
+      go false h e′ = (ltb-false n limit h, bad-same (sym e′ ∙ bad-and Unit fault (good n)))
 
 pub part-below : (k : ℕ) (s : List ℕ) (at w x limit : ℕ) (fault : Fault) → at + w ≤ length s → x + k ≤ w → below k (take w (drop at s)) x limit fault ≡ below k s (at + x) limit fault
 unfolding below

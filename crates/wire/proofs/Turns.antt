@@ -10,7 +10,7 @@ use Rattle.wire.specs.declared.State.{State}
 use Rattle.wire.specs.declared.Step.{Step}
 use Rattle.wire.specs.declared.Step.the-variants.{Next, Refused}
 use Rattle.wire.proofs.Reading.{good-then, bad-then}
-use Rattle.wire.proofs.Readers.{run-none, run-more}
+use Rattle.wire.proofs.Readers.{run-none, run-one, run-more}
 
 -- the reading from the answer
 pub step-next : (x : Read State) {st : State} → step x ≡ Next st → x ≡ good st
@@ -27,7 +27,7 @@ step-refused (bad a) e = cc
 pub not-next : {A : Type 0} {f : Fault} {st : State} → Refused f ≡ Next st → A
 not-next e = let z : _≡_ {A = ℕ} 0 1 = cc in absurd (omega arith)
 
--- a loop over records, whose answer is w: where its next record is good, where it is not, and at its end
+-- a loop over records, whose answer is w: where its next record is good, where it is not, where it is the last, and at its end
 module _ (A : Type 0) (R : Reader State A) (i : ℕ) (st : State) {w : Step} (whole : step (run R i st) ≡ w) where
   pub turn-next : {r : Step} {next : State} → 0 < i → r ≡ step (one R st) → r ≡ Next next → step (run R (i - 1) next) ≡ w
   turn-next {r} {next} h e is =
@@ -40,6 +40,9 @@ module _ (A : Type 0) (R : Reader State A) (i : ℕ) (st : State) {w : Step} (wh
       let read : one R st ≡ bad f = step-refused (one R st) (sym e ∙ is) in
       let stopped : run R i st ≡ bad f = rw (run-more R i st h, read, bad-then) in
       is ∙ ap step (sym stopped) ∙ whole
+
+  pub turn-last : {r : Step} → i ≡ 1 → r ≡ step (one R st) → r ≡ w
+  turn-last h e = e ∙ ap step (sym (run-one R st) ∙ ap (λ (k : ℕ). run R k st) (sym h)) ∙ whole
 
   pub turn-none : i ≡ 0 → Next st ≡ w
   unfolding step

@@ -87,11 +87,12 @@ pub const KIND_AT: usize = 5;
 
 pub const START: usize = 6;
 
-// Where a reading of records stands: the position, the source before, and a count that the message's own rules need.
+// Where a reading of records stands: the position, a count that the message's own rules need, and the source before. Two numbers of
+// 32 bits would share the bytes in which a step has a fault's offset, and the compiler would put them together and take them apart.
 pub struct State {
     pub at: usize,
+    pub seen: usize,
     pub prev: u32,
-    pub seen: u32,
 }
 
 // The state past what was read, or the first fault.

@@ -1,25 +1,33 @@
--- `formula::all_rows` meets its contract: the rows that were read, and those that are left, are the whole reading, and the uses of the first are counted.
-use Prim.Native.Nat.{ℕ, _+_, _-_, _≤_}
-use mathlib.Core.List.{List, [], _∷_, _++_}
-use mathlib.Core.Path.{_≡_, refl, sym, ap, _∙_}
+-- `formula::all_rows` meets its contract: the rows that were read, and those that are left, are the whole reading, and the operands of the
+-- first are marked.
+use Prim.Native.Nat.{ℕ, _+_, _-_, _<_, _≤_}
+use mathlib.Core.List.{List, [], _∷_, _++_, List·Memᴰ·not-nil, List·Memᴰ·append-cases}
+use mathlib.Core.Bool.{true, false}
+use mathlib.Core.Path.{_≡_, refl, ap, subst, _∙_}
+use mathlib.Core.Logic.{⊎-elim}
 use native.Mathlib.Omega.{arith}
 use denote.Ref.{now}
-use lib.ListN.{length, getD, length-append}
+use lib.ListN.{length, length-append}
 use borrow.Author.Needs.{needs}
-use Rattle.lists.proofs.Tests.{by}
+use Rattle.lists.proofs.Tests.{by, by-test}
+use Rattle.lists.specs.Lists.{_∈_}
 use Rattle.wire.specs.declared.State.{State}
-use Rattle.wire.specs.Read.{good}
+use Rattle.wire.specs.Read.{Read, good}
+use Rattle.wire.specs.Reader.{readAll}
 use Rattle.wire.specs.Step.{start}
-use Rattle.wire.proofs.Reading.{never, good-same}
+use Rattle.wire.proofs.Reading.{reading}
 use Rattle.formula.specs.declared.Row.{Row}
+use Rattle.formula.specs.declared.Operands.{Operands}
+use Rattle.formula.specs.declared.Uses.{Uses}
+use Rattle.formula.specs.Marked.{Marked}
 use Rattle.formula.specs.Format.{formulaHeader, rowWidth, placeOf}
-use Rattle.formula.specs.Rows.{uses}
+use Rattle.formula.specs.Rows.{operands, usedOnce}
 use Rattle.formula.specs.Message.{readRow, rows}
-use Rattle.formula.specs.Answers.{judged, checked}
-use Rattle.formula.proofs.Answered.{judged-fine, judged-refused}
+use Rattle.formula.specs.Answers.{listed, judged, checked}
+use Rattle.formula.proofs.Answered.{Kept, listed-are, judged-fine, judged-refused}
 use Rattle.formula.proofs.Good.{row-part, row-good}
 use Rattle.formula.proofs.Begun.{Begun, begun, begun-next, begun-bad, begun-none}
-use Rattle.formula.proofs.Uses.{uses-last, uses-few}
+use Rattle.formula.proofs.Marks.{mark-none, allOperands, all-last, all-few, once-if, once-many, once-few}
 use Rattle.formula.proofs.all_rows.Statement.{statement}
 use Rattle.formula.proofs.all_rows.Tie as tie
 
@@ -27,25 +35,26 @@ use Rattle.formula.proofs.all_rows.Tie as tie
 abbrev here : (at place : ℕ) → State
 here at place = record { at = at; prev = 0; seen = place }
 
--- the rows before a place were read, and their uses are counted
-record Counted (s counts : List ℕ) (p f at place : ℕ) : Type 0 where
+-- the rows before a place were read, and their operands, none of which is the last row, are marked
+record Counted (s marks : List ℕ) (uses : Uses) (p f at place : ℕ) : Type 0 where
   got : List Row
   long : length got ≡ place
-  counted : (j : ℕ) → getD counts j 0 ≡ uses j got
+  marked : Marked marks uses (allOperands got)
+  below : (l : ℕ) → l ∈ allOperands got → l < f - 1
   left : Begun (rows s p) f (start formulaHeader) got (f - place) (here at place)
 
 abbrev Inv-loop : tie.InvT-loop
-Inv-loop s p f counts₀ at₀ place₀ counts at place = (at ≡ placeOf place) × (place ≤ f) × (length counts ≡ 64) × Counted s counts p f at place
+Inv-loop s p f marks₀ at₀ place₀ uses₀ marks at place uses = (at ≡ placeOf place) × (place ≤ f) × (length marks ≡ 64) × Counted s marks uses p f at place
 
 abbrev μ-loop : tie.MeasureT-loop
-μ-loop s p f counts₀ at₀ place₀ counts at place = f - place
+μ-loop s p f marks₀ at₀ place₀ uses₀ marks at place uses = f - place
 
 loop-holds : tie.Need-loop-holds Inv-loop μ-loop
-unfolding uses
+unfolding allOperands
 loop-holds c =
     let a = c .before .before in
     let all : a .args .f - 0 ≡ a .args .f = omega arith in
-    (refl, omega arith, a .pre .1 .0, record { got = []; long = refl; counted = a .pre .1 .1; left = rw all (begun _ _ _) })
+    (refl, omega arith, a .pre .1 .0, record { got = []; long = refl; marked = mark-none (a .pre .1 .1); below = λ l m. absurd (List·Memᴰ·not-nil m); left = rw all (begun _ _ _) })
 
 -- the places
 abbrev entered : tie.In-loop Inv-loop μ-loop → tie.Start Inv-loop μ-loop
@@ -72,8 +81,12 @@ read-is c =
     part ∙ ap judged (row-part (now (a .s)) (l .at) (inside (turn c)) (l .at) (a .p) (l .place))
 
 row-read : (c : tie.After-known-told Inv-loop μ-loop) → let t = turn (c .before .before .before) in let l = t .before .loop in let a = entered t .args in
-    readRow (now (a .s)) (a .p) (here (l .at) (l .place)) ≡ good (c .before .row .given .0 .0)
+    Kept (readRow (now (a .s)) (a .p) (here (l .at) (l .place))) (c .before .row .given .0 .0)
 row-read c = judged-fine _ (by (read-is (c .before .before .before)) (c .before .row .given .1))
+
+-- the operands of a row that was read
+listed-of : {x : Read Row} {k : Operands} (r : Kept x k) → listed k ≡ operands (r .row)
+listed-of r = rw (← r .are) (listed-are (r .row))
 
 add-end : tie.Need-add-end Inv-loop μ-loop
 add-end c = omega (arith, entered c .good, inside c)
@@ -105,20 +118,22 @@ returns c =
     let r = c .before .before .before in
     let l = turn r .before .loop in
     let faulty = begun-bad _ (omega (arith, turn r .loop-test .taken)) (l .inv .3 .left) (judged-refused _ (by (read-is r) (c .before .e .given .1))) in
-    (rw faulty refl, λ rs e. absurd (never (sym faulty ∙ e)))
+    simp (faulty, reading)
 
 count-row-requires : tie.Need-count-row-requires Inv-loop μ-loop
 count-row-requires c κs =
     let k = c .before in
     let t = turn (k .before .before .before) in
     let inv = t .before .loop .inv in
-    let few = entered t .pre .0 .1 in (
-      λ l m. omega (arith, row-good _ _ (here _ _) _ (row-read k) .fine .names .earlier m, t .loop-test .taken, few, inv .2),
-      λ j. omega (arith, inv .3 .counted j, uses-few j (inv .3 .got), inv .3 .long, t .loop-test .taken, few),
+    let few = entered t .pre .0 .2 in
+    let r = row-read k in (
+      λ l m. omega (arith, row-good _ _ (here _ _) _ (r .read) .fine .names .earlier (subst (λ (ls : List ℕ). l ∈ ls) (listed-of r) m), t .loop-test .taken, few, inv .2),
+      omega (arith, inv .3 .marked .total-is, all-few (inv .3 .got), inv .3 .long, t .loop-test .taken, few),
+      omega (arith, inv .3 .marked .again-few, inv .3 .marked .total-is, all-few (inv .3 .got), inv .3 .long, t .loop-test .taken, few),
     )
 
 add-place : tie.Need-add-place Inv-loop μ-loop
-add-place c = let t = turn (row-got c .before .before .before) in omega (arith, t .loop-test .taken, entered t .pre .0 .1)
+add-place c = let t = turn (row-got c .before .before .before) in omega (arith, t .loop-test .taken, entered t .pre .0 .2)
 
 loop-less : tie.Need-loop-less Inv-loop μ-loop
 loop-less c = let t = turn (row-got c .before .before .before) in omega (arith, t .loop-test .taken)
@@ -131,17 +146,37 @@ loop-again c =
     let place = t .before .loop .place in
     let f = entered t .args .f in
     let fewer : f - place - 1 ≡ f - (place + 1) = omega arith in
-    let next = begun-next _ (omega (arith, t .loop-test .taken)) (inv .3 .left) (row-read k) in (
+    let r = row-read k in
+    let next = begun-next _ (omega (arith, t .loop-test .taken)) (inv .3 .left) (r .read) in (
       omega (arith, inv .0),
       omega (arith, t .loop-test .taken),
       omega (arith, inv .2),
       record {
-        got = inv .3 .got ++ (k .before .row .given .0 .0 ∷ []);
+        got = inv .3 .got ++ (r .row ∷ []);
         long = simp length-append (omega (arith, inv .3 .long));
-        counted = λ j. omega (arith, c .before .before .count-row .ensures j, inv .3 .counted j, uses-last j (inv .3 .got) (k .before .row .given .0 .0));
+        marked = rw (all-last, ← listed-of r) (c .before .before .count-row .ensures _ (inv .3 .marked));
+        below = λ l m.
+            ⊎-elim (λ q. inv .3 .below l q) (λ q. omega (arith, row-good _ _ (here _ _) _ (r .read) .fine .names .earlier q, t .loop-test .taken))
+            (List·Memᴰ·append-cases (allOperands (inv .3 .got)) (rw all-last at m));
         left = rw fewer at next;
       },
     )
+
+-- all rows were read, and none of their operands is the last
+record All (s : List ℕ) (p f : ℕ) (got : List Row) : Type 0 where
+  there : readAll (rows s p) f (start formulaHeader) ≡ good got
+  many : length got ≡ f
+  below : (l : ℕ) → l ∈ allOperands got → l < length got - 1
+
+all-read : (c : tie.After-loop Inv-loop μ-loop) → let l = c .before .loop in let a = c .before .before .before .before .args in All (now (a .s)) (a .p) (a .f) (l .inv .3 .got)
+all-read c =
+    let l = c .before .loop in
+    let many : length (l .inv .3 .got) ≡ c .before .before .before .before .args .f = omega (arith, c .loop-test .left, l .inv .1, l .inv .3 .long) in
+    record {
+      there = begun-none _ (omega (arith, c .loop-test .left, l .inv .1)) (l .inv .3 .left);
+      many = many;
+      below = λ k m. omega (arith, l .inv .3 .below k m);
+    }
 
 same-length-2 : tie.Need-same-length-2 Inv-loop μ-loop
 same-length-2 c = search needs
@@ -149,10 +184,45 @@ same-length-2 c = search needs
 returns-2 : tie.Need-returns-2 Inv-loop μ-loop
 unfolding checked
 returns-2 c =
-    let l = c .before .loop in
-    let all = begun-none _ (omega (arith, c .loop-test .left, l .inv .1)) (l .inv .3 .left) in
-    let long : length (l .inv .3 .got) ≡ c .before .before .before .before .args .f = omega (arith, c .loop-test .left, l .inv .1, l .inv .3 .long) in
-    (rw (all, long) refl, λ rs e j. l .inv .3 .counted j ∙ ap (uses j) (good-same (sym all ∙ e)))
+    let e = c .before .before in
+    let all = all-read e in
+    let left = e .before .loop .inv .3 in
+    let more = left .marked .some-again (omega (arith, c .if1 .taken)) in
+    let misused : usedOnce (left .got) ≡ false = by-test _ (λ t. absurd (omega (arith, more .1, once-few (left .got) (all .below) t (more .0)))) (λ u. u) in
+    simp (reading, all .there, misused)
+
+add-if2 : tie.Need-add-if2 Inv-loop μ-loop
+add-if2 c =
+    let e = c .before .before .before in
+    let inv = e .before .loop .inv in
+    omega (arith, inv .3 .marked .total-is, all-few (inv .3 .got), all-read e .many, e .before .before .before .before .pre .0 .2)
+
+same-length-3 : tie.Need-same-length-3 Inv-loop μ-loop
+same-length-3 c = search needs
+
+returns-3 : tie.Need-returns-3 Inv-loop μ-loop
+unfolding checked
+returns-3 c =
+    let e = c .before .before .before .before in
+    let all = all-read e in
+    let left = e .before .loop .inv .3 in
+    let used : usedOnce (left .got) ≡ true =
+    once-if (left .got) (all .below) (left .marked .none-again (c .before .before .if1 .left)) (omega (arith, left .marked .total-is, all .many, c .if2 .taken)) in
+    simp (reading, all .there, used, all .many)
+
+same-length-4 : tie.Need-same-length-4 Inv-loop μ-loop
+same-length-4 c = search needs
+
+returns-4 : tie.Need-returns-4 Inv-loop μ-loop
+unfolding checked
+returns-4 c =
+    let e = c .before .before .before .before in
+    let all = all-read e in
+    let left = e .before .loop .inv .3 in
+    let some = e .before .before .before .before .pre .0 .1 in
+    let misused : usedOnce (left .got) ≡ false =
+    by-test _ (λ t. absurd (c .if2 .left (omega (arith, left .marked .total-is, all .many, once-many (left .got) (all .below) (omega (arith, all .many)) t)))) (λ u. u) in
+    simp (reading, all .there, misused)
 
 pub all-rows-spec : {M : Type 1} → statement M
 all-rows-spec =
@@ -175,4 +245,9 @@ all-rows-spec =
     loop-less
     loop-again
     same-length-2
-    returns-2)
+    returns-2
+    add-if2
+    same-length-3
+    returns-3
+    same-length-4
+    returns-4)

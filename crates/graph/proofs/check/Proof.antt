@@ -14,7 +14,7 @@ use Rattle.wire.proofs.Reading.{reading}
 use Rattle.wire.proofs.Readers.{run-good, run-bad, run-keeps, all-length}
 use Rattle.wire.specs.declared.State.{State}
 use Rattle.wire.specs.Step.{start}
-use Rattle.graph.specs.Format.{graphHeader, coversCount}
+use Rattle.graph.specs.Format.{graphHeader, coversCount, mostTargets}
 use Rattle.graph.specs.Message.{readHeader, readGraph}
 use Rattle.graph.specs.Message as m
 use Rattle.graph.specs.Answers.{checked}
@@ -106,12 +106,18 @@ returns-4 c =
     let cs = run-good _ _ _ _ (covers-next (c .before)) in
     simp (reading, head-good (r .before .before .before .before), hs .there, hs .ends, cs .there, cs .ends, ne-eqb _ _ (c .if1 .taken))
 
+cast-t22 : tie.Need-cast-t22
+cast-t22 c =
+    let r = after-known-told2 (c .before .before .before .before .before) in
+    omega (arith, run-keeps _ (λ (st : State). st .seen ≤ mostTargets) (λ st next e. hypers-stay _ _ st next e .1) _ _ _ (omega arith) (hypers-next r))
+
 returns-5 : tie.Need-returns-5
 unfolding readGraph checked
 returns-5 c =
-    let r = after-known-told2 (c .before .before .before .before) in
+    let k = c .before .before in
+    let r = after-known-told2 (k .before .before .before) in
     let hs = run-good _ _ _ _ (hypers-next r) in
-    let cs = run-good _ _ _ _ (covers-next (c .before)) in
+    let cs = run-good _ _ _ _ (covers-next k) in
     simp (
       reading,
       head-good (r .before .before .before .before),
@@ -119,7 +125,7 @@ returns-5 c =
       hs .ends,
       cs .there,
       cs .ends,
-      eq-eqb _ _ (c .if1 .left),
+      eq-eqb _ _ (c .before .if1 .left),
       all-length _ _ _ _ (hs .there),
       all-length _ _ _ _ (cs .there),
       targets-told _ _ _ (hs .got) (hs .ends),
@@ -142,4 +148,5 @@ check-spec =
     enum-known-e-2
     returns-3
     returns-4
+    cast-t22
     returns-5)
