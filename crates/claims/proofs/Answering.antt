@@ -1,37 +1,35 @@
--- What the checker and the writer answer, from what was found. Assumes nothing.
+-- What the checker answers, from what was found. Assumes nothing.
 use Prim.Native.Nat.{ℕ, _*_, _≤_}
 use mathlib.Core.List.{List}
-use mathlib.Core.Path.{_≡_, refl, sym, subst}
+use mathlib.Core.Path.{_≡_, refl, sym, ap, subst, _∙_}
 use lib.ListN.{length}
 use borrow.Author.Tests.{eq-eqb, ne-eqb}
 use native.Mathlib.Omega.{arith}
 use Rattle.refusal.specs.Number.{unplaced}
 use Rattle.refusal.specs.declared.Fault.{Fault}
-use Rattle.refusal.specs.declared.Refusal.the-variants.{Length, Profile, Room}
+use Rattle.refusal.specs.declared.Refusal.the-variants.{Length}
 use Rattle.wire.specs.Bytes.{Bytes}
 use Rattle.wire.specs.Read.{Read, good, bad}
 use Rattle.wire.specs.Layout.{end}
 use Rattle.wire.proofs.Layouts.{items-length}
-use Rattle.wire.proofs.Reading.{bad-then, reading}
+use Rattle.wire.proofs.Reading.{bad-then, good-same, reading}
 use Rattle.wire.proofs.Exact.{good-bind, good-demand}
-use Rattle.rules.specs.Walks.{CoverCycle}
 use Rattle.graph.specs.declared.Checked.the-variants as Checked
 use Rattle.graph.specs.Stored.{StoredGraph}
-use Rattle.graph.specs.Message.{readGraph}
+use Rattle.graph.specs.Message.{readHeader, readGraph}
 use Rattle.graph.specs.Answers.{checked}
 use Rattle.graph.specs.Format.{graphHeader}
 use Rattle.graph.specs.Layouts.{hyperLayout, coverLayout, decoded}
-use Rattle.graph.proofs.Answered.{checked-refused}
 use Rattle.graph.proofs.Exact.{accepted-written}
 use Rattle.graph.specs.WellFormed.{Accepted}
-use Rattle.graph.proofs.Ready.{Begin}
+use Rattle.graph.specs.WellFormed.{targetsOf}
+use Rattle.graph.proofs.Good.{counts, graph-good}
+use Rattle.graph.proofs.Ready.{Begin, begin}
 use Rattle.claims.specs.Claims.{claimWidth, AcceptsClaims}
 use Rattle.claims.specs.declared.Judged.{Judged}
 use Rattle.claims.specs.declared.Judged.the-variants.{Yes, No, Refused}
-use Rattle.claims.specs.declared.Written.{Written}
-use Rattle.claims.specs.declared.Written.the-variants as Written
-use Rattle.claims.specs.Answers.{readClaims, Judges, Narrow, Untouched, Filled, WritesOf, cyclic, narrow, filled, Writes}
-use Rattle.claims.specs.Promise.{JudgedPromise, WrittenPromise}
+use Rattle.claims.specs.Answers.{readClaims, Judges, refusedOr}
+use Rattle.claims.specs.Promise.{JudgedPromise}
 use Rattle.claims.proofs.Accepted.{accepted-largest}
 
 -- a message that was checked is the writing of a well-formed graph, within the limits of the table
@@ -56,12 +54,23 @@ module _ (s claims : List ℕ) (bytes : Bytes s) where
   stopped : {e : Fault} → readClaims s claims ≡ bad e → Shown (Refused e)
   stopped {e} h = (subst (λ (x : Read StoredGraph). Judges x claims (Refused e)) (sym h) refl, tt)
 
-  pub shown-refused : {e : Fault} → checked (readGraph s) ≡ Checked.Refused e → Shown (Refused e)
+  shown-bad : {e : Fault} → readGraph s ≡ bad e → Shown (Refused e)
   unfolding readClaims
-  shown-refused h = stopped (rw (checked-refused (readGraph s) h) (bad-then _ _))
+  shown-bad h = stopped (rw h (bad-then _ _))
+
+  -- a fault of the header
+  pub shown-header : {e : Fault} → readHeader s ≡ bad e → Shown (Refused e)
+  unfolding readGraph
+  shown-header h = shown-bad (rw h (bad-then _ _))
+
+  -- a fault of the graph, or else another answer
+  shown-other : (x : Read StoredGraph) → readGraph s ≡ x → (other : Judged) → ((g : StoredGraph) → readGraph s ≡ good g → Shown other) → Shown (refusedOr x other)
+  unfolding refusedOr
+  shown-other (good g) q other f = f g q
+  shown-other (bad e) q other f = shown-bad q
 
   module _ {n h c : ℕ} (begun : Begin s n h c) where
-    pub shown-length : ¬ (length claims ≡ n * claimWidth) → Shown (Refused (unplaced Length))
+    shown-length : ¬ (length claims ≡ n * claimWidth) → Shown (Refused (unplaced Length))
     unfolding readClaims decoded
     shown-length l = stopped (rw (begun .reads) (simp reading (rw (ne-eqb (length claims) (n * claimWidth) l) (simp reading))))
 
@@ -81,40 +90,37 @@ module _ (s claims : List ℕ) (bytes : Bytes s) where
       },
     )
 
-    pub shown-no : length claims ≡ n * claimWidth → ¬ AcceptsClaims (decoded s n h c) claims → Shown No
+    shown-no : length claims ≡ n * claimWidth → ¬ AcceptsClaims (decoded s n h c) claims → Shown No
     unfolding decoded
     shown-no l rejected = (
       subst (λ (x : Read StoredGraph). Judges x claims No) (sym (long l)) rejected,
       record { graph = decoded s n h c; accepted = begun-accepted bytes begun; long = l; holds = rejected },
     )
 
--- ---- the writer
+  -- the header was read
+  module _ {n h c : ℕ} (head : readHeader s ≡ good (record { n = n; h = h; c = c })) where
+    pub begun : {g : StoredGraph} → readGraph s ≡ good g → Begin s n h c
+    unfolding checked
+    begun {g} r =
+        let same : counts g ≡ record { n = n; h = h; c = c } = good-same (sym (graph-good {s = s} {g = g} r .header) ∙ head) in
+        let e : checked (readGraph s) ≡ Checked.Graph n h c (targetsOf (g .hypers)) =
+        ap checked r ∙ (λ i. Checked.Graph (same i .n) (same i .h) (same i .c) (targetsOf (g .hypers))) in
+        begin s bytes e
 
-module _ (s claims words : List ℕ) (bytes : Bytes s) where
-  abbrev pub ShownWritten : (claims′ words′ : List ℕ) → Written → Type 0
-  ShownWritten claims′ words′ r = Writes (readGraph s) claims words claims′ words′ r × WrittenPromise s claims words claims′ words′ r
+    pub shown-wrong : ¬ (length claims ≡ n * claimWidth) → {r : Judged} → r ≡ refusedOr (readGraph s) (Refused (unplaced Length)) → Shown r
+    shown-wrong l e = rw e (shown-other (readGraph s) refl (Refused (unplaced Length)) (λ g q. shown-length (begun q) l))
 
-  untouched : Untouched claims words claims words
-  untouched = record { claims-stay = refl; words-stay = refl }
+    pub shown-rejected : length claims ≡ n * claimWidth → (readGraph s ≡ good (decoded s n h c) → ¬ AcceptsClaims (decoded s n h c) claims)
+        → {r : Judged} → r ≡ refusedOr (readGraph s) No → Shown r
+    shown-rejected l rejected e = rw e (shown-other (readGraph s) refl No (λ g q. let b = begun q in shown-no b l (rejected (b .reads))))
 
-  pub written-refused : {e : Fault} → checked (readGraph s) ≡ Checked.Refused e → ShownWritten claims words (Written.Refused e)
-  written-refused {e} h =
-      (subst (λ (x : Read StoredGraph). Writes x claims words claims words (Written.Refused e)) (sym (checked-refused (readGraph s) h)) (refl, untouched), untouched)
+-- a fault of the graph, or else another answer, from the answer of the check
+pub refused-graph : (x : Read StoredGraph) (other : Judged) {n h c t : ℕ} → checked x ≡ Checked.Graph n h c t → other ≡ refusedOr x other
+unfolding checked refusedOr
+refused-graph (good g) other e = refl
+refused-graph (bad f) other e = cc
 
-  module _ {n h c : ℕ} (begun : Begin s n h c) where
-    -- what is written of the graph is written of the message
-    of-graph : {claims′ words′ : List ℕ} {r : Written} → WritesOf (decoded s n h c) claims words claims′ words′ r → Writes (readGraph s) claims words claims′ words′ r
-    of-graph {claims′} {words′} {r} w = subst (λ (x : Read StoredGraph). Writes x claims words claims′ words′ r) (sym (begun .reads)) w
-
-    pub written-cyclic : CoverCycle (decoded s n h c) → ShownWritten claims words (Written.Refused (unplaced Profile))
-    written-cyclic z = (of-graph (cyclic z untouched), untouched)
-
-    pub written-narrow : ¬ CoverCycle (decoded s n h c) → Narrow (decoded s n h c) claims words → ShownWritten claims words (Written.Refused (unplaced Room))
-    written-narrow free small = (of-graph (narrow free small untouched), untouched)
-
-    pub written-filled : {claims′ words′ : List ℕ} → ¬ CoverCycle (decoded s n h c) → ¬ Narrow (decoded s n h c) claims words
-        → Filled (decoded s n h c) claims words claims′ words′ → ShownWritten claims′ words′ Written.Claims
-    written-filled free wide f = (
-      of-graph (filled free wide f),
-      record { graph = decoded s n h c; accepted = begun-accepted bytes begun; writes = filled free wide f },
-    )
+pub refused-fault : (x : Read StoredGraph) (other : Judged) {f : Fault} → checked x ≡ Checked.Refused f → Refused f ≡ refusedOr x other
+unfolding checked refusedOr
+refused-fault (good g) other e = cc
+refused-fault (bad f) other e = cc

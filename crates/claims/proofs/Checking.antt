@@ -63,12 +63,12 @@ pub unmarked-none : (k v : ℕ) → ¬ (getD {A = ℕ} (replicate k 0) v 0 ≡ 1
 unmarked-none k v e = omega (arith, zeros-at k v)
 
 module _ (g : Graph) (closed : Closed g) (x : Assignment) (rank : ℕ → ℕ) where
-  -- an edge that breaks
-  pub hyper-broken : (h : Hyper) → h ∈ g .hypers → ¬ HyperFair x h → ¬ Accepts g x rank
-  hyper-broken h m unfair ok = unfair (⊑-stored (x (h .source)) (worst x (h .targets)) (accepted-edgewise closed ok .hyper m))
+  -- where they are accepted all edges are fair
+  pub hypers-fair : Accepts g x rank → (h : Hyper) → h ∈ g .hypers → HyperFair x h
+  hypers-fair ok h m = ⊑-stored (x (h .source)) (worst x (h .targets)) (accepted-edgewise closed ok .hyper m)
 
-  pub cover-broken : (c : Cover) → c ∈ g .covers → ¬ CoverFair x c → ¬ Accepts g x rank
-  cover-broken c m unfair ok = unfair (accepted-edgewise closed ok .cover m)
+  pub covers-fair : Accepts g x rank → (c : Cover) → c ∈ g .covers → CoverFair x c
+  covers-fair ok c m = accepted-edgewise closed ok .cover m
 
   module _ {b₀ b₁ b₂ : List ℕ} (hypers : Marked (g .hypers) (λ (h : Hyper). h .source) (HyperFair x) (HyperBacks x rank) b₀ b₁)
       (covers : Marked (g .covers) (λ (c : Cover). c .source) (CoverFair x) (CoverBacks x rank) b₁ b₂) where

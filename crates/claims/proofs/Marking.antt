@@ -10,7 +10,7 @@ use native.Mathlib.Omega.{arith}
 use Rattle.lists.specs.Lists.{_∈_}
 use Rattle.wire.specs.Layout.{Layout, items}
 use Rattle.claims.specs.Scans.{Marked}
-use Rattle.claims.proofs.Passing.{Passing, passing-done}
+use Rattle.claims.proofs.Passing.{Walking, walking-done}
 
 -- what is all 0 at first
 pub zeros-at : (k v : ℕ) → getD {A = ℕ} (replicate k 0) v 0 ≡ 0
@@ -58,11 +58,11 @@ Seen source Fair Backing b e = Fair e × (Backing e → getD b (source e) 0 ≡ 
 
 -- all were
 pub marked-all : {A : Type 0} {L : Layout A} {k at i p : ℕ} {source : A → ℕ} {Fair Backing : A → Type 0} {b₀ b : List ℕ}
-    → Passing L k at (Seen source Fair Backing b) i p → Sure (items L k at) source Backing b₀ b → i ≡ 0 → Marked (items L k at) source Fair Backing b₀ b
+    → Walking L k at (Seen source Fair Backing b) i p → Sure (items L k at) source Backing b₀ b → i ≡ 0 → Marked (items L k at) source Fair Backing b₀ b
 marked-all w d h = record {
   same-length = d .same-length;
-  fair = λ e m. passing-done w h e m .0;
-  marked = λ e m. passing-done w h e m .1;
+  fair = λ e m. walking-done w h e m .0;
+  marked = λ e m. walking-done w h e m .1;
   stays = d .stays;
   only = d .only;
 }

@@ -1,29 +1,23 @@
-// Claims about a graph: a value and a rank for each node. A checker of claims, and a writer of claims that it accepts.
+// Claims about a graph: a value and a rank for each node. A checker of claims.
 ghost use mathlib.Core.Path.{_≡_};
 ghost use mathlib.Core.Bool.{true, false};
-ghost use mathlib.Core.List.{_++_};
 ghost use Prim.Native.Nat.{ℕ, _+_, _*_, _<_, _≤_};
-ghost use lib.ListN.{length, drop, getD, replicate};
-ghost use Rattle.lists.specs.Lists.{_∈_};
-ghost use Rattle.value.specs.Value.{plus};
-ghost use Rattle.value.specs.Stored.{stored};
+ghost use lib.ListN.{length, getD};
+ghost use Rattle.value.specs.Stored.{stored, infinite};
 ghost use Rattle.wire.specs.Bytes.{number};
 ghost use Rattle.wire.specs.Field.{longWidth};
-ghost use Rattle.wire.specs.Layout.{items, end, Sound};
-ghost use Rattle.rules.specs.Graph.{Target};
+ghost use Rattle.wire.specs.Layout.{items, Sound};
+ghost use Rattle.wire.specs.Read.{good};
+ghost use Rattle.wire.specs.Reader.{one};
 ghost use Rattle.rules.specs.Rounds as rules;
-ghost use Rattle.rules.specs.Count.{count};
-ghost use Rattle.rules.specs.Walks.{CoverCycle};
-ghost use Rattle.graph.specs.Format.{graphHeader, targetCountAt, hyperWidth, nodeAt};
-ghost use Rattle.graph.specs.Layouts.{targetLayout, hyperLayout, coverLayout, decoded, TargetOk, HyperOk, CoverOk, Scannable};
-ghost use Rattle.graph.specs.Message.{readGraph};
-ghost use Rattle.graph.specs.Ready.{Ready};
-ghost use Rattle.claims.specs.Claims.{rankAt, claimWidth, claimedValue, claimedRank, AcceptsClaims};
-ghost use Rattle.claims.specs.Answers.{judgedNumber, judgedOffset, writtenNumber, writtenOffset, readClaims, Judges, Writes, Filled};
-ghost use Rattle.claims.specs.Promise.{JudgedPromise, WrittenPromise};
-ghost use Rattle.claims.specs.Scans.{HyperFair, HyperBacks, CoverFair, CoverBacks, Found, Scanned, AllBacked};
-ghost use Rattle.claims.specs.Ranking.{unranked, Begun, Kept, RankedBy};
-ghost use Rattle.claims.specs.Labels.{label, Within, Deepest, HyperFalls, CoverFalls, Deeper, Pass};
+ghost use Rattle.graph.specs.Format.{graphHeader, mostTargets, targetWidth, coverTargetAt, coverWidth};
+ghost use Rattle.graph.specs.Layouts.{targetLayout, hyperLayout, coverLayout, decoded, HyperOk, CoverOk};
+ghost use Rattle.graph.specs.Message.{readHeader, readGraph};
+ghost use Rattle.graph.specs.Message as m;
+ghost use Rattle.claims.specs.Claims.{claimWidth, claimedValue, claimedRank, AcceptsClaims};
+ghost use Rattle.claims.specs.Answers.{judgedNumber, judgedOffset, readClaims, Judges, refusedOr};
+ghost use Rattle.claims.specs.Promise.{JudgedPromise};
+ghost use Rattle.claims.specs.Scans.{HyperFair, HyperBacks, CoverFair, CoverBacks, Parted, Named, LowerRanks, Found, EdgeFound, Scanned, AllBacked};
 use graph::Checked;
 use refusal::Fault;
 use value::Bound;
@@ -34,12 +28,6 @@ use wire::Width;
 pub const RANK_AT: usize = 8;
 
 pub const CLAIM: usize = 16;
-
-// How many words are lent to the writer for a node.
-pub const WORDS: usize = 8;
-
-// The rank of a node that has none yet.
-const UNRANKED: u64 = 18446744073709551615;
 
 // Accepted, not accepted, or refused.
 pub enum Judged {
@@ -72,49 +60,35 @@ impl Judged {
     }
 }
 
-// Claims were written, or refused.
-pub enum Written {
-    Claims,
-    Refused(Fault),
+// What the targets of a hyperedge give, and where they end; or one of them names no node.
+enum Given {
+    Odd,
+    Most(u64, usize),
 }
 
-impl Written {
-    // The number that the paper gives the answer.
-    pub fn number(self) -> u8
-        ensures { λ r. ⌜ r ≡ writtenNumber self ⌝ }
-    {
-        match self {
-            Written::Claims => 0,
-            Written::Refused(e) => e.number(),
-        }
-    }
-
-    // Where the field starts that was found wrong, and 0 where none was.
-    pub fn offset(self) -> usize
-        ensures { λ r. ⌜ r ≡ writtenOffset self ⌝ }
-    {
-        match self {
-            Written::Claims => 0,
-            Written::Refused(e) => e.offset,
-        }
-    }
-}
-
-// What an edge is to the claims: it gives less than its source claims; it backs its source's value; or neither.
-enum Edge {
-    Breaks,
+// What an edge without fault is to the claims: it gives less than its source claims; it backs its source's value; or neither.
+enum Weighed {
+    Less,
     Backs,
     Idle,
 }
 
-// How a scan of edges ended: one gives less than its source claims, or none does, and what stands behind them.
+// What an edge is: it has a fault, or gives less than its source claims; it backs its source's value; or neither. With the source, the
+// targets so far, and where the next edge stands.
+enum Edge {
+    Odd,
+    Backs(u32, u32, usize),
+    Idle(u32, u32, usize),
+}
+
+// How a scan of edges ended: one is odd, or none is, and what stands behind them.
 enum Scan {
-    Broken,
+    Odd,
     Past(usize),
 }
 
 // The stored value that is claimed of a node.
-fn value_of(n: usize, claims: &[u8], v: usize) -> u64
+pub fn value_of(n: usize, claims: &[u8], v: usize) -> u64
     requires { ⌜ v < n ⌝ }
     requires { ⌜ n * claimWidth ≤ length (now claims) ⌝ }
     ensures { λ r. ⌜ r ≡ number longWidth (now (claims .entry)) (v * claimWidth) ⌝ }
@@ -124,7 +98,7 @@ fn value_of(n: usize, claims: &[u8], v: usize) -> u64
 }
 
 // The rank that is claimed of a node.
-fn rank_of(n: usize, claims: &[u8], v: usize) -> u64
+pub fn rank_of(n: usize, claims: &[u8], v: usize) -> u64
     requires { ⌜ v < n ⌝ }
     requires { ⌜ n * claimWidth ≤ length (now claims) ⌝ }
     ensures { λ r. ⌜ r ≡ claimedRank (now (claims .entry)) v ⌝ }
@@ -133,53 +107,71 @@ fn rank_of(n: usize, claims: &[u8], v: usize) -> u64
     wire::long_at(claims, at)
 }
 
-// Weight plus claimed value of the target at a position.
-fn target_sum(s: &[u8], n: usize, claims: &[u8], at: usize) -> Value
-    requires { ⌜ TargetOk (now s) n at ⌝ }
-    requires { ⌜ n * claimWidth ≤ length (now claims) ⌝ }
-    ensures { λ r. ⌜ r .0 ≡ stored (plus (number 4 (now (s .entry)) at) (claimedValue (now (claims .entry)) (number 2 (now (s .entry)) (at + nodeAt)))) ⌝ }
+// Whether a source is one of n nodes and not below the one before it: how far it is above that one, which is at most n, tells both in
+// one test.
+fn in_order(source: u32, n: u32, prev: u32) -> bool
+    requires { ⌜ prev ≤ n ⌝ }
+    ensures { λ r. ⌜ (r ≡ true → (source < n) × (prev ≤ source)) × (r ≡ false → source < n → source < prev) ⌝ }
 {
-    let weight = wire::number_at(s, at, Width::Four);
-    let node = wire::number_at(s, at + graph::NODE_AT, Width::Two) as usize;
-    let value = value_of(n, claims, node);
-    Value(value).add(weight)
+    std::num::wrapping_sub_u32(source, prev) < n - prev
 }
 
-// The greatest weight plus claimed value over k targets at a position; 0 with none. Once it is infinite the targets left are not read.
-fn worst(s: &[u8], n: usize, claims: &[u8], k: u32, at: usize) -> Value
-    requires { ⌜ Sound (targetLayout (now s) n) k at ⌝ }
-    requires { ⌜ n * claimWidth ≤ length (now claims) ⌝ }
-    ensures { λ r. ⌜ r .0 ≡ stored (rules.worst (claimedValue (now (claims .entry))) (items (targetLayout (now (s .entry)) n) k at)) ⌝ }
+// Where one of the targets is infinite: whether each of those that are left names a node.
+fn rest_named(s: &[u8], n: u32, at: usize, end: usize) -> Given
+    requires { ⌜ Parted (now s) at end ⌝ }
+    ensures { λ r. ⌜ ((k : ℕ) → at + k * targetWidth ≡ end → Named (targetLayout (now (s .entry)) n) k at infinite end r) ⌝ }
 {
-    let mut most = Value(0);
-    let mut i = k;
     let mut p = at;
-    while 0 < i {
-        if most.0 == Value::INFINITE.0 {
-            return most;
-        }
-        let sum = target_sum(s, n, claims, p);
-        most = most.greatest(sum);
+    while p < end {
+        let node = wire::number_at(s, p + graph::NODE_AT, Width::Two);
         p += graph::TARGET;
-        i -= 1;
+        if n <= node {
+            return Given::Odd;
+        }
     }
-    most
+    Given::Most(Value::INFINITE.0, p)
 }
 
-// Whether all of k targets at a position have a rank below one.
-fn ranks_below(s: &[u8], n: usize, claims: &[u8], rank: u64, k: u32, at: usize) -> bool
-    requires { ⌜ Sound (targetLayout (now s) n) k at ⌝ }
+// The greatest weight plus claimed value over the targets from a position to an end; 0 with none. A sum that wraps is infinite. The position
+// behind them is where the loop ended, not computed from their count, which has just been read.
+fn targets_give(s: &[u8], n: u32, claims: &[u8], at: usize, end: usize) -> Given
+    requires { ⌜ Parted (now s) at end ⌝ }
     requires { ⌜ n * claimWidth ≤ length (now claims) ⌝ }
-    ensures { λ r. ⌜ (r ≡ true → (t : Target) → t ∈ items (targetLayout (now (s .entry)) n) k at → claimedRank (now (claims .entry)) (t .node) < rank)
-        × (r ≡ false → ¬ ((t : Target) → t ∈ items (targetLayout (now (s .entry)) n) k at → claimedRank (now (claims .entry)) (t .node) < rank)) ⌝ }
+    ensures { λ r. ⌜ ((k : ℕ) → at + k * targetWidth ≡ end → let L = targetLayout (now (s .entry)) n in
+        Named L k at (stored (rules.worst (claimedValue (now (claims .entry))) (items L k at))) end r) ⌝ }
 {
-    let mut i = k;
+    let mut most: u64 = 0;
     let mut p = at;
-    while 0 < i {
+    while p < end {
+        let weight = wire::number_at(s, p, Width::Four) as u64;
+        let node = wire::number_at(s, p + graph::NODE_AT, Width::Two);
+        if n <= node {
+            return Given::Odd;
+        }
+        let value = value_of(n as usize, claims, node as usize);
+        p += graph::TARGET;
+        let sum = std::num::wrapping_add_u64(value, weight);
+        if sum < value {
+            return rest_named(s, n, p, end);
+        }
+        if most < sum {
+            most = sum;
+        }
+    }
+    Given::Most(most, p)
+}
+
+// Whether all targets from a position to an end have a rank below one.
+fn ranks_below(s: &[u8], n: usize, claims: &[u8], rank: u64, at: usize, end: usize) -> bool
+    requires { ⌜ ((k : ℕ) × (at + k * targetWidth ≡ end) × Sound (targetLayout (now s) n) k at) ⌝ }
+    requires { ⌜ n * claimWidth ≤ length (now claims) ⌝ }
+    ensures { λ r. ⌜ ((k : ℕ) → at + k * targetWidth ≡ end → LowerRanks (now (claims .entry)) (items (targetLayout (now (s .entry)) n) k at) rank r) ⌝ }
+{
+    let mut p = at;
+    while p < end {
         let node = wire::number_at(s, p + graph::NODE_AT, Width::Two) as usize;
         let other = rank_of(n, claims, node);
         p += graph::TARGET;
-        i -= 1;
         if rank <= other {
             return false;
         }
@@ -187,122 +179,214 @@ fn ranks_below(s: &[u8], n: usize, claims: &[u8], rank: u64, k: u32, at: usize) 
     true
 }
 
-// What the hyperedge of k targets at a position is to the claims.
-fn hyper_edge(s: &[u8], n: usize, claims: &[u8], k: u32, at: usize) -> Edge
+// What the hyperedge at a position is to the claims, which gives so much.
+fn hyper_judged(
+    s: &[u8],
+    n: usize,
+    claims: &[u8],
+    marks: &[u8; 4096],
+    at: usize,
+    source: usize,
+    given: u64,
+    next: usize,
+) -> Weighed
     requires { ⌜ HyperOk (now s) n at ⌝ }
-    requires { ⌜ k ≡ number 2 (now s) (at + targetCountAt) ⌝ }
+    requires { ⌜ source ≡ number 2 (now s) at ⌝ }
+    requires { ⌜ next ≡ hyperLayout (now s) n .next at ⌝ }
+    requires { ⌜ given ≡ stored (rules.worst (claimedValue (now claims)) (hyperLayout (now s) n .item at .targets)) ⌝ }
     requires { ⌜ n * claimWidth ≤ length (now claims) ⌝ }
-    ensures { λ r. ⌜ Found (HyperFair (claimedValue (now (claims .entry))) (hyperLayout (now (s .entry)) n .item at))
-        (HyperBacks (claimedValue (now (claims .entry))) (claimedRank (now (claims .entry))) (hyperLayout (now (s .entry)) n .item at)) r ⌝ }
+    requires { ⌜ (n ≤ 4096) × (length (now marks) ≡ 4096) ⌝ }
+    ensures { λ r. ⌜ (let e = hyperLayout (now (s .entry)) n .item at in Found (HyperFair (claimedValue (now (claims .entry))) e) (HyperBacks (claimedValue (now (claims .entry))) (claimedRank (now (claims .entry))) e) (getD (now (marks .entry)) (e .source) 0 ≡ 1) r) ⌝ }
 {
-    let source = wire::number_at(s, at, Width::Two) as usize;
     let claimed = value_of(n, claims, source);
-    let targets = at + graph::HYPER;
-    let given = worst(s, n, claims, k, targets);
-    if given.0 < claimed {
-        return Edge::Breaks;
+    if given < claimed {
+        return Weighed::Less;
     }
-    if claimed < given.0 {
-        return Edge::Idle;
+    if claimed < given {
+        return Weighed::Idle;
+    }
+    if marks[source] == 1 {
+        return Weighed::Idle;
     }
     if claimed == Value::INFINITE.0 {
-        return Edge::Idle;
+        return Weighed::Idle;
     }
     let rank = rank_of(n, claims, source);
-    if ranks_below(s, n, claims, rank, k, targets) {
-        return Edge::Backs;
+    if ranks_below(s, n, claims, rank, at + graph::HYPER, next) {
+        return Weighed::Backs;
     }
-    Edge::Idle
+    Weighed::Idle
+}
+
+// What the hyperedge at a position is: its fixed bytes fit, its source, the running total, its targets' bytes, its targets, what they give.
+fn hyper_edge(
+    s: &[u8],
+    n: u32,
+    claims: &[u8],
+    marks: &[u8; 4096],
+    at: usize,
+    prev: u32,
+    seen: u32,
+) -> Edge
+    requires { ⌜ (at ≤ length (now s)) × (prev ≤ n) × (seen ≤ mostTargets) ⌝ }
+    requires { ⌜ n * claimWidth ≤ length (now claims) ⌝ }
+    requires { ⌜ (n ≤ 4096) × (length (now marks) ≡ 4096) ⌝ }
+    ensures { λ r. ⌜ (let e = hyperLayout (now (s .entry)) n .item at in EdgeFound (one (m.hypers (now (s .entry)) n) (record { at = at; prev = prev; seen = seen }))
+        (HyperFair (claimedValue (now (claims .entry))) e) (HyperBacks (claimedValue (now (claims .entry))) (claimedRank (now (claims .entry))) e) (getD (now (marks .entry)) (e .source) 0 ≡ 1) r) ⌝ }
+{
+    let first = at + graph::HYPER;
+    if s.len() < first {
+        return Edge::Odd;
+    }
+    let source = wire::number_at(s, at, Width::Two);
+    let count = wire::number_at(s, at + graph::TARGET_COUNT_AT, Width::Two);
+    if !in_order(source, n, prev) {
+        return Edge::Odd;
+    }
+    let total = seen + count;
+    if graph::MOST_TARGETS < total as usize {
+        return Edge::Odd;
+    }
+    let end = first + (count as usize) * graph::TARGET;
+    if s.len() < end {
+        return Edge::Odd;
+    }
+    let Given::Most(given, next) = targets_give(s, n, claims, first, end) else {
+        return Edge::Odd;
+    };
+    match hyper_judged(
+        s,
+        n as usize,
+        claims,
+        marks,
+        at,
+        source as usize,
+        given,
+        next,
+    ) {
+        Weighed::Less => Edge::Odd,
+        Weighed::Backs => Edge::Backs(source, total, next),
+        Weighed::Idle => Edge::Idle(source, total, next),
+    }
 }
 
 // What the cover edge at a position is to the claims.
-fn cover_edge(s: &[u8], n: usize, claims: &[u8], at: usize) -> Edge
+fn cover_judged(
+    s: &[u8],
+    n: usize,
+    claims: &[u8],
+    at: usize,
+    source: usize,
+    target: usize,
+) -> Weighed
     requires { ⌜ CoverOk (now s) n at ⌝ }
+    requires { ⌜ (source ≡ number 2 (now s) at) × (target ≡ number 2 (now s) (at + coverTargetAt)) ⌝ }
     requires { ⌜ n * claimWidth ≤ length (now claims) ⌝ }
-    ensures { λ r. ⌜ Found (CoverFair (claimedValue (now (claims .entry))) (coverLayout (now (s .entry)) n .item at))
-        (CoverBacks (claimedValue (now (claims .entry))) (claimedRank (now (claims .entry))) (coverLayout (now (s .entry)) n .item at)) r ⌝ }
+    ensures { λ r. ⌜ (let e = coverLayout (now (s .entry)) n .item at in Found (CoverFair (claimedValue (now (claims .entry))) e) (CoverBacks (claimedValue (now (claims .entry))) (claimedRank (now (claims .entry))) e) ⊥ r) ⌝ }
 {
-    let source = wire::number_at(s, at, Width::Two) as usize;
     let bound = Bound::coded(wire::number_at(s, at + graph::COVER_BOUND_AT, Width::Four));
-    let target = wire::number_at(s, at + graph::COVER_TARGET_AT, Width::Two) as usize;
     let reached = value_of(n, claims, target);
     if !Value(reached).within(bound) {
-        return Edge::Idle;
+        return Weighed::Idle;
     }
     let claimed = value_of(n, claims, source);
     if 0 < claimed {
-        return Edge::Breaks;
+        return Weighed::Less;
     }
     let rank = rank_of(n, claims, source);
     let other = rank_of(n, claims, target);
     if other < rank {
-        return Edge::Backs;
+        return Weighed::Backs;
     }
-    Edge::Idle
+    Weighed::Idle
+}
+
+// What the cover edge at a position, whose bytes fit, is: its source, its target, and whether it holds.
+fn cover_edge(s: &[u8], n: u32, claims: &[u8], at: usize, prev: u32) -> Edge
+    requires { ⌜ (at + coverWidth ≤ length (now s)) × (prev ≤ n) ⌝ }
+    requires { ⌜ n * claimWidth ≤ length (now claims) ⌝ }
+    ensures { λ r. ⌜ (let e = coverLayout (now (s .entry)) n .item at in EdgeFound (one (m.covers (now (s .entry)) n) (record { at = at; prev = prev; seen = 0 }))
+        (CoverFair (claimedValue (now (claims .entry))) e) (CoverBacks (claimedValue (now (claims .entry))) (claimedRank (now (claims .entry))) e) ⊥ r) ⌝ }
+{
+    let source = wire::number_at(s, at, Width::Two);
+    if !in_order(source, n, prev) {
+        return Edge::Odd;
+    }
+    let target = wire::number_at(s, at + graph::COVER_TARGET_AT, Width::Two);
+    if n <= target {
+        return Edge::Odd;
+    }
+    let next = at + graph::COVER;
+    match cover_judged(s, n as usize, claims, at, source as usize, target as usize) {
+        Weighed::Less => Edge::Odd,
+        Weighed::Backs => Edge::Backs(source, 0, next),
+        Weighed::Idle => Edge::Idle(source, 0, next),
+    }
 }
 
 // Scans the hyperedges, and marks the sources of those that back them.
-fn scan_hypers(s: &[u8], n: usize, h: u32, claims: &[u8], marks: &mut [u8; 4096]) -> Scan
-    requires { ⌜ Sound (hyperLayout (now s) n) h graphHeader ⌝ }
+fn scan_hypers(s: &[u8], n: u32, h: u32, claims: &[u8], marks: &mut [u8; 4096]) -> Scan
+    requires { ⌜ graphHeader ≤ length (now s) ⌝ }
     requires { ⌜ n * claimWidth ≤ length (now claims) ⌝ }
     requires { ⌜ (n ≤ 4096) × (length (now marks) ≡ 4096) ⌝ }
-    ensures { λ r. ⌜ Scanned (hyperLayout (now (s .entry)) n) h graphHeader (λ e. e .source) (HyperFair (claimedValue (now (claims .entry))))
+    ensures { λ r. ⌜ Scanned (m.hypers (now (s .entry)) n) (hyperLayout (now (s .entry)) n) h graphHeader (λ e. e .source) (HyperFair (claimedValue (now (claims .entry))))
         (HyperBacks (claimedValue (now (claims .entry))) (claimedRank (now (claims .entry)))) (now (marks .entry)) (now (marks .exit)) r ⌝ }
 {
     let mut i = h;
-    let mut p = graph::HEADER;
+    let mut at = graph::HEADER;
+    let mut prev: u32 = 0;
+    let mut seen: u32 = 0;
     while 0 < i {
-        let source = wire::number_at(s, p, Width::Two) as usize;
-        let k = wire::number_at(s, p + graph::TARGET_COUNT_AT, Width::Two);
-        let at = p;
-        p += graph::HYPER + (k as usize) * graph::TARGET;
         i -= 1;
-        match hyper_edge(s, n, claims, k, at) {
-            Edge::Breaks => {
-                return Scan::Broken;
+        match hyper_edge(s, n, claims, marks, at, prev, seen) {
+            Edge::Odd => {
+                return Scan::Odd;
             }
-            Edge::Backs => {
-                marks[source] = 1;
+            Edge::Backs(source, total, next) => {
+                marks[source as usize] = 1;
+                at = next;
+                prev = source;
+                seen = total;
             }
-            Edge::Idle => {}
+            Edge::Idle(source, total, next) => {
+                at = next;
+                prev = source;
+                seen = total;
+            }
         }
     }
-    Scan::Past(p)
+    Scan::Past(at)
 }
 
 // Scans the cover edges at a position, and marks the sources of those that back them.
-fn scan_covers(
-    s: &[u8],
-    n: usize,
-    c: u32,
-    from: usize,
-    claims: &[u8],
-    marks: &mut [u8; 4096],
-) -> Scan
-    requires { ⌜ Sound (coverLayout (now s) n) c from ⌝ }
+fn scan_covers(s: &[u8], n: u32, c: u32, from: usize, claims: &[u8], marks: &mut [u8; 4096]) -> Scan
+    requires { ⌜ from + c * coverWidth ≤ length (now s) ⌝ }
     requires { ⌜ n * claimWidth ≤ length (now claims) ⌝ }
     requires { ⌜ (n ≤ 4096) × (length (now marks) ≡ 4096) ⌝ }
-    ensures { λ r. ⌜ Scanned (coverLayout (now (s .entry)) n) c from (λ e. e .source) (CoverFair (claimedValue (now (claims .entry))))
+    ensures { λ r. ⌜ Scanned (m.covers (now (s .entry)) n) (coverLayout (now (s .entry)) n) c from (λ e. e .source) (CoverFair (claimedValue (now (claims .entry))))
         (CoverBacks (claimedValue (now (claims .entry))) (claimedRank (now (claims .entry)))) (now (marks .entry)) (now (marks .exit)) r ⌝ }
 {
     let mut i = c;
-    let mut p = from;
+    let mut at = from;
+    let mut prev: u32 = 0;
     while 0 < i {
-        let source = wire::number_at(s, p, Width::Two) as usize;
-        let at = p;
-        p += graph::COVER;
         i -= 1;
-        match cover_edge(s, n, claims, at) {
-            Edge::Breaks => {
-                return Scan::Broken;
+        match cover_edge(s, n, claims, at, prev) {
+            Edge::Odd => {
+                return Scan::Odd;
             }
-            Edge::Backs => {
-                marks[source] = 1;
+            Edge::Backs(source, _, next) => {
+                marks[source as usize] = 1;
+                at = next;
+                prev = source;
             }
-            Edge::Idle => {}
+            Edge::Idle(source, _, next) => {
+                at = next;
+                prev = source;
+            }
         }
     }
-    Scan::Past(p)
+    Scan::Past(at)
 }
 
 // Whether every node that is claimed finite is marked.
@@ -314,373 +398,67 @@ fn all_backed(n: usize, claims: &[u8], marks: &[u8; 4096]) -> bool
 {
     let mut v = 0;
     while v < n {
-        let claimed = value_of(n, claims, v);
-        let mark = marks[v];
-        v += 1;
-        if mark != 1 {
+        if marks[v] == 1 {
+            v += 1;
+        } else {
+            let claimed = value_of(n, claims, v);
             if claimed != Value::INFINITE.0 {
                 return false;
             }
+            v += 1;
         }
     }
     true
 }
 
-// Whether the claims are accepted. A sum that 64 bits don't hold is infinity's number here. That takes nothing for infinity: where every
-// finite node has a support no claim is above (n - 1) w, and then no sum is so large.
-fn accepts(s: &[u8], n: usize, h: u32, c: u32, claims: &[u8]) -> bool
-    requires { ⌜ Ready (now s) n h c ⌝ }
-    requires { ⌜ n ≤ 4096 ⌝ }
+// Whether the message is a graph's and the claims are accepted. A sum that 64 bits don't hold is infinity's number here. That takes nothing
+// for infinity: where every finite node has a support no claim is above (n - 1) w, and then no sum is so large.
+fn accepts(s: &[u8], n: u32, h: u32, c: u32, claims: &[u8]) -> bool
+    requires { ⌜ readHeader (now s) ≡ good (record { n = n; h = h; c = c }) ⌝ }
     requires { ⌜ n * claimWidth ≤ length (now claims) ⌝ }
-    ensures { λ r. ⌜ (r ≡ true → AcceptsClaims (decoded (now (s .entry)) n h c) (now (claims .entry)))
-        × (r ≡ false → ¬ AcceptsClaims (decoded (now (s .entry)) n h c) (now (claims .entry))) ⌝ }
+    ensures { λ r. ⌜ (r ≡ true → (readGraph (now (s .entry)) ≡ good (decoded (now (s .entry)) n h c)) × AcceptsClaims (decoded (now (s .entry)) n h c) (now (claims .entry)))
+        × (r ≡ false → readGraph (now (s .entry)) ≡ good (decoded (now (s .entry)) n h c) → ¬ AcceptsClaims (decoded (now (s .entry)) n h c) (now (claims .entry))) ⌝ }
 {
     let mut marks = [0u8; 4096];
     let Scan::Past(middle) = scan_hypers(s, n, h, claims, &mut marks) else {
         return false;
     };
+    if middle + (c as usize) * graph::COVER != s.len() {
+        return false;
+    }
     let Scan::Past(_) = scan_covers(s, n, c, middle, claims, &mut marks) else {
         return false;
     };
-    all_backed(n, claims, &marks)
+    all_backed(n as usize, claims, &marks)
 }
 
-// Checks claims about the graph of a message: first the graph, then the length of the claims.
+// A fault of the graph, or else another answer.
+fn refused_or(message: &[u8], other: Judged) -> Judged
+    ensures { λ r. ⌜ r ≡ refusedOr (readGraph (now (message .entry))) other ⌝ }
+{
+    match graph::check(message) {
+        Checked::Refused(e) => Judged::Refused(e),
+        Checked::Graph(_, _, _, _) => other,
+    }
+}
+
+// Checks claims about the graph of a message: first the graph, then the length of the claims. One pass reads both; where it finds anything
+// wrong, the graph is checked alone, since its faults come first.
 pub fn check(message: &[u8], claims: &[u8]) -> Judged
     ensures answer { λ r. ⌜ Judges (readClaims (now (message .entry)) (now (claims .entry))) (now (claims .entry)) r ⌝ }
     ensures promise { λ r. ⌜ JudgedPromise (now (message .entry)) (now (claims .entry)) r ⌝ }
 {
-    match graph::check(message) {
+    match graph::header(message) {
         Checked::Refused(e) => Judged::Refused(e),
-        Checked::Graph(nodes, h, c, _) => {
-            let n = nodes as usize;
-            let long = n * CLAIM;
+        Checked::Graph(n, h, c, _) => {
+            let long = (n as usize) * CLAIM;
             if claims.len() != long {
-                return Judged::Refused(wire::SHORT);
+                return refused_or(message, Judged::Refused(wire::SHORT));
             }
             if accepts(message, n, h, c, claims) {
                 return Judged::Yes;
             }
-            Judged::No
-        }
-    }
-}
-
-// Where the cover edges stand: past the hyperedges.
-fn past_hypers(s: &[u8], n: usize, h: u32) -> usize
-    requires { ⌜ Sound (hyperLayout (now s) n) h graphHeader ⌝ }
-    ensures { λ r. ⌜ r ≡ end (hyperLayout (now (s .entry)) n) h graphHeader ⌝ }
-{
-    let mut i = h;
-    let mut p = graph::HEADER;
-    while 0 < i {
-        let k = wire::number_at(s, p + graph::TARGET_COUNT_AT, Width::Two);
-        p += graph::HYPER + (k as usize) * graph::TARGET;
-        i -= 1;
-    }
-    p
-}
-
-// The largest label of k targets at a position; 0 with none.
-fn deepest(s: &[u8], n: usize, labels: &[u32; 4096], k: u32, at: usize) -> u32
-    requires { ⌜ Sound (targetLayout (now s) n) k at ⌝ }
-    requires { ⌜ (n ≤ 4096) × (length (now labels) ≡ 4096) ⌝ }
-    ensures { λ r. ⌜ Deepest (label (now (labels .entry))) (items (targetLayout (now (s .entry)) n) k at) r ⌝ }
-{
-    let mut most: u32 = 0;
-    let mut i = k;
-    let mut p = at;
-    while 0 < i {
-        let node = wire::number_at(s, p + graph::NODE_AT, Width::Two) as usize;
-        let own = labels[node];
-        p += graph::TARGET;
-        i -= 1;
-        if most < own {
-            most = own;
-        }
-    }
-    most
-}
-
-// Takes each hyperedge's source down to the depth of its targets; says whether any label rose.
-fn deepen_hypers(s: &[u8], n: usize, h: u32, labels: &mut [u32; 4096]) -> bool
-    requires { ⌜ Sound (hyperLayout (now s) n) h graphHeader ⌝ }
-    requires { ⌜ (n ≤ 4096) × (length (now labels) ≡ 4096) ⌝ }
-    ensures { λ r. ⌜ Deeper n (items (hyperLayout (now (s .entry)) n) h graphHeader) HyperFalls (now (labels .entry)) (now (labels .exit)) r ⌝ }
-{
-    let mut moved = false;
-    let mut i = h;
-    let mut p = graph::HEADER;
-    while 0 < i {
-        let source = wire::number_at(s, p, Width::Two) as usize;
-        let k = wire::number_at(s, p + graph::TARGET_COUNT_AT, Width::Two);
-        let deep = deepest(s, n, labels, k, p + graph::HYPER);
-        let own = labels[source];
-        p += graph::HYPER + (k as usize) * graph::TARGET;
-        i -= 1;
-        if own < deep {
-            labels[source] = deep;
-            moved = true;
-        }
-    }
-    moved
-}
-
-// Takes each cover edge's source below its target; says whether any label rose.
-fn deepen_covers(s: &[u8], n: usize, c: u32, middle: usize, labels: &mut [u32; 4096]) -> bool
-    requires { ⌜ Sound (coverLayout (now s) n) c middle ⌝ }
-    requires { ⌜ (n ≤ 4096) × (length (now labels) ≡ 4096) ⌝ }
-    requires { ⌜ c ≤ 4096 ⌝ }
-    requires { ⌜ Within n (now labels) 4294901760 ⌝ }
-    ensures { λ r. ⌜ Deeper n (items (coverLayout (now (s .entry)) n) c middle) CoverFalls (now (labels .entry)) (now (labels .exit)) r ⌝ }
-    ensures { λ _. ⌜ ((m : ℕ) → Within n (now (labels .entry)) m → Within n (now (labels .exit)) (m + c)) ⌝ }
-{
-    let mut moved = false;
-    let mut i = c;
-    let mut p = middle;
-    while 0 < i {
-        let source = wire::number_at(s, p, Width::Two) as usize;
-        let target = wire::number_at(s, p + graph::COVER_TARGET_AT, Width::Two) as usize;
-        let below = labels[target];
-        let own = labels[source];
-        p += graph::COVER;
-        i -= 1;
-        if own <= below {
-            labels[source] = below + 1;
-            moved = true;
-        }
-    }
-    moved
-}
-
-// A pass over all edges; says whether any label rose.
-fn deepen(s: &[u8], n: usize, h: u32, c: u32, middle: usize, labels: &mut [u32; 4096]) -> bool
-    requires { ⌜ Scannable (now s) n h c ⌝ }
-    requires { ⌜ middle ≡ end (hyperLayout (now s) n) h graphHeader ⌝ }
-    requires { ⌜ (n ≤ 4096) × (length (now labels) ≡ 4096) ⌝ }
-    requires { ⌜ c ≤ 4096 ⌝ }
-    requires { ⌜ Within n (now labels) 4294901760 ⌝ }
-    ensures { λ r. ⌜ Pass (decoded (now (s .entry)) n h c) (now (labels .entry)) (now (labels .exit)) r ⌝ }
-    ensures { λ _. ⌜ ((m : ℕ) → Within n (now (labels .entry)) m → Within n (now (labels .exit)) (m + c)) ⌝ }
-{
-    let along = deepen_hypers(s, n, h, labels);
-    let over = deepen_covers(s, n, c, middle, labels);
-    if along {
-        return true;
-    }
-    over
-}
-
-// Whether some cycle passes through a cover edge: then, and only then, do the labels still rise in pass n.
-fn has_cycle(s: &[u8], n: usize, h: u32, c: u32, middle: usize) -> bool
-    requires { ⌜ Ready (now s) n h c ⌝ }
-    requires { ⌜ middle ≡ end (hyperLayout (now s) n) h graphHeader ⌝ }
-    requires { ⌜ (n ≤ 4096) × (c ≤ 4096) ⌝ }
-    ensures { λ r. ⌜ (r ≡ true → CoverCycle (decoded (now (s .entry)) n h c)) × (r ≡ false → ¬ CoverCycle (decoded (now (s .entry)) n h c)) ⌝ }
-{
-    let mut labels = [0u32; 4096];
-    let mut passes = 1;
-    while passes < n {
-        if !deepen(s, n, h, c, middle, &mut labels) {
-            return false;
-        }
-        passes += 1;
-    }
-    deepen(s, n, h, c, middle, &mut labels)
-}
-
-// Writes the values of n nodes from the words, and no rank yet.
-fn begin(n: usize, words: &[u64], claims: &mut [u8])
-    requires { ⌜ n ≤ length (now words) ⌝ }
-    requires { ⌜ n * claimWidth ≤ length (now claims) ⌝ }
-    ensures { λ _. ⌜ Begun n (now (words .entry)) (now (claims .entry)) (now (claims .exit)) ⌝ }
-{
-    let mut v = 0;
-    while v < n {
-        let value = words[v];
-        let at = v * CLAIM;
-        let behind = at + RANK_AT;
-        wire::store_long(claims, at, value);
-        wire::store_long(claims, behind, UNRANKED);
-        v += 1;
-    }
-}
-
-// Sets the first k words to 0.
-fn clear(k: usize, words: &mut [u64])
-    requires { ⌜ k ≤ length (now words) ⌝ }
-    ensures { λ _. ⌜ now (words .exit) ≡ replicate k 0 ++ drop k (now (words .entry)) ⌝ }
-{
-    let mut i = 0;
-    while i < k {
-        words[i] = 0;
-        i += 1;
-    }
-}
-
-// Whether the hyperedge of k targets at a position backs its source. The checker asks more, in a function that it alone calls, so that the
-// compiler puts that into its loop.
-fn hyper_backs(s: &[u8], n: usize, claims: &[u8], k: u32, at: usize) -> bool
-    requires { ⌜ HyperOk (now s) n at ⌝ }
-    requires { ⌜ k ≡ number 2 (now s) (at + targetCountAt) ⌝ }
-    requires { ⌜ n * claimWidth ≤ length (now claims) ⌝ }
-    ensures { λ r. ⌜ (r ≡ true → HyperBacks (claimedValue (now (claims .entry))) (claimedRank (now (claims .entry))) (hyperLayout (now (s .entry)) n .item at))
-        × (r ≡ false → ¬ HyperBacks (claimedValue (now (claims .entry))) (claimedRank (now (claims .entry))) (hyperLayout (now (s .entry)) n .item at)) ⌝ }
-{
-    let source = wire::number_at(s, at, Width::Two) as usize;
-    let claimed = value_of(n, claims, source);
-    let targets = at + graph::HYPER;
-    let given = worst(s, n, claims, k, targets);
-    if given.0 != claimed {
-        return false;
-    }
-    if claimed == Value::INFINITE.0 {
-        return false;
-    }
-    let rank = rank_of(n, claims, source);
-    ranks_below(s, n, claims, rank, k, targets)
-}
-
-// Whether the cover edge at a position backs its source.
-fn cover_backs(s: &[u8], n: usize, claims: &[u8], at: usize) -> bool
-    requires { ⌜ CoverOk (now s) n at ⌝ }
-    requires { ⌜ n * claimWidth ≤ length (now claims) ⌝ }
-    ensures { λ r. ⌜ (r ≡ true → CoverBacks (claimedValue (now (claims .entry))) (claimedRank (now (claims .entry))) (coverLayout (now (s .entry)) n .item at))
-        × (r ≡ false → ¬ CoverBacks (claimedValue (now (claims .entry))) (claimedRank (now (claims .entry))) (coverLayout (now (s .entry)) n .item at)) ⌝ }
-{
-    let source = wire::number_at(s, at, Width::Two) as usize;
-    let bound = Bound::coded(wire::number_at(s, at + graph::COVER_BOUND_AT, Width::Four));
-    let target = wire::number_at(s, at + graph::COVER_TARGET_AT, Width::Two) as usize;
-    let reached = value_of(n, claims, target);
-    if !Value(reached).within(bound) {
-        return false;
-    }
-    let claimed = value_of(n, claims, source);
-    if claimed != 0 {
-        return false;
-    }
-    let rank = rank_of(n, claims, source);
-    let other = rank_of(n, claims, target);
-    other < rank
-}
-
-// Ranks the sources of hyperedges that back them, one after another; gives the next rank.
-fn rank_hypers(s: &[u8], n: usize, h: u32, given: u64, claims: &mut [u8]) -> u64
-    requires { ⌜ Sound (hyperLayout (now s) n) h graphHeader ⌝ }
-    requires { ⌜ n * claimWidth ≤ length (now claims) ⌝ }
-    requires { ⌜ given + h < unranked ⌝ }
-    ensures { λ r. ⌜ RankedBy (items (hyperLayout (now (s .entry)) n) h graphHeader) (λ e. e .source) (λ b. HyperBacks (claimedValue b) (claimedRank b))
-        given (now (claims .entry)) r (now (claims .exit)) ⌝ }
-{
-    let mut next = given;
-    let mut i = h;
-    let mut p = graph::HEADER;
-    while 0 < i {
-        let source = wire::number_at(s, p, Width::Two) as usize;
-        let k = wire::number_at(s, p + graph::TARGET_COUNT_AT, Width::Two);
-        let at = p;
-        p += graph::HYPER + (k as usize) * graph::TARGET;
-        i -= 1;
-        if rank_of(n, claims, source) == UNRANKED {
-            if hyper_backs(s, n, claims, k, at) {
-                let place = source * CLAIM + RANK_AT;
-                wire::store_long(claims, place, next);
-                next += 1;
-            }
-        }
-    }
-    next
-}
-
-// Ranks the sources of cover edges that back them, one after another; gives the next rank.
-fn rank_covers(s: &[u8], n: usize, c: u32, middle: usize, given: u64, claims: &mut [u8]) -> u64
-    requires { ⌜ Sound (coverLayout (now s) n) c middle ⌝ }
-    requires { ⌜ n * claimWidth ≤ length (now claims) ⌝ }
-    requires { ⌜ given + c < unranked ⌝ }
-    ensures { λ r. ⌜ RankedBy (items (coverLayout (now (s .entry)) n) c middle) (λ e. e .source) (λ b. CoverBacks (claimedValue b) (claimedRank b))
-        given (now (claims .entry)) r (now (claims .exit)) ⌝ }
-{
-    let mut next = given;
-    let mut i = c;
-    let mut p = middle;
-    while 0 < i {
-        let source = wire::number_at(s, p, Width::Two) as usize;
-        let at = p;
-        p += graph::COVER;
-        i -= 1;
-        if rank_of(n, claims, source) == UNRANKED {
-            if cover_backs(s, n, claims, at) {
-                let place = source * CLAIM + RANK_AT;
-                wire::store_long(claims, place, next);
-                next += 1;
-            }
-        }
-    }
-    next
-}
-
-// Ranks nodes in passes over all edges, until a pass ranks none; each pass before it ranks one, so n are enough.
-fn rank(s: &[u8], n: usize, h: u32, c: u32, middle: usize, claims: &mut [u8])
-    requires { ⌜ Ready (now s) n h c ⌝ }
-    requires { ⌜ middle ≡ end (hyperLayout (now s) n) h graphHeader ⌝ }
-    requires { ⌜ n ≤ 4096 ⌝ }
-    requires { ⌜ n * claimWidth ≤ length (now claims) ⌝ }
-    requires { ⌜ (CoverCycle (decoded (now s) n h c) → ⊥) ⌝ }
-    requires { ⌜ rules.Agree (decoded (now s) n h c) (claimedValue (now claims)) (rules.rounds (decoded (now s) n h c) (count (decoded (now s) n h c))) ⌝ }
-    requires { ⌜ ((v : ℕ) → v < n → claimedRank (now claims) v ≡ unranked) ⌝ }
-    ensures { λ _. ⌜ Kept n (now (claims .entry)) (now (claims .exit)) ⌝ }
-    ensures { λ _. ⌜ AcceptsClaims (decoded (now (s .entry)) n h c) (now (claims .exit)) ⌝ }
-{
-    let mut given: u64 = 0;
-    let mut i = 0;
-    while i < n {
-        let more = rank_hypers(s, n, h, given, claims);
-        let next = rank_covers(s, n, c, middle, more, claims);
-        if next == given {
-            return;
-        }
-        given = next;
-        i += 1;
-    }
-}
-
-// Writes the claims of a graph without a cycle through a cover edge: the rounds settle within n, in the words.
-fn fill(s: &[u8], nodes: u32, h: u32, c: u32, middle: usize, claims: &mut [u8], words: &mut [u64])
-    requires { ⌜ Ready (now s) nodes h c ⌝ }
-    requires { ⌜ middle ≡ end (hyperLayout (now s) nodes) h graphHeader ⌝ }
-    requires { ⌜ nodes ≤ 4096 ⌝ }
-    requires { ⌜ (CoverCycle (decoded (now s) nodes h c) → ⊥) ⌝ }
-    requires { ⌜ (nodes * claimWidth ≤ length (now claims)) × (nodes * 8 ≤ length (now words)) ⌝ }
-    ensures { λ _. ⌜ Filled (decoded (now (s .entry)) nodes h c) (now (claims .entry)) (now (words .entry)) (now (claims .exit)) (now (words .exit)) ⌝ }
-{
-    let n = nodes as usize;
-    rounds::run(s, n, h, c, nodes, words);
-    begin(n, words, claims);
-    clear(n * WORDS, words);
-    rank(s, n, h, c, middle, claims);
-}
-
-// Writes claims about the graph of a message that the checker accepts: first the graph, then its cycles, then the rooms.
-pub fn write(message: &[u8], claims: &mut [u8], words: &mut [u64]) -> Written
-    ensures answer { λ r. ⌜ Writes (readGraph (now (message .entry))) (now (claims .entry)) (now (words .entry)) (now (claims .exit)) (now (words .exit)) r ⌝ }
-    ensures promise { λ r. ⌜ WrittenPromise (now (message .entry)) (now (claims .entry)) (now (words .entry)) (now (claims .exit)) (now (words .exit)) r ⌝ }
-{
-    match graph::check(message) {
-        Checked::Refused(e) => Written::Refused(e),
-        Checked::Graph(nodes, h, c, _) => {
-            let n = nodes as usize;
-            let middle = past_hypers(message, n, h);
-            if has_cycle(message, n, h, c, middle) {
-                return Written::Refused(refusal::PROFILE);
-            }
-            if claims.len() < n * CLAIM {
-                return Written::Refused(refusal::ROOM);
-            }
-            if words.len() < n * WORDS {
-                return Written::Refused(refusal::ROOM);
-            }
-            fill(message, nodes, h, c, middle, claims, words);
-            Written::Claims
+            refused_or(message, Judged::No)
         }
     }
 }

@@ -3,8 +3,10 @@
 use mathlib.Core.Path.{_≡_, sym, ap, _∙_}
 use denote.Ref.{now}
 use Rattle.graph.specs.Message.{readGraph}
-use Rattle.claims.specs.Answers.{judgedNumber, judgedOffset, writtenNumber, writtenOffset, readClaims}
-use Rattle.claims.proofs.One.{judges-one, SameClaims, writes-one}
+use Rattle.claims.specs.Answers.{judgedNumber, judgedOffset, readClaims}
+use Rattle.ranks.specs.Answers.{writtenNumber, writtenOffset}
+use Rattle.claims.proofs.One.{judges-one}
+use Rattle.ranks.proofs.One.{SameClaims, writes-one}
 use Rattle.export.specs.Claimed.{judgedVerdict}
 use Prim.Native.Nat.{ℕ}
 use Rattle.tally.specs.declared.Entry.{Entry}

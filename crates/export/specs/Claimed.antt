@@ -3,11 +3,13 @@ use Prim.Native.Nat.{ℕ}
 use mathlib.Core.List.{List}
 use mathlib.Core.Path.{_≡_}
 use Rattle.graph.specs.Message.{readGraph}
-use Rattle.claims.specs.Answers.{judgedNumber, judgedOffset, writtenNumber, writtenOffset, readClaims, Judges, Writes}
-use Rattle.claims.specs.Promise.{JudgedPromise, WrittenPromise}
+use Rattle.claims.specs.Answers.{judgedNumber, judgedOffset, readClaims, Judges}
+use Rattle.ranks.specs.Answers.{writtenNumber, writtenOffset, Writes}
+use Rattle.claims.specs.Promise.{JudgedPromise}
+use Rattle.ranks.specs.Promise.{WrittenPromise}
 use Rattle.claims.specs.declared.Judged.{Judged}
 use Rattle.claims.specs.declared.Judged.the-variants as Judged
-use Rattle.claims.specs.declared.Written.{Written}
+use Rattle.ranks.specs.declared.Written.{Written}
 
 -- 0 none, 1 yes, 2 no
 abbrev pub judgedVerdict : Judged → ℕ

@@ -196,7 +196,7 @@ pub extern "C" fn otzarvim_claims_write(
     ensures { λ r. ⌜ WrittenBy (now (message .entry)) (now (claims .entry)) (now (words .entry)) (now (claims .exit)) (now (words .exit)) r
         (now (offset .exit)) ⌝ }
 {
-    let written = claims::write(message, claims, words);
+    let written = ranks::write(message, claims, words);
     *offset = written.offset();
     written.number()
 }

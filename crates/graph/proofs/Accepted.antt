@@ -46,7 +46,7 @@ module _ (s : List ℕ) (n : ℕ) where
         };
       }
 
-  covers-read : (st : State) (c : Cover) → readCover s n st ≡ good c → Reads (coverLayout s n) (covers s n) st c
+  pub covers-read : (st : State) (c : Cover) → readCover s n st ≡ good c → Reads (coverLayout s n) (covers s n) st c
   covers-read st c e =
       let g = cover-good s n st c e in
       let source : number 2 s (st .at) ≡ c .source = value-is 2 s _ (g .source-there) in

@@ -278,7 +278,7 @@ fn covers(s: &[u8], n: u32, k: u32, first: State) -> Step
 }
 
 // The header: its counts, and no target yet.
-fn header(s: &[u8]) -> Checked
+pub fn header(s: &[u8]) -> Checked
     ensures { λ r. ⌜ r ≡ answers.counted (m.readHeader (now (s .entry))) ⌝ }
 {
     if let Opened::Refused(e) = wire::open(s, HEAD) {

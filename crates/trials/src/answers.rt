@@ -356,17 +356,17 @@ fn certify_in(message: &[u8], room: &mut [u8], words: &mut [u64]) -> Line
 {
     rooms::fill_bytes(room);
     rooms::fill_values(words);
-    let written = claims::write(message, room, words);
+    let written = ranks::write(message, room, words);
     certified(message, written, room, sums::of_values(words))
 }
 
 // Where claims were written, the room holds as many as the graph has nodes, and what is behind them.
-fn certified(message: &[u8], written: claims::Written, room: &[u8], lent: u32) -> Line
+fn certified(message: &[u8], written: ranks::Written, room: &[u8], lent: u32) -> Line
     ensures { λ r. ⌜ Sound r ⌝ }
 {
     match written {
-        claims::Written::Claims => certified_front(message, room, lent),
-        claims::Written::Refused(e) => {
+        ranks::Written::Claims => certified_front(message, room, lent),
+        ranks::Written::Refused(e) => {
             uncertified_line(e.number(), e.offset, sums::of_bytes(room), lent)
         },
     }

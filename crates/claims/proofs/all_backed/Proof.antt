@@ -23,37 +23,41 @@ abbrev μ-loop : tie.MeasureT-loop
 loop-holds : tie.Need-loop-holds Inv-loop μ-loop
 loop-holds c = (omega arith, λ v l. absurd (omega arith))
 
-value-of-requires : tie.Need-value-of-requires Inv-loop μ-loop
-value-of-requires c κs = search needs
-
-element-copy-out-mark : tie.Need-element-copy-out-mark Inv-loop μ-loop
-element-copy-out-mark c = omega arith
+element-copy-out-if1 : tie.Need-element-copy-out-if1 Inv-loop μ-loop
+element-copy-out-if1 c = omega arith
 
 add-v : tie.Need-add-v Inv-loop μ-loop
 add-v c = omega arith
-
-returns : tie.Need-returns Inv-loop μ-loop
-returns c =
-    let i = c .before .before in
-    let v = i .before .before in (
-      λ e. absurd (true≢false (sym e)),
-      λ e all. i .if1 .taken (all (v .before .before .loop .v) (omega (arith, v .before .loop-test .taken))
-          (ap finite (ap meaning (sym (v .value-of .ensures)) ∙ meaning-finite (c .if2 .taken)))),
-    )
 
 loop-less : tie.Need-loop-less Inv-loop μ-loop
 loop-less c = omega arith
 
 loop-again : tie.Need-loop-again Inv-loop μ-loop
-loop-again c =
-    let v = c .before .before .before .before in
-    (omega arith, below-more _ _ (v .before .before .loop .inv .1) (λ f. clash f (ap finite (ap meaning (sym (v .value-of .ensures)) ∙ meaning-infinite (c .if2 .left)))))
+loop-again c = (omega arith, below-more _ _ (c .before .before .before .loop .inv .1) (λ f. c .if1 .taken))
+
+value-of-requires : tie.Need-value-of-requires Inv-loop μ-loop
+value-of-requires c κs = search needs
+
+returns : tie.Need-returns Inv-loop μ-loop
+returns c =
+    let v = c .before .before in
+    let i = v .before in
+    let t = i .before .before in (
+      λ e. absurd (true≢false (sym e)),
+      λ e all. i .if1 .left (all (t .before .loop .v) (omega (arith, t .loop-test .taken)) (ap finite (ap meaning (sym (v .value-of .ensures)) ∙ meaning-finite (c .if2 .taken)))),
+    )
+
+add-v-2 : tie.Need-add-v-2 Inv-loop μ-loop
+add-v-2 c = omega arith
 
 loop-less-2 : tie.Need-loop-less-2 Inv-loop μ-loop
 loop-less-2 c = omega arith
 
 loop-again-2 : tie.Need-loop-again-2 Inv-loop μ-loop
-loop-again-2 c = (omega arith, below-more _ _ (c .before .before .before .before .loop .inv .1) (λ f. c .if1 .left))
+loop-again-2 c =
+    let v = c .before .before in
+    let t = v .before .before .before in
+    (omega arith, below-more _ _ (t .before .loop .inv .1) (λ f. clash f (ap finite (ap meaning (sym (v .value-of .ensures)) ∙ meaning-infinite (c .if2 .left)))))
 
 returns-2 : tie.Need-returns-2 Inv-loop μ-loop
 returns-2 c = (λ e v l. c .before .loop .inv .1 v (omega arith), λ e. absurd (true≢false e))
@@ -65,12 +69,13 @@ all-backed-spec =
     Inv-loop
     μ-loop
     loop-holds
-    value-of-requires
-    element-copy-out-mark
+    element-copy-out-if1
     add-v
-    returns
     loop-less
     loop-again
+    value-of-requires
+    returns
+    add-v-2
     loop-less-2
     loop-again-2
     returns-2)
