@@ -1,14 +1,15 @@
 -- Edges laid into the room one after another, and the loops over transitions that do so. Assumes nothing.
 use Prim.Native.Nat.{ℕ, _+_, _*_, _-_, _<_, _≤_}
-use mathlib.Core.List.{List, [], _∷_, _++_, append-nil, List·Memᴰ·head, List·Memᴰ·tail}
-use mathlib.Core.Path.{_≡_, refl, ap, subst, _∙_}
+use mathlib.Core.List.{List, [], _∷_, _++_, append-nil, append-assoc, List·Memᴰ·head, List·Memᴰ·tail}
+use mathlib.Core.Path.{_≡_, refl, sym, ap, ap₂, subst, _∙_}
 use native.Mathlib.Omega.{arith}
-use lib.ListN.{length, length-append, length-map}
+use lib.ListN.{length, take, drop, length-append, length-map}
+use lib.Seq.{length-take-le, take-append-le, take-take, drop-at}
 use Rattle.lists.specs.Lists.{_∈_}
 use Rattle.lists.specs.Making.{keep}
 use Rattle.value.specs.declared.Bound.{Bound}
 use Rattle.wire.specs.Bytes.{bytes, number}
-use Rattle.wire.specs.Laid.{Laid}
+use Rattle.wire.specs.Laid.{laid, Laid}
 use Rattle.wire.specs.Layout.{items}
 use Rattle.wire.specs.Write.{writeAll}
 use Rattle.wire.proofs.Bytes.{length-bytes}
@@ -53,6 +54,37 @@ pub hyper-laid : {b : List ℕ} {at : ℕ} {b′ : List ℕ} {next : ℕ} {b″ 
     → Laid b at (writeHyper (hyper v ts)) b″ end
 unfolding writeHyper
 hyper-laid v ts h m = h then m
+
+-- or its head is laid in before its targets, once they stand
+laid-before : (b : List ℕ) (at : ℕ) (s t : List ℕ) → at + length s + length t ≤ length b → laid (laid b (at + length s) t) at s ≡ laid b at (s ++ t)
+unfolding laid
+laid-before b at s t h =
+    let k : ℕ = at + length s in
+    let front : List ℕ = take k b in
+    let rest : List ℕ = drop (k + length t) b in
+    let long : length front ≡ k = length-take-le k b (omega arith) in
+    let kept : take at (front ++ t ++ rest) ≡ take at b =
+    take-append-le at (front ++ t) rest (omega (arith, length-append front t, long)) ∙ take-append-le at front t (omega (arith, long)) ∙ take-take at k b (omega arith) in
+    let beyond : drop k (front ++ t ++ rest) ≡ t ++ rest = ap (drop k) (append-assoc front t rest) ∙ drop-at front (t ++ rest) k long in
+    let total : k + length t ≡ at + length (s ++ t) = omega (arith, length-append s t) in
+    ap₂ (λ (x y : List ℕ). x ++ s ++ y) kept beyond ∙ sym (append-assoc (take at b ++ s) t rest)
+    ∙ ap₂ (λ (x : List ℕ) (n : ℕ). x ++ drop n b) (append-assoc (take at b) s t) total
+
+pub head-laid : {b : List ℕ} {at : ℕ} {b′ : List ℕ} {next : ℕ} {b″ : List ℕ} {end : ℕ} (v : ℕ) (ts : List Target)
+    → Laid b (at + hyperWidth) (writeAll writeTarget ts) b′ next → Laid b′ at (bytes 2 v ++ bytes 2 (length ts)) b″ end
+    → Laid b at (writeHyper (hyper v ts)) b″ next
+unfolding writeHyper
+head-laid {b} {at} v ts l m =
+    let s = bytes 2 v ++ bytes 2 (length ts) in
+    let t = writeAll writeTarget ts in
+    let four = head-length v (length ts) in
+    let there : at + hyperWidth ≡ at + length s = omega (arith, four) in
+    let fits : at + length s + length t ≤ length b = omega (arith, there, l .inside) in
+    record {
+      inside = omega (arith, fits, length-append s t);
+      room-is = m .room-is ∙ ap (λ (c : List ℕ). laid c at s) (l .room-is ∙ ap (λ (n : ℕ). laid b n t) there) ∙ laid-before b at s t fits;
+      next-is = omega (arith, there, l .next-is, length-append s t);
+    }
 
 -- ---- a loop over transitions that lays in what one makes of each
 

@@ -3,11 +3,12 @@
 use Prim.Native.Nat.{ℕ, zero, suc, _+_, _*_, _-_, _<_, _≤_}
 use mathlib.Core.List.{List, [], _∷_, _++_, append-assoc}
 use mathlib.Core.Bool.{Bool, true, false, cond}
-use mathlib.Core.Path.{_≡_, refl, sym, ap, ap₂, _∙_}
+use mathlib.Core.Path.{_≡_, refl, sym, ap, ap₂, subst, _∙_}
 use native.Mathlib.Nat.{suc-mul}
 use native.Mathlib.Omega.{arith}
 use lib.ListN.{length, take, drop, length-append}
 use lib.Seq.{length-take-le, take-at, drop-drop, drop-append-add}
+use Rattle.lists.specs.Lists.{_∈_}
 use Rattle.lists.specs.Making.{keep}
 use Rattle.value.specs.declared.Bound.{Bound}
 use Rattle.formula.specs.declared.Action.{Action}
@@ -17,15 +18,16 @@ use Rattle.wire.specs.Layout.{items}
 use Rattle.wire.specs.Write.{writeAll}
 use Rattle.wire.proofs.Exact.{length-writeAll}
 use Rattle.wire.proofs.Laid.{Left, none-left, same-length, nothing, said}
+use Rattle.wire.proofs.Parts.{∈-items, items-∈}
 use Rattle.wire.proofs.Written.{writeAll-map, writeAll-keep}
 use Rattle.graph.specs.Write.{writeTarget}
 use Rattle.graph.proofs.Exact.{target-length}
-use Rattle.model.specs.Format.{weightAt, actionAt, toAt, transitionWidth}
+use Rattle.model.specs.Format.{weightAt, actionAt, toAt, transitionWidth, transitionAt}
 use Rattle.model.specs.Model.{Transition}
 use Rattle.formula.specs.declared.Quantifier.{Quantifier}
 use Rattle.formula.specs.declared.Quantifier.the-variants.{Some, Every}
 use Rattle.reduction.specs.Built.{to, looksAt}
-use Rattle.transitions.specs.Held.{transitionLayout}
+use Rattle.transitions.specs.Held.{transitionLayout, transitionsFrom, Reads}
 use Rattle.records.specs.Bytes.{hypersBytes, someNext, everyNext, nearBytes, nearWidth, nearbyBytes}
 use Rattle.transitions.specs.Looked.{isNear}
 use Rattle.transitions.proofs.Counting.{passing-le}
@@ -65,17 +67,37 @@ unfolding nearBytes nearWidth
 near-long Some v node = single-length v (to 0 node)
 near-long Every v node = target-length (to 0 node)
 
+pub near-wide : (q : Quantifier) → 0 < nearWidth q
+unfolding nearWidth
+near-wide Some = omega arith
+near-wide Every = omega arith
+
+-- fewer transitions can be read too
+pub fewer-read : {m : List ℕ} {n first many shift : ℕ} → Reads m n first many shift → (k : ℕ) → k ≤ many → Reads m n first k shift
+fewer-read {m} {n} {first} {many} r k h = record {
+  long = omega (arith, r .long);
+  named = λ {u} e. let at = ∈-items (transitionLayout m) k (transitionAt n first) e in
+      r .named {u = u} (subst (λ (x : Transition). x ∈ transitionsFrom m n first many) (sym (at .2)) (items-∈ (transitionLayout m) many (transitionAt n first) (at .0) (omega (arith, at .1))));
+  shift-fits = r .shift-fits;
+}
+
 -- for those that are looked at it is the hyperedges of EX, or the targets of that of AX
-module _ {q : Quantifier} (v most shift : ℕ) (us : List Transition) (A : Action) (b : Bound) (kept : keep (looksAt A b) us ≡ keep (isNear A most) us) where
-  pub some-nearby : q ≡ Some → hypersBytes v (someNext us A b shift) ≡ nearbyBytes q A v most shift us
+module _ {q : Quantifier} (v low high most shift : ℕ) (us : List Transition) (A : Action) (b : Bound)
+    (kept : keep (looksAt A b) us ≡ keep (isNear low high most) us) where
+  pub some-nearby : q ≡ Some → hypersBytes v (someNext us A b shift) ≡ nearbyBytes q v low high most shift us
   unfolding nearBytes
   some-nearby e = rw e (simp writeAll-map (ap (writeAll (λ u. nearBytes Some v (u .to + shift))) kept))
 
-  pub every-nearby : q ≡ Every → writeAll writeTarget (everyNext us A b shift) ≡ nearbyBytes q A v most shift us
+  pub every-nearby : q ≡ Every → writeAll writeTarget (everyNext us A b shift) ≡ nearbyBytes q v low high most shift us
   unfolding nearBytes
   every-nearby e = rw e (simp writeAll-map (ap (writeAll (λ u. nearBytes Every v (u .to + shift))) kept))
 
 -- ---- the loop
+
+-- the same, with the next position said otherwise
+pub filled-at : {m : List ℕ} {n : ℕ} {one : Transition → List ℕ} {b : List ℕ} {at : ℕ} {whole b′ : List ℕ} {next p i x : ℕ}
+    → Filling m n one b at whole b′ next p i → x ≡ next → Filling m n one b at whole b′ x p i
+filled-at f e = rw e f
 
 -- what is made of a transition that passes
 unfoldable pub near : (Transition → Bool) → (Transition → List ℕ) → Transition → List ℕ
@@ -102,6 +124,14 @@ module _ (m : List ℕ) (n : ℕ) (test : Transition → Bool) (one : Transition
         go : (rest : List ℕ) → Left b at whole b′ next rest → length rest ≡ 0 → Laid b at whole b′ next
         go [] l e = none-left l
         go (a ∷ rest) l e = absurd (omega arith)
+
+    -- where one that passes is left, bytes are
+    pub near-short : 0 < k → 1 ≤ left → next < at + length whole
+    near-short pos h = go left ends h
+      where
+        go : (l : ℕ) → next + l * k ≡ at + length whole → 1 ≤ l → next < at + length whole
+        go zero e h = absurd (omega arith)
+        go (suc l) e h = let product : suc l * k ≡ l * k + k = suc-mul l k in omega arith
 
     module _ (h : next < at + length whole) where
       -- with bytes left, there is a transition that passes

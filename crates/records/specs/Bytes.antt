@@ -57,8 +57,8 @@ unfoldable pub nearWidth : Quantifier → ℕ
 nearWidth Some = singleWidth
 nearWidth Every = targetWidth
 
-abbrev pub nearbyBytes : Quantifier → Action → (v most shift : ℕ) → List Transition → List ℕ
-nearbyBytes q A v most shift us = writeAll (λ u. nearBytes q v (u .to + shift)) (keep (isNear A most) us)
+abbrev pub nearbyBytes : Quantifier → (v low high most shift : ℕ) → List Transition → List ℕ
+nearbyBytes q v low high most shift us = writeAll (λ u. nearBytes q v (u .to + shift)) (keep (isNear low high most) us)
 
 -- the helper of state a at place h over a list of transitions: first {right at weight 0}
 abbrev pub helperList : (n a : ℕ) → Quantifier → (l r h : ℕ) → List Transition → List (List Target)

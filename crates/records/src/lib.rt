@@ -1,6 +1,6 @@
 // Records of the graph, written into the room: hyperedges, and what a list of transitions makes of them.
 ghost use mathlib.Core.Path.{_≡_};
-ghost use Prim.Native.Nat.{_+_, _≤_};
+ghost use Prim.Native.Nat.{_+_, _*_, _≤_};
 ghost use mathlib.Core.List.{_++_, _∷_, []};
 ghost use lib.ListN.{length};
 ghost use Rattle.lists.specs.Making.{keep};
@@ -12,7 +12,7 @@ ghost use Rattle.reduction.specs.Built as built;
 ghost use Rattle.transitions.specs.Held.{transitionsFrom, Reads};
 ghost use Rattle.transitions.specs.Looked.{leafEdges};
 ghost use Rattle.records.specs.Bytes.{singleWidth, pairWidth, hypersBytes, nearBytes, nearWidth, nearbyBytes, stepBytes, stepsBytes, nextEdges};
-ghost use Rattle.transitions.specs.Looked.{isNear};
+ghost use Rattle.transitions.specs.Looked.{lowest, highest, isNear};
 use formula::Action;
 use formula::Quantifier;
 use value::Bound;
@@ -81,8 +81,9 @@ fn near_width(q: Quantifier) -> usize
     }
 }
 
-// What EX or AX writes for each of these transitions that it looks at, near of them; a successor's node stands shift further on. That of
-// every transition is written where the next one belongs, and stays there if it is looked at: no jump waits for a weight.
+// What EX or AX writes for each of these transitions that it looks at, and how many those are; a successor's node stands shift further on.
+// That of every transition up to the last such one is written where the next one belongs, and stays there if it is looked at: no jump
+// waits for a weight.
 fn put_nearby(
     room: &mut [u8],
     at: usize,
@@ -92,32 +93,72 @@ fn put_nearby(
     v: u32,
     first: u32,
     many: u32,
-    near: u64,
+    low: u32,
+    high: u32,
+    most: u32,
+    shift: u32,
+) -> u64
+    requires { ⌜ Reads (now m) n first many shift ⌝ }
+    requires { ⌜ at + length (nearbyBytes q v low high most shift (transitionsFrom (now m) n first many)) ≤ length (now room) ⌝ }
+    ensures { λ r. ⌜ r ≡ length (keep (isNear low high most) (transitionsFrom (now (m .entry)) n first many)) ⌝ }
+    ensures { λ r. ⌜ Laid (now (room .entry)) at (nearbyBytes q v low high most shift (transitionsFrom (now (m .entry)) n first many)) (now (room .exit))
+        (at + r * nearWidth q) ⌝ }
+{
+    let width = near_width(q);
+    let mut near: u64 = 0;
+    let mut p = transitions::transition_at(n, first);
+    let mut i = transitions::near_end(m, n, first, many, low, high, most);
+    while 0 < i {
+        let here = transitions::is_near(m, p, low, high, most);
+        let to = wire::number_at(m, p + model::TO_AT, Width::Two);
+        let next = at + (near as usize) * width;
+        p += model::TRANSITION;
+        i -= 1;
+        put_near(room, next, q, v, to + shift);
+        if here {
+            near += 1;
+        }
+    }
+    near
+}
+
+// The same, by the action: each kind has a call of its own, as in `near_count`.
+fn put_looked(
+    room: &mut [u8],
+    at: usize,
+    m: &[u8],
+    n: u32,
+    q: Quantifier,
+    v: u32,
+    first: u32,
+    many: u32,
     action: Action,
     most: u32,
     shift: u32,
-) -> usize
+) -> u64
     requires { ⌜ Reads (now m) n first many shift ⌝ }
-    requires { ⌜ near ≡ length (keep (isNear action most) (transitionsFrom (now m) n first many)) ⌝ }
-    requires { ⌜ at + length (nearbyBytes q action v most shift (transitionsFrom (now m) n first many)) ≤ length (now room) ⌝ }
-    ensures { λ r. ⌜ Laid (now (room .entry)) at (nearbyBytes q action v most shift (transitionsFrom (now (m .entry)) n first many)) (now (room .exit)) r ⌝ }
+    requires { ⌜ at + length (nearbyBytes q v (lowest action) (highest action) most shift (transitionsFrom (now m) n first many)) ≤ length (now room) ⌝ }
+    ensures { λ r. ⌜ r ≡ length (keep (isNear (lowest action) (highest action) most) (transitionsFrom (now (m .entry)) n first many)) ⌝ }
+    ensures { λ r. ⌜ Laid (now (room .entry)) at (nearbyBytes q v (lowest action) (highest action) most shift (transitionsFrom (now (m .entry)) n first many))
+        (now (room .exit)) (at + r * nearWidth q) ⌝ }
 {
-    let width = near_width(q);
-    let end = at + (near as usize) * width;
-    let mut next = at;
-    let mut p = transitions::transition_at(n, first);
-    let mut i = many;
-    while next < end {
-        let here = transitions::is_near(m, p, action, most);
-        let to = wire::number_at(m, p + model::TO_AT, Width::Two);
-        p += model::TRANSITION;
-        i -= 1;
-        let past = put_near(room, next, q, v, to + shift);
-        if here {
-            next = past;
-        }
+    match action {
+        Action::Any => put_nearby(
+            room,
+            at,
+            m,
+            n,
+            q,
+            v,
+            first,
+            many,
+            0,
+            transitions::MOST_ACTION,
+            most,
+            shift,
+        ),
+        Action::Only(k) => { put_nearby(room, at, m, n, q, v, first, many, k, k, most, shift) }
     }
-    next
 }
 
 // What an until's helper writes for a transition: a hyperedge with left and the successor's helper, or that helper as a target.
@@ -180,7 +221,7 @@ pub fn put_leaf(room: &mut [u8], at: usize, v: u32, one: bool) -> usize
     at
 }
 
-// EX has a hyperedge for each transition that it looks at, AX one with all.
+// EX has a hyperedge for each transition that it looks at, AX one with all, whose head is written behind its targets, when their number is known.
 pub fn put_next(
     room: &mut [u8],
     at: usize,
@@ -199,39 +240,17 @@ pub fn put_next(
     ensures { λ r. ⌜ Laid (now (room .entry)) at (hypersBytes v (nextEdges q (transitionsFrom (now (m .entry)) n first many) action bound shift))
         (now (room .exit)) r ⌝ }
 {
-    let near = transitions::near_count(m, n, first, many, action, bound);
     let most = bound.code();
     match q {
-        Quantifier::Some => put_nearby(
-            room,
-            at,
-            m,
-            n,
-            q,
-            v,
-            first,
-            many,
-            near,
-            action,
-            most,
-            shift,
-        ),
+        Quantifier::Some => {
+            let near = put_looked(room, at, m, n, q, v, first, many, action, most, shift);
+            at + (near as usize) * SINGLE
+        }
         Quantifier::Every => {
-            let targets = put_head(room, at, v, near as u32);
-            put_nearby(
-                room,
-                targets,
-                m,
-                n,
-                q,
-                v,
-                first,
-                many,
-                near,
-                action,
-                most,
-                shift,
-            )
+            let targets = at + graph::HYPER;
+            let near = put_looked(room, targets, m, n, q, v, first, many, action, most, shift);
+            put_head(room, at, v, near as u32);
+            targets + (near as usize) * graph::TARGET
         }
     }
 }

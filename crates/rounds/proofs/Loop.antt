@@ -70,9 +70,13 @@ from-here a = record {
   past = refl;
 }
 
-pub filled-past : (g : Graph) (m : ℕ) (b₀ b : List ℕ) → drop (g .nodes + g .nodes) b ≡ drop (g .nodes + g .nodes) b₀ → filled g m b ≡ filled g m b₀
+filled-past : (g : Graph) (m : ℕ) (b₀ b : List ℕ) → drop (g .nodes + g .nodes) b ≡ drop (g .nodes + g .nodes) b₀ → filled g m b ≡ filled g m b₀
 unfolding filled
 filled-past g m b₀ b e = ap (λ (l : List ℕ). storedValues (g .nodes) (rounds g m) ++ storedValues (g .nodes) (rounds g (suc m)) ++ l) e
+
+-- so what is filled from a turn on is filled from the start
+pub filled-on : {g : Graph} {budget i : ℕ} {b₀ b : List ℕ} → AtRound g budget i b₀ b → (m : ℕ) {b′ : List ℕ} → b′ ≡ filled g m b → b′ ≡ filled g m b₀
+filled-on {g} {b₀ = b₀} {b} w m e = e ∙ filled-past g m b₀ b (w .past)
 
 module _ (g : Graph) (closed : Closed g) (storable : Storable g) where
   -- a stored value of a round means that value

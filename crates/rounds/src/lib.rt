@@ -1,12 +1,13 @@
 // The rounds on a graph message, in a lent room of values.
 ghost use mathlib.Core.Path.{_≡_};
-ghost use Prim.Native.Nat.{ℕ, _+_, _-_, _<_, _≤_, min, max};
+ghost use Prim.Native.Nat.{ℕ, _+_, _-_, _<_, _≤_};
 ghost use lib.ListN.{length};
 ghost use Rattle.wire.specs.Bytes.{number};
 ghost use Rattle.wire.specs.Layout.{end, Sound};
 ghost use Rattle.graph.specs.Format.{graphHeader};
 ghost use Rattle.graph.specs.Layouts.{hyperLayout, coverLayout, decoded};
 ghost use Rattle.graph.specs.Ready.{Climbs, Ready};
+ghost use Rattle.links.specs.Links.{Fits};
 ghost use Rattle.rounds.specs.Turns.{AtRound};
 ghost use Rattle.rounds.specs.Outcome.{outcomeNumber, outcomeOffset, outcomeCount, ended, filled, readRounds, outcomeOf, roundsRoom};
 ghost use Rattle.rounds.specs.Promise.{Promise};
@@ -116,24 +117,6 @@ fn covers_to(s: &[u8], n: usize, c: u32, middle: usize, a: u32, z: u32) -> usize
     last + 1
 }
 
-fn nearer(a: usize, b: usize) -> usize
-    ensures { λ r. ⌜ r ≡ min a b ⌝ }
-{
-    if a < b {
-        return a;
-    }
-    b
-}
-
-fn farther(a: usize, b: usize) -> usize
-    ensures { λ r. ⌜ r ≡ max a b ⌝ }
-{
-    if a < b {
-        return b;
-    }
-    a
-}
-
 fn above(a: u32, b: u32) -> u32
     ensures { λ r. ⌜ r ≡ a - b ⌝ }
 {
@@ -186,9 +169,62 @@ fn run_on(
         let to = hypers_to(s, n, h, m.first, m.last, past);
         let covers_lo = covers_from(s, n, c, middle, m.low, m.high);
         let covers_hi = covers_to(s, n, c, middle, m.low, m.high);
-        lo = nearer(from, covers_lo);
-        hi = farther(to, covers_hi);
+        lo = links::nearer(from, covers_lo);
+        hi = links::farther(to, covers_hi);
         i += 1;
+    }
+}
+
+// The same from rounds 1 and 2 on, for a graph that is small enough: a round takes in the records of the nodes that changed, and no others.
+fn run_linked(
+    s: &[u8],
+    n: usize,
+    h: u32,
+    c: u32,
+    middle: usize,
+    budget: u32,
+    room: &mut [u64],
+) -> Outcome
+    requires { ⌜ Ready (now s) n h c ⌝ }
+    requires { ⌜ middle ≡ end (hyperLayout (now s) n) h graphHeader ⌝ }
+    requires { ⌜ Fits n h c middle ⌝ }
+    requires { ⌜ n + n ≤ length (now room) ⌝ }
+    requires { ⌜ AtRound (decoded (now s) n h c) budget 1 (now room) (now room) ⌝ }
+    ensures { λ r. ⌜ r ≡ ended (decoded (now (s .entry)) n h c) budget ⌝ }
+    ensures { λ r. ⌜ now (room .exit) ≡ filled (decoded (now (s .entry)) n h c) (outcomeCount r) (now (room .entry)) ⌝ }
+{
+    let mut heads = [0u16; 4096];
+    let mut links = [0u16; 4096];
+    let mut spots = [0u16; 4096];
+    let mut changed = [0u16; 4096];
+    links::link_all(s, n, h, c, middle, &mut heads, &mut links, &mut spots);
+    let mut round: u32 = 1;
+    let mut lo: usize = 0;
+    let mut hi = n;
+    loop {
+        if halves::same(n, lo, hi, room) {
+            break Outcome::Settled(round);
+        }
+        if round == budget {
+            break Outcome::Spent(round);
+        }
+        let many = links::list_changed(n, lo, hi, &mut changed, room);
+        let t = links::take_changed(
+            s,
+            n,
+            h,
+            c,
+            middle,
+            many,
+            &changed,
+            &heads,
+            &links,
+            &spots,
+            room,
+        );
+        lo = t.lo;
+        hi = t.hi;
+        round += 1;
     }
 }
 
@@ -212,6 +248,9 @@ pub fn run(s: &[u8], n: usize, h: u32, c: u32, budget: u32, room: &mut [u64]) ->
     scans::next_round(s, n, h, graph::HEADER, c, middle, 0, c, room);
     if halves::same(n, 0, n, room) {
         return Outcome::Settled(1);
+    }
+    if links::fit(n, h, c, middle) {
+        return run_linked(s, n, h, c, middle, budget, room);
     }
     run_on(s, n, h, c, middle, budget, room)
 }

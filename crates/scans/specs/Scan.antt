@@ -18,11 +18,14 @@ pub data Sides (n from to : ℕ) : Type 0 where
   forth : from ≡ 0 → to ≡ n → Sides n from to
   back : from ≡ n → to ≡ 0 → Sides n from to
 
+-- the room with the next number of the source of the record at a position lowered to a number
+abbrev pub lowered : List ℕ → (to at k : ℕ) → List ℕ → List ℕ
+lowered s to at k b = let j = to + number 2 s at in set b j (min (getD b j 0) k)
+
 -- the room with the hyperedge at a position taken into the n numbers of the next round
 abbrev pub hyperIn : List ℕ → (n from to at : ℕ) → List ℕ → List ℕ
 hyperIn s n from to at b =
-    let j = to + number 2 s at in
-    set b j (min (getD b j 0) (stored (worst (held (half n from b)) (items (targetLayout s n) (number 2 s (at + targetCountAt)) (at + hyperWidth)))))
+    lowered s to at (stored (worst (held (half n from b)) (items (targetLayout s n) (number 2 s (at + targetCountAt)) (at + hyperWidth)))) b
 
 -- b is b₀ but for the n numbers of the next round; what is left to do to each of those makes it what it is to be
 pub record Going (n from to : ℕ) (b₀ b : List ℕ) (left : ℕ → ℕ → ℕ) (all : ℕ → ℕ) : Type 0 where

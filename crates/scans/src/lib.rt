@@ -12,7 +12,7 @@ ghost use Rattle.graph.specs.Format.{graphHeader, targetCountAt, nodeAt, coverW
 ghost use Rattle.graph.specs.Layouts.{targetLayout, hyperLayout, coverLayout, TargetOk, HyperOk};
 ghost use Rattle.halves.specs.Held.{held};
 ghost use Rattle.halves.specs.Room.{half};
-ghost use Rattle.scans.specs.Scan.{Sides, hyperIn, Done, partOf};
+ghost use Rattle.scans.specs.Scan.{Sides, lowered, hyperIn, Done, partOf};
 use value::Bound;
 use value::Value;
 use wire::Width;
@@ -54,21 +54,88 @@ fn worst(s: &[u8], n: usize, x: &[u64], k: u32, at: usize) -> Value
     most
 }
 
+// From so many targets on a hyperedge has a loop of its own.
+const LONG: u32 = 8;
+
+// How far weight plus value of the target at a position stays below infinity; 0 where it is infinite.
+fn below_infinite(s: &[u8], n: usize, x: &[u64], at: usize) -> u64
+    requires { ⌜ TargetOk (now s) n at ⌝ }
+    requires { ⌜ n ≤ length (now x) ⌝ }
+    ensures { λ r. ⌜ r ≡ infinite - stored (plus (number 4 (now (s .entry)) at) (held (now (x .entry)) (number 2 (now (s .entry)) (at + nodeAt)))) ⌝ }
+{
+    let weight = wire::number_at(s, at, Width::Four) as u64;
+    let node = wire::number_at(s, at + graph::NODE_AT, Width::Two) as usize;
+    let value = x[node];
+    let below = Value::INFINITE.0 - value;
+    if below <= weight {
+        return 0;
+    }
+    below - weight
+}
+
+// The same as `worst`, for many targets. What is kept is how far the greatest stays below infinity, the least of those of the targets: a
+// processor finds a least in fewer steps than a greatest.
+fn worst_of_many(s: &[u8], n: usize, x: &[u64], k: u32, at: usize) -> Value
+    requires { ⌜ Sound (targetLayout (now s) n) k at ⌝ }
+    requires { ⌜ n ≤ length (now x) ⌝ }
+    ensures { λ r. ⌜ r .0 ≡ stored (rules.worst (held (now (x .entry))) (items (targetLayout (now (s .entry)) n) k at)) ⌝ }
+{
+    let mut least = Value::INFINITE.0;
+    let mut i = k;
+    let mut p = at;
+    while 0 < i {
+        let below = below_infinite(s, n, x, p);
+        if below == 0 {
+            return Value::INFINITE;
+        }
+        p += graph::TARGET;
+        i -= 1;
+        if below < least {
+            least = below;
+        }
+    }
+    let most = Value::INFINITE.0 - least;
+    Value(most)
+}
+
+// Lowers the next number of the source of the hyperedge at a position to a value, where that is less.
+fn lower(s: &[u8], n: usize, to: usize, at: usize, value: Value, room: &mut [u64])
+    requires { ⌜ HyperOk (now s) n at ⌝ }
+    requires { ⌜ to ≤ n ⌝ }
+    requires { ⌜ n + n ≤ length (now room) ⌝ }
+    ensures { λ _. ⌜ now (room .exit) ≡ lowered (now (s .entry)) to at (value .0) (now (room .entry)) ⌝ }
+{
+    let source = wire::number_at(s, at, Width::Two) as usize;
+    let j = to + source;
+    let before = room[j];
+    let least = Value(before).least(value);
+    room[j] = least.0;
+}
+
 // Takes a hyperedge of k targets at a position into the n values of the next round.
-fn take_hyper(s: &[u8], n: usize, from: usize, to: usize, k: u32, at: usize, room: &mut [u64])
+pub fn take_hyper(s: &[u8], n: usize, from: usize, to: usize, k: u32, at: usize, room: &mut [u64])
     requires { ⌜ HyperOk (now s) n at ⌝ }
     requires { ⌜ k ≡ number 2 (now s) (at + targetCountAt) ⌝ }
     requires { ⌜ Sides n from to ⌝ }
     requires { ⌜ n + n ≤ length (now room) ⌝ }
     ensures { λ _. ⌜ now (room .exit) ≡ hyperIn (now (s .entry)) n from to at (now (room .entry)) ⌝ }
 {
-    let source = wire::number_at(s, at, Width::Two) as usize;
     let stop = from + n;
     let value = worst(s, n, &room[from..stop], k, at + graph::HYPER);
-    let j = to + source;
-    let before = room[j];
-    let least = Value(before).least(value);
-    room[j] = least.0;
+    lower(s, n, to, at, value, room);
+}
+
+// The same, where there are many.
+fn take_long(s: &[u8], n: usize, from: usize, to: usize, k: u32, at: usize, room: &mut [u64])
+    requires { ⌜ HyperOk (now s) n at ⌝ }
+    requires { ⌜ k ≡ number 2 (now s) (at + targetCountAt) ⌝ }
+    requires { ⌜ Sides n from to ⌝ }
+    requires { ⌜ n + n ≤ length (now room) ⌝ }
+    ensures { λ _. ⌜ now (room .exit) ≡ hyperIn (now (s .entry)) n from to at (now (room .entry)) ⌝ }
+{
+    let stop = from + n;
+    let given = worst_of_many(s, n, &room[from..stop], k, at + graph::HYPER);
+    lower(s, n, to, at, given, room);
 }
 
 // Takes k hyperedges at a position into the n values of the next round, and gives the position past them.
@@ -101,6 +168,9 @@ fn take_hypers(
         if count == last {
             take_hyper(s, n, from, to, last, p, room);
             p += stride;
+        } else if LONG <= count {
+            take_long(s, n, from, to, count, p, room);
+            p += graph::HYPER + (count as usize) * graph::TARGET;
         } else {
             take_hyper(s, n, from, to, count, p, room);
             last = count;
@@ -112,7 +182,7 @@ fn take_hypers(
 }
 
 // Takes k cover edges at a position into the n values of the next round.
-fn take_covers(s: &[u8], n: usize, from: usize, to: usize, k: u32, at: usize, room: &mut [u64])
+pub fn take_covers(s: &[u8], n: usize, from: usize, to: usize, k: u32, at: usize, room: &mut [u64])
     requires { ⌜ Sound (coverLayout (now s) n) k at ⌝ }
     requires { ⌜ Sides n from to ⌝ }
     requires { ⌜ n + n ≤ length (now room) ⌝ }

@@ -6,11 +6,14 @@ ghost use Rattle.lists.specs.Making.{keep};
 ghost use Rattle.model.specs.Format.{transitionWidth, transitionAt};
 ghost use Rattle.model.specs.Model as model;
 ghost use Rattle.reduction.specs.Built.{looksAt};
-ghost use Rattle.transitions.specs.Looked.{isNear};
+ghost use Rattle.transitions.specs.Looked.{isNear, UpToLast};
 ghost use Rattle.transitions.specs.Held.{transitionLayout, transitionsFrom, heldModel, HoldsModel, Starts, RiseFrom, leading};
 use formula::Action;
 use value::Bound;
 use wire::Width;
+
+// The greatest action of a transition.
+pub const MOST_ACTION: u32 = 65535;
 
 // Whether bit i of a label is set.
 fn bit(label: u32, i: u32) -> bool
@@ -92,29 +95,32 @@ pub fn starts(m: &[u8], n: u32, p: u32, t: u32) -> [u32; 257]
     table
 }
 
-// Whether EX or AX looks at the transition at a position: its action is allowed, and its weight is at most this.
-pub fn is_near(m: &[u8], at: usize, action: Action, most: u32) -> bool
+// Whether EX or AX looks at the transition at a position: its action is in a range, and its weight is at most this.
+pub fn is_near(m: &[u8], at: usize, low: u32, high: u32, most: u32) -> bool
     requires { ⌜ at + transitionWidth ≤ length (now m) ⌝ }
-    ensures { λ r. ⌜ r ≡ isNear action most (transitionLayout (now (m .entry)) .item at) ⌝ }
+    ensures { λ r. ⌜ r ≡ isNear low high most (transitionLayout (now (m .entry)) .item at) ⌝ }
 {
     let own = wire::number_at(m, at + model::ACTION_AT, Width::Two);
     let weight = wire::number_at(m, at + model::WEIGHT_AT, Width::Four);
-    if action.allows(own) {
-        return weight <= most;
+    if own < low {
+        return false;
     }
-    false
+    if high < own {
+        return false;
+    }
+    weight <= most
 }
 
 // How many of these transitions it looks at. A count of 32 bits would have the compiler gather the weights byte by byte.
-fn count_near(m: &[u8], n: u32, first: u32, many: u32, action: Action, most: u32) -> u64
+fn count_near(m: &[u8], n: u32, first: u32, many: u32, low: u32, high: u32, most: u32) -> u64
     requires { ⌜ transitionAt n (first + many) ≤ length (now m) ⌝ }
-    ensures { λ r. ⌜ r ≡ length (keep (isNear action most) (transitionsFrom (now (m .entry)) n first many)) ⌝ }
+    ensures { λ r. ⌜ r ≡ length (keep (isNear low high most) (transitionsFrom (now (m .entry)) n first many)) ⌝ }
 {
     let mut at = transition_at(n, first);
     let mut i = many;
     let mut near: u64 = 0;
     while 0 < i {
-        let here = is_near(m, at, action, most);
+        let here = is_near(m, at, low, high, most);
         at += model::TRANSITION;
         i -= 1;
         if here {
@@ -124,15 +130,37 @@ fn count_near(m: &[u8], n: u32, first: u32, many: u32, action: Action, most: u32
     near
 }
 
-// The same, by the bound; with no action and no bound it is all of them.
+// The same, by the action and the bound; with neither it is all of them. Each kind of action has a call of its own, so that the compiler
+// leaves the test of the action out where there is none.
 pub fn near_count(m: &[u8], n: u32, first: u32, many: u32, action: Action, bound: Bound) -> u64
     requires { ⌜ transitionAt n (first + many) ≤ length (now m) ⌝ }
     ensures { λ r. ⌜ r ≡ length (keep (looksAt action bound) (transitionsFrom (now (m .entry)) n first many)) ⌝ }
 {
-    if let Action::Any = action {
-        if let Bound::Unbounded = bound {
-            return many as u64;
+    let most = bound.code();
+    match action {
+        Action::Any => {
+            if let Bound::Unbounded = bound {
+                return many as u64;
+            }
+            count_near(m, n, first, many, 0, MOST_ACTION, most)
         }
+        Action::Only(k) => count_near(m, n, first, many, k, k, most),
     }
-    count_near(m, n, first, many, action, bound.code())
+}
+
+// How many of these transitions there are up to the last that it looks at.
+pub fn near_end(m: &[u8], n: u32, first: u32, many: u32, low: u32, high: u32, most: u32) -> u32
+    requires { ⌜ transitionAt n (first + many) ≤ length (now m) ⌝ }
+    ensures { λ r. ⌜ UpToLast (now (m .entry)) (isNear low high most) many (transitionAt n first) r ⌝ }
+{
+    let mut at = transition_at(n, first) + (many as usize) * model::TRANSITION;
+    let mut i = many;
+    while 0 < i {
+        at -= model::TRANSITION;
+        if is_near(m, at, low, high, most) {
+            return i;
+        }
+        i -= 1;
+    }
+    0
 }

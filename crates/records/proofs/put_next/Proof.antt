@@ -1,4 +1,4 @@
--- `records::put_next` meets its contract: a hyperedge for each transition, or a head with all their targets behind it.
+-- `records::put_next` meets its contract: a hyperedge for each transition, or all their targets, and before them a head.
 use Prim.Native.Nat.{ℕ, _+_, _*_, _≤_}
 use mathlib.Core.List.{List, _++_}
 use mathlib.Core.Path.{_≡_, refl, sym, ap, subst, _∙_}
@@ -10,23 +10,22 @@ use Rattle.lists.specs.Making.{keep}
 use Rattle.wire.specs.Bytes.{bytes, Bytes}
 use Rattle.wire.specs.Laid.{Laid}
 use Rattle.wire.specs.Write.{writeAll}
-use Rattle.wire.proofs.Laid.{fits, said}
+use Rattle.wire.proofs.Laid.{said, same-length as as-long}
 use Rattle.rules.specs.Graph.{Target}
+use Rattle.graph.specs.Format.{hyperWidth}
 use Rattle.graph.specs.Write.{writeTarget, writeHyper}
 use Rattle.model.specs.Format.{transitionAt}
 use Rattle.model.specs.Model.{Transition}
+use Rattle.formula.specs.declared.Quantifier.{Quantifier}
 use Rattle.reduction.specs.Built.{hyper, looksAt}
 use Rattle.transitions.specs.Held.{transitionLayout, transitionsFrom}
-use Rattle.records.specs.Bytes.{hypersBytes, someNext, everyNext, nearbyBytes}
-use Rattle.transitions.specs.Looked.{isNear}
+use Rattle.records.specs.Bytes.{hypersBytes, someNext, everyNext, nearWidth, nearbyBytes}
+use Rattle.transitions.specs.Looked.{lowest, highest, isNear}
 use Rattle.transitions.proofs.Counting.{passing-le, coded-keep}
-use Rattle.records.proofs.Edges.{head-length, hypers-one, single-laid, hyper-laid, every-count}
+use Rattle.records.proofs.Edges.{head-length, hypers-one, single-laid, head-laid, every-count}
 use Rattle.records.proofs.Nearby.{some-nearby, every-nearby}
 use Rattle.records.proofs.put_next.Statement.{statement}
 use Rattle.records.proofs.put_next.Tie as tie
-
-near-count-requires : tie.Need-near-count-requires
-near-count-requires c κs = search needs
 
 code-requires : tie.Need-code-requires
 code-requires c κs = search needs
@@ -38,112 +37,146 @@ own s = let a = s .args in transitionsFrom (now (a .m)) (a .n) (a .first) (a .ma
 abbrev targets : tie.Start → List Target
 targets s = everyNext (own s) (s .args .action) (s .args .bound) (s .args .shift)
 
--- those that are looked at by the bound are those by the number that says it
+-- those that are looked at by the action and the bound are those by the numbers that say them
 abbrev start : tie.After-code → tie.Start
-start c = c .before .before .before .before
+start c = c .before .before .before
 
-bytes-are : (c : tie.After-code) → Bytes (now (start c .args .m))
-bytes-are c i = omega (arith, c .before .before .shared-slice-known .given i)
-
-kept : (c : tie.After-code) → let a = start c .args in keep (looksAt (a .action) (a .bound)) (own (start c)) ≡ keep (isNear (a .action) (c .code .result)) (own (start c))
+kept : (c : tie.After-code) → let a = start c .args in
+    keep (looksAt (a .action) (a .bound)) (own (start c)) ≡ keep (isNear (lowest (a .action)) (highest (a .action)) (c .code .result)) (own (start c))
 kept c =
     let a = start c .args in
-    coded-keep _ (bytes-are c) (a .action) (a .bound) _ _ ∙ ap (λ (most : ℕ). keep (isNear (a .action) most) (own (start c))) (sym (c .code .ensures))
-
-many-are : (c : tie.After-code) → c .before .near-count .result ≡ length (keep (isNear (start c .args .action) (c .code .result)) (own (start c)))
-many-are c = c .before .near-count .ensures ∙ ap length (kept c)
+    coded-keep _ (λ i. omega (arith, c .before .shared-slice-known .given i)) (a .action) (a .bound) _ _
+    ∙ ap (λ (most : ℕ). keep (isNear (lowest (a .action)) (highest (a .action)) most) (own (start c))) (sym (c .code .ensures))
 
 enum-told : tie.Need-enum-told
 enum-told c = search needs
 
 -- what is written for them: the hyperedges of EX
 some-bytes : (c : tie.After-enum-told) → let code = c .before .before in let a = start code .args in
-    hypersBytes (a .v) (someNext (own (start code)) (a .action) (a .bound) (a .shift)) ≡ nearbyBytes (a .q) (a .action) (a .v) (code .code .result) (a .shift) (own (start code))
-some-bytes c = some-nearby _ _ _ _ (start (c .before .before) .args .action) (start (c .before .before) .args .bound) (kept (c .before .before)) (c .enum-told .given .1)
+    hypersBytes (a .v) (someNext (own (start code)) (a .action) (a .bound) (a .shift))
+    ≡ nearbyBytes (a .q) (a .v) (lowest (a .action)) (highest (a .action)) (code .code .result) (a .shift) (own (start code))
+some-bytes c =
+    let a = start (c .before .before) .args in
+    some-nearby _ _ _ _ _ _ (a .action) (a .bound) (kept (c .before .before)) (c .enum-told .given .1)
 
-put-nearby-requires : tie.Need-put-nearby-requires
-put-nearby-requires c κs =
+put-looked-requires : tie.Need-put-looked-requires
+put-looked-requires c κs =
     let told = c .before in
-    let code = told .before .before in
-    let s = c .before .before .before .before .before .before .before in
-    (s .pre .0, (many-are code, subst (λ (w : List ℕ). s .args .at + length w ≤ length (now (s .args .room))) (some-bytes told) (rw (told .enum-told .given .1) at (s .pre .1))))
+    let s = c .before .before .before .before .before .before in
+    (s .pre .0, subst (λ (w : List ℕ). s .args .at + length w ≤ length (now (s .args .room))) (some-bytes told) (rw (told .enum-told .given .1) at (s .pre .1)))
+
+some-laid : (c : tie.After-put-looked) → let told = c .before .before in let s = start (told .before .before) in let a = s .args in
+    Laid (now (a .room)) (a .at) (hypersBytes (a .v) (someNext (own s) (a .action) (a .bound) (a .shift))) (c .put-looked .last .0) (a .at + c .put-looked .result * 10)
+unfolding nearWidth
+some-laid c =
+    let told = c .before .before in
+    let at = start (told .before .before) .args .at in
+    said (c .put-looked .ensures .1) (some-bytes told) refl (ap (λ (q : Quantifier). at + c .put-looked .result * nearWidth q) (sym (told .enum-told .given .1)))
+
+mul-result : tie.Need-mul-result
+mul-result c = let laid = some-laid (c .before .before) in omega (arith, laid .inside, laid .next-is)
+
+add-result : tie.Need-add-result
+add-result c = let laid = some-laid (c .before .before) in omega (arith, laid .inside, laid .next-is)
 
 enum-told-2 : tie.Need-enum-told-2
 enum-told-2 c = search needs
 
 -- or the targets of that of AX
 every-bytes : (c : tie.After-enum-told2) → let code = c .before .before in let a = start code .args in
-    writeAll writeTarget (targets (start code)) ≡ nearbyBytes (a .q) (a .action) (a .v) (code .code .result) (a .shift) (own (start code))
-every-bytes c = every-nearby _ _ _ _ (start (c .before .before) .args .action) (start (c .before .before) .args .bound) (kept (c .before .before)) (c .enum-told2 .given .1)
+    writeAll writeTarget (targets (start code))
+    ≡ nearbyBytes (a .q) (a .v) (lowest (a .action)) (highest (a .action)) (code .code .result) (a .shift) (own (start code))
+every-bytes c =
+    let a = start (c .before .before) .args in
+    every-nearby _ _ _ _ _ _ (a .action) (a .bound) (kept (c .before .before)) (c .enum-told2 .given .1)
 
--- the hyperedge of AX fits
-all-fit : (c : tie.After-enum-told2) → let s = start (c .before .before) in
-    s .args .at + length ((bytes 2 (s .args .v) ++ bytes 2 (length (targets s))) ++ writeAll writeTarget (targets s)) ≤ length (now (s .args .room))
-all-fit c =
-    let s = c .before .before .before .before .before .before in
-    rw (hypers-one (s .args .v) (targets s)) at (rw (c .enum-told2 .given .1) at (s .pre .1))
+-- they fit behind its head
+targets-fit : (c : tie.After-enum-told2) → let s = start (c .before .before) in
+    s .args .at + hyperWidth + length (writeAll writeTarget (targets s)) ≤ length (now (s .args .room))
+targets-fit c =
+    let s = c .before .before .before .before .before in
+    let head = bytes 2 (s .args .v) ++ bytes 2 (length (targets s)) in
+    let all = rw (hypers-one (s .args .v) (targets s)) at (rw (c .enum-told2 .given .1) at (s .pre .1)) in
+    omega (arith, all, head-length (s .args .v) (length (targets s)), length-append head (writeAll writeTarget (targets s)))
+
+add-targets : tie.Need-add-targets
+add-targets c = omega (arith, targets-fit c)
+
+put-looked-requires-2 : tie.Need-put-looked-requires-2
+put-looked-requires-2 c κs =
+    let told = c .before in
+    let s = start (told .before .before) in
+    (s .pre .0, subst (λ (w : List ℕ). s .args .at + hyperWidth + length w ≤ length (now (s .args .room))) (every-bytes told) (targets-fit told))
+
+every-laid : (c : tie.After-put-looked2) → let told = c .before .before in let s = start (told .before .before) in let a = s .args in
+    Laid (now (a .room)) (a .at + hyperWidth) (writeAll writeTarget (targets s)) (c .put-looked2 .last .0) (a .at + hyperWidth + c .put-looked2 .result * 6)
+unfolding nearWidth
+every-laid c =
+    let told = c .before .before in
+    let at = start (told .before .before) .args .at in
+    said (c .put-looked2 .ensures .1) (every-bytes told) refl (ap (λ (q : Quantifier). at + hyperWidth + c .put-looked2 .result * nearWidth q) (sym (told .enum-told2 .given .1)))
+
+-- as many as are looked at
+count : (c : tie.After-put-looked2) → c .put-looked2 .result ≡ length (targets (start (c .before .before .before .before)))
+count c =
+    let code = c .before .before .before .before in
+    let s = start code in
+    c .put-looked2 .ensures .0 ∙ ap length (sym (kept code)) ∙ sym (every-count (own s) (s .args .action) (s .args .bound) (s .args .shift))
 
 cast-put-head : tie.Need-cast-put-head
 cast-put-head c =
-    let code = c .before .before .before in
-    let s = start code in
-    omega (arith, code .before .near-count .ensures, passing-le (transitionLayout (now (s .args .m))) (looksAt (s .args .action) (s .args .bound)) (s .args .many) (transitionAt (s .args .n) (s .args .first)))
+    let put = c .before .before .before in
+    let s = start (put .before .before .before .before) in
+    let a = s .args in
+    let few = passing-le (transitionLayout (now (a .m))) (looksAt (a .action) (a .bound)) (a .many) (transitionAt (a .n) (a .first)) in
+    omega (arith, count put, every-count (own s) (a .action) (a .bound) (a .shift), few)
 
 put-head-requires : tie.Need-put-head-requires
 put-head-requires c κs =
-    let s = start (c .before .before .before) in
-    omega (arith, all-fit (c .before), head-length (s .args .v) (length (targets s)), length-append (bytes 2 (s .args .v) ++ bytes 2 (length (targets s))) (writeAll writeTarget (targets s)))
+    let put = c .before .before .before in
+    omega (arith, targets-fit (put .before .before), as-long (every-laid put))
 
-head-laid : (c : tie.After-put-head) → let s = start (c .before .before .before .before) in
-    Laid (now (s .args .room)) (s .args .at) (bytes 2 (s .args .v) ++ bytes 2 (length (targets s))) (c .put-head .last .0) (c .put-head .result)
-head-laid c =
-    let code = c .before .before .before .before in
-    let s = start code in
-    let count : length (targets s) ≡ code .before .near-count .result = every-count (own s) (s .args .action) (s .args .bound) (s .args .shift) ∙ sym (code .before .near-count .ensures) in
-    said (c .put-head .ensures) (ap (λ (k : ℕ). bytes 2 (s .args .v) ++ bytes 2 k) count) refl refl
+mul-result-2 : tie.Need-mul-result-2
+mul-result-2 c = let laid = every-laid (c .before .before .before .before .before .before) in omega (arith, laid .inside, laid .next-is)
 
-put-nearby-requires-2 : tie.Need-put-nearby-requires-2
-put-nearby-requires-2 c κs =
-    let head = c .before .before .before in
-    let told = head .before .before in
-    let code = told .before .before in
-    let targets-fit = fits (head-laid head) _ (all-fit told) in
-    (start code .pre .0, (many-are code, subst (λ (w : List ℕ). head .put-head .result + length w ≤ length (head .put-head .last .0)) (every-bytes told) targets-fit))
+add-result-2 : tie.Need-add-result-2
+add-result-2 c = let laid = every-laid (c .before .before .before .before .before .before) in omega (arith, laid .inside, laid .next-is)
 
 same-length : tie.Need-same-length
 same-length c = search needs
 
 returns : tie.Need-returns
-returns c =
-    let put = c .before .before in
-    let told = put .before .before in
-    rw (told .enum-told .given .1) (said (put .put-nearby .ensures) (some-bytes told) refl refl)
+returns c = let put = c .before .before in rw (put .before .before .enum-told .given .1) (some-laid put)
 
 same-length-2 : tie.Need-same-length-2
 same-length-2 c = search needs
 
 returns-2 : tie.Need-returns-2
 returns-2 c =
-    let put = c .before .before in
-    let head = put .before .before .before .before in
-    let told = head .before .before in
-    let code = told .before .before in
-    let s = start code in
-    let laid = said (put .put-nearby2 .ensures) (every-bytes told) refl refl in
-    rw (told .enum-told2 .given .1) (single-laid writeHyper (hyper (s .args .v) (targets s)) (hyper-laid (s .args .v) (targets s) (head-laid head) laid))
+    let head = c .before .before in
+    let put = head .before .before .before .before in
+    let told = put .before .before in
+    let s = start (told .before .before) in
+    let v = s .args .v in
+    let own-head = said (head .put-head .ensures) (ap (λ (k : ℕ). bytes 2 v ++ bytes 2 k) (sym (count put))) refl refl in
+    rw (told .enum-told2 .given .1) (single-laid writeHyper (hyper v (targets s)) (head-laid v (targets s) (every-laid put) own-head))
 
 pub put-next-spec : {M : Type 1} → statement M
 put-next-spec =
     tie.close
     (tie.spec
-    near-count-requires
     code-requires
     enum-told
-    put-nearby-requires
+    put-looked-requires
+    mul-result
+    add-result
     enum-told-2
+    add-targets
+    put-looked-requires-2
     cast-put-head
     put-head-requires
-    put-nearby-requires-2
+    mul-result-2
+    add-result-2
     same-length
     returns
     same-length-2

@@ -1,19 +1,18 @@
--- `rounds::run` meets its contract: rounds 0 and 1 stand in the room, then rounds 1 and 2, and `run_on` goes on from there.
-use Prim.Native.Nat.{ℕ, _+_, _*_, _≤_}
+-- `rounds::run` meets its contract: rounds 0 and 1 stand in the room, then rounds 1 and 2, and `run_linked` or `run_on` goes on from there.
+use Prim.Native.Nat.{ℕ, _+_, _≤_}
 use mathlib.Core.List.{List}
-use mathlib.Core.Path.{_≡_, refl, sym, ap, subst, _∙_}
+use mathlib.Core.Path.{sym, subst, _∙_}
 use denote.Ref.{now}
 use native.Mathlib.Omega.{arith}
-use borrow.Author.Needs.{needs}
 use lib.ListN.{length}
-use Rattle.wire.specs.Layout.{Sound, end}
-use Rattle.graph.specs.Layouts.{hyperLayout, coverLayout, decoded}
+use Rattle.wire.specs.Layout.{Sound}
+use Rattle.graph.specs.Layouts.{coverLayout, decoded}
 use Rattle.halves.specs.Room.{Beside}
 use Rattle.scans.specs.Scan.{partOf}
 use Rattle.rounds.specs.Turns.{AtRound}
 use Rattle.scans.proofs.Infinite.{covers-idle, stays-infinite}
 use Rattle.scans.proofs.Next.{round-done}
-use Rattle.rounds.proofs.Loop.{begins, from-here, holds-filled, filled-past, ends-settled, ends-spent, goes-on, whole-part}
+use Rattle.rounds.proofs.Loop.{begins, from-here, holds-filled, filled-on, ends-settled, ends-spent, goes-on, whole-part}
 use Rattle.rounds.proofs.run.Statement.{statement}
 use Rattle.rounds.proofs.run.Tie as tie
 
@@ -23,9 +22,6 @@ after-first-round c = c .before .before .before .before
 
 abbrev after-next-round : tie.After-same2 → tie.After-next-round
 after-next-round c = c .before .before .before .before
-
-abbrev after-next-round-of-slice-known6 : tie.After-slice-known6 → tie.After-next-round
-after-next-round-of-slice-known6 c = after-next-round (c .before .before .before .before .before)
 
 -- places, from the last to the first: the second round, the budget that is not spent, the first round, the cleared room, the call
 abbrev raised : tie.After-same-arg2 → tie.After-raise
@@ -139,20 +135,39 @@ returns-3 c =
     let a = start (cleared (first (unspent (w .before .before .before .before)))) in
     (ends-settled _ (a .pre .0 .closed) (a .pre .0 .storable) (again w) (c .before .same2 .ensures .0 (c .if3 .taken)), holds-filled (a .pre .1) (again w))
 
-run-on-requires : tie.Need-run-on-requires
-run-on-requires c κs =
-    let w = after-next-round (c .before .before) in
+fit-requires : tie.Need-fit-requires
+fit-requires c κs = tt
+
+run-linked-requires : tie.Need-run-linked-requires
+run-linked-requires c κs =
+    let fit = c .before .before in
+    let w = after-next-round (fit .before .before) in
     let f = first (unspent (w .before .before .before .before)) in
-    (start (cleared f) .pre .0, (f .first-round .ensures .0, (longer w, from-here (again w))))
+    (start (cleared f) .pre .0, (f .first-round .ensures .0, (fit .fit .ensures (c .before .if4 .taken), (longer w, from-here (again w)))))
 
 same-length-4 : tie.Need-same-length-4
-same-length-4 c = search needs
+same-length-4 c = c .before .before .run-linked .kept .1 .1 .1 .1 .1 .1 .0 ∙ again (after-next-round (c .before .before .before .before .before .before .before)) .same-length
 
 returns-4 : tie.Need-returns-4
 unfolding decoded
 returns-4 c =
-    let w = after-next-round-of-slice-known6 c in
-    (c .before .before .run-on .ensures .0, c .before .before .run-on .ensures .1 ∙ filled-past _ _ _ _ (again w .past))
+    let w = after-next-round (c .before .before .before .before .before .before .before) in
+    (c .before .before .run-linked .ensures .0, filled-on (again w) _ (c .before .before .run-linked .ensures .1))
+
+run-on-requires : tie.Need-run-on-requires
+run-on-requires c κs =
+    let w = after-next-round (c .before .before .before .before) in
+    let f = first (unspent (w .before .before .before .before)) in
+    (start (cleared f) .pre .0, (f .first-round .ensures .0, (longer w, from-here (again w))))
+
+same-length-5 : tie.Need-same-length-5
+same-length-5 c = c .before .before .run-on .kept .1 .1 .1 .1 .1 .1 .0 ∙ again (after-next-round (c .before .before .before .before .before .before .before)) .same-length
+
+returns-5 : tie.Need-returns-5
+unfolding decoded
+returns-5 c =
+    let w = after-next-round (c .before .before .before .before .before .before .before) in
+    (c .before .before .run-on .ensures .0, filled-on (again w) _ (c .before .before .run-on .ensures .1))
 
 pub run-spec : {M : Type 1} → statement M
 run-spec =
@@ -171,6 +186,10 @@ run-spec =
     same-requires-2
     same-length-3
     returns-3
-    run-on-requires
+    fit-requires
+    run-linked-requires
     same-length-4
-    returns-4)
+    returns-4
+    run-on-requires
+    same-length-5
+    returns-5)

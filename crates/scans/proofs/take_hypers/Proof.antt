@@ -1,4 +1,4 @@
--- `rounds::take_hypers` meets its contract: what is left to do to each next number makes it what it is to be.
+-- `scans::take_hypers` meets its contract: what is left to do to each next number makes it what it is to be.
 use Prim.Native.Nat.{ℕ, _+_, _*_, _≤_}
 use mathlib.Core.Path.{_≡_, refl, sym, ap, _∙_}
 use denote.Ref.{now}
@@ -19,15 +19,18 @@ Inv-loop s n from to k at room₀ i₀ p₀ last₀ stride₀ room i p last stri
 abbrev μ-loop : tie.MeasureT-loop
 μ-loop s n from to k at room₀ i₀ p₀ last₀ stride₀ room i p last stride = i
 
--- the call, from the loop's test, and the loop's test from behind the count and from behind either arm
+-- the call, from the loop's test, and the loop's test from behind the count and from behind each arm
 abbrev start : tie.In-loop Inv-loop μ-loop → tie.Start Inv-loop μ-loop
 start c = c .before .before .before .before
 
 abbrev same : tie.After-slice-known2 Inv-loop μ-loop → tie.After-number-at Inv-loop μ-loop
 same c = c .before .before .before .before .before
 
-abbrev other : tie.After-slice-known3 Inv-loop μ-loop → tie.After-number-at Inv-loop μ-loop
-other c = c .before .before .before .before .before
+abbrev many : tie.After-slice-known3 Inv-loop μ-loop → tie.After-number-at Inv-loop μ-loop
+many c = c .before .before .before .before .before .before
+
+abbrev other : tie.After-slice-known4 Inv-loop μ-loop → tie.After-number-at Inv-loop μ-loop
+other c = c .before .before .before .before .before .before
 
 -- the next hyperedge is sound, and the room is long enough
 here : (c : tie.In-loop Inv-loop μ-loop) → HyperOk (now (start c .args .s)) (start c .args .n) (c .before .loop .p)
@@ -69,10 +72,39 @@ loop-again c =
       l .inv .2,
     )
 
+take-long-requires : tie.Need-take-long-requires Inv-loop μ-loop
+take-long-requires c κs =
+    let t = c .before .before .before .before in
+    (here t, (c .before .before .before .number-at .ensures, (start t .pre .1 .0, long t)))
+
+cast-p : tie.Need-cast-p Inv-loop μ-loop
+cast-p c = search needs
+
+mul-p : tie.Need-mul-p Inv-loop μ-loop
+mul-p c = omega arith
+
+add-p-2 : tie.Need-add-p-2 Inv-loop μ-loop
+add-p-2 c = omega arith
+
+add-p-3 : tie.Need-add-p-3 Inv-loop μ-loop
+add-p-3 c = omega (arith, here (many c .before) .inside)
+
+loop-less-2 : tie.Need-loop-less-2 Inv-loop μ-loop
+loop-less-2 c = omega arith
+
+loop-again-2 : tie.Need-loop-again-2 Inv-loop μ-loop
+loop-again-2 c =
+    let t = many c .before in
+    let l = t .before .loop in (
+      left-turn (l .inv .0) (start t .pre .1 .0) (start t .pre .1 .1) (t .loop-test .taken) (c .before .before .take-long .ensures) (ap (λ (k : ℕ). hyperWidth + k * targetWidth) (many c .number-at .ensures)),
+      λ v. omega (arith, c .slice-known3 .given v),
+      l .inv .2,
+    )
+
 take-hyper-requires-2 : tie.Need-take-hyper-requires-2 Inv-loop μ-loop
 take-hyper-requires-2 c κs =
-    let t = c .before .before .before in
-    (here t, (c .before .before .number-at .ensures, (start t .pre .1 .0, long t)))
+    let t = c .before .before .before .before in
+    (here t, (c .before .before .before .number-at .ensures, (start t .pre .1 .0, long t)))
 
 cast-stride : tie.Need-cast-stride Inv-loop μ-loop
 cast-stride c = search needs
@@ -83,17 +115,17 @@ mul-stride c = omega arith
 add-stride : tie.Need-add-stride Inv-loop μ-loop
 add-stride c = omega arith
 
-add-p-2 : tie.Need-add-p-2 Inv-loop μ-loop
-add-p-2 c = omega (arith, here (other c .before) .inside)
+add-p-4 : tie.Need-add-p-4 Inv-loop μ-loop
+add-p-4 c = omega (arith, here (other c .before) .inside)
 
-loop-less-2 : tie.Need-loop-less-2 Inv-loop μ-loop
-loop-less-2 c = omega arith
+loop-less-3 : tie.Need-loop-less-3 Inv-loop μ-loop
+loop-less-3 c = omega arith
 
-loop-again-2 : tie.Need-loop-again-2 Inv-loop μ-loop
-loop-again-2 c =
+loop-again-3 : tie.Need-loop-again-3 Inv-loop μ-loop
+loop-again-3 c =
     let t = other c .before in (
       left-turn (t .before .loop .inv .0) (start t .pre .1 .0) (start t .pre .1 .1) (t .loop-test .taken) (c .before .before .take-hyper2 .ensures) (ap (λ (k : ℕ). hyperWidth + k * targetWidth) (other c .number-at .ensures)),
-      λ v. omega (arith, c .slice-known3 .given v),
+      λ v. omega (arith, c .slice-known4 .given v),
       refl,
     )
 
@@ -117,12 +149,19 @@ take-hypers-spec =
     add-p
     loop-less
     loop-again
+    take-long-requires
+    cast-p
+    mul-p
+    add-p-2
+    add-p-3
+    loop-less-2
+    loop-again-2
     take-hyper-requires-2
     cast-stride
     mul-stride
     add-stride
-    add-p-2
-    loop-less-2
-    loop-again-2
+    add-p-4
+    loop-less-3
+    loop-again-3
     same-length
     returns)

@@ -14,12 +14,12 @@ use Rattle.transitions.proofs.count_near.Statement.{statement}
 use Rattle.transitions.proofs.count_near.Tie as tie
 
 abbrev Inv-loop : tie.InvT-loop
-Inv-loop m n first many action most at₀ i₀ near₀ at i near =
+Inv-loop m n first many low high most at₀ i₀ near₀ at i near =
     let L = transitionLayout m in
-    (at + i * transitionWidth ≤ length m) × (near + passing L (isNear action most) i at ≡ passing L (isNear action most) many (transitionAt n first))
+    (at + i * transitionWidth ≤ length m) × (near + passing L (isNear low high most) i at ≡ passing L (isNear low high most) many (transitionAt n first))
 
 abbrev μ-loop : tie.MeasureT-loop
-μ-loop m n first many action most at₀ i₀ near₀ at i near = i
+μ-loop m n first many low high most at₀ i₀ near₀ at i near = i
 
 transition-at-requires : tie.Need-transition-at-requires Inv-loop μ-loop
 transition-at-requires c κs = tt
@@ -27,7 +27,7 @@ transition-at-requires c κs = tt
 loop-holds : tie.Need-loop-holds Inv-loop μ-loop
 loop-holds c =
     let a = c .before .before .args in
-    let same = ap (passing (transitionLayout (now (a .m))) (isNear (a .action) (a .most)) (a .many)) (c .transition-at .ensures) in
+    let same = ap (passing (transitionLayout (now (a .m))) (isNear (a .low) (a .high) (a .most)) (a .many)) (c .transition-at .ensures) in
     (omega (arith, c .transition-at .ensures), omega (arith, same))
 
 -- where a turn begins
@@ -35,7 +35,7 @@ abbrev start : tie.In-loop Inv-loop μ-loop → tie.Start Inv-loop μ-loop
 start c = c .before .before .before .before
 
 abbrev test : tie.In-loop Inv-loop μ-loop → Transition → Bool
-test c = let a = start c .args in isNear (a .action) (a .most)
+test c = let a = start c .args in isNear (a .low) (a .high) (a .most)
 
 is-near-requires : tie.Need-is-near-requires Inv-loop μ-loop
 is-near-requires c κs = omega arith
@@ -83,7 +83,7 @@ returns : tie.Need-returns Inv-loop μ-loop
 returns c =
     let l = c .before .loop in
     let a = c .before .before .before .before .args in
-    omega (arith, passing-none (transitionLayout (now (a .m))) (isNear (a .action) (a .most)) (l .i) (l .at) (omega arith))
+    omega (arith, passing-none (transitionLayout (now (a .m))) (isNear (a .low) (a .high) (a .most)) (l .i) (l .at) (omega arith))
 
 pub count-near-spec : {M : Type 1} → statement M
 count-near-spec =

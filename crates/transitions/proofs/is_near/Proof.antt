@@ -1,12 +1,13 @@
--- `transitions::is_near` meets its contract: the action first, then the weight.
+-- `transitions::is_near` meets its contract: the action on both sides, then the weight.
 use Prim.Native.Nat.{ℕ, _+_}
-use mathlib.Core.Path.{_≡_, sym, ap, _∙_}
+use mathlib.Core.Path.{_≡_, refl, ap}
 use denote.Ref.{now}
+use native.Mathlib.Omega.{arith}
 use lib.Dec.{leb}
 use borrow.Author.Needs.{needs}
+use borrow.Author.Tests.{le-leb, lt-leb}
 use Rattle.wire.specs.Bytes.{number}
 use Rattle.model.specs.Format.{actionAt}
-use Rattle.formula.specs.Rows.{allows}
 use Rattle.transitions.proofs.is_near.Statement.{statement}
 use Rattle.transitions.proofs.is_near.Tie as tie
 
@@ -22,21 +23,33 @@ add-number-at-2 c = search needs
 number-at-requires-2 : tie.Need-number-at-requires-2
 number-at-requires-2 c κs = search needs
 
-allows-requires : tie.Need-allows-requires
-allows-requires c κs = search needs
-
--- whether the transition's action is allowed, and its weight small enough
-allowed : (c : tie.After-allows) → let a = c .before .before .before .before .args in c .allows .result ≡ allows (a .action) (number 2 (now (a .m)) (a .at + actionAt))
-allowed c = c .allows .ensures ∙ ap (allows (c .before .before .before .before .args .action)) (c .before .before .number-at .ensures)
+-- the action as it was read
+action : (c : tie.After-number-at2) → let a = c .before .before .before .args in c .before .number-at .result ≡ number 2 (now (a .m)) (a .at + actionAt)
+action c = c .before .number-at .ensures
 
 returns : tie.Need-returns
 returns c =
-    let yes = sym (allowed (c .before)) ∙ c .if1 .taken in
-    let most = c .before .before .before .before .before .args .most in
-    rw yes (ap (λ (w : ℕ). leb w most) (c .before .before .number-at2 .ensures))
+    let a = c .before .before .before .before .args in
+    let own = number 2 (now (a .m)) (a .at + actionAt) in
+    rw (lt-leb (a .low) own (omega (arith, action (c .before), c .if1 .taken))) refl
 
 returns-2 : tie.Need-returns-2
-returns-2 c = let no = sym (allowed (c .before)) ∙ c .if1 .left in rw no
+returns-2 c =
+    let a = c .before .before .before .before .before .args in
+    let own = number 2 (now (a .m)) (a .at + actionAt) in
+    rw (
+      le-leb (a .low) own (omega (arith, action (c .before .before), c .before .if1 .left)),
+      lt-leb own (a .high) (omega (arith, action (c .before .before), c .if2 .taken)),
+    ) refl
+
+returns-3 : tie.Need-returns-3
+returns-3 c =
+    let a = c .before .before .before .before .before .args in
+    let own = number 2 (now (a .m)) (a .at + actionAt) in
+    rw (
+      le-leb (a .low) own (omega (arith, action (c .before .before), c .before .if1 .left)),
+      le-leb own (a .high) (omega (arith, action (c .before .before), c .if2 .left)),
+    ) (ap (λ (w : ℕ). leb w (a .most)) (c .before .before .number-at2 .ensures))
 
 pub is-near-spec : {M : Type 1} → statement M
-is-near-spec = tie.close (tie.spec add-number-at number-at-requires add-number-at-2 number-at-requires-2 allows-requires returns returns-2)
+is-near-spec = tie.close (tie.spec add-number-at number-at-requires add-number-at-2 number-at-requires-2 returns returns-2 returns-3)

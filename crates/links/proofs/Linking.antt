@@ -1,0 +1,227 @@
+-- Linking places: one place more keeps what every chain finds, and its node finds it. Assumes nothing.
+use Prim.Native.Nat.{ℕ, zero, suc, _+_, _-_, _*_, _<_, _≤_}
+use mathlib.Core.List.{List, [], List·Memᴰ·not-nil, List·Memᴰ·cases-cons}
+use mathlib.Core.Logic.{_⊎_, inl, inr}
+use mathlib.Core.Path.{_≡_, sym, ap, subst, _∙_}
+use lib.ListN.{length, getD, set, length-set, replicate, length-replicate, getD-replicate, List·getD-eq-default}
+use lib.Seq.{getD-set-same, getD-set-other}
+use native.Mathlib.Decide.{ℕ-discrete, decLt}
+use native.Mathlib.Omega.{arith}
+use Rattle.lists.specs.Lists.{_∈_}
+use Rattle.wire.specs.Bytes.{number}
+use Rattle.wire.specs.Layout.{items, end}
+use Rattle.wire.proofs.Layouts.{items-more}
+use Rattle.wire.proofs.Parts.{end-add}
+use Rattle.rules.specs.Graph.{Target}
+use Rattle.graph.specs.Format.{graphHeader, hyperWidth, targetWidth}
+use Rattle.graph.specs.Layouts.{targetLayout, hyperLayout}
+use Rattle.links.specs.Links.{Reached, here, further, Finds, RecordAt, hyper, cover, hyperAt, targetsAt, coverAt, targetOf, Linked, Index}
+
+-- a number of a list in which one was set, at any place
+set-at : (P : ℕ → Type 0) (l : List ℕ) (u k v : ℕ) → u < length l → (v ≡ u → P k) → (¬ (v ≡ u) → P (getD l v 0)) → P (getD (set l u k) v 0)
+set-at P l u k v h at-it beside = go (ℕ-discrete v u)
+  where
+    go : Dec (v ≡ u) → P (getD (set l u k) v 0)
+    go (yes e) = rw (e, getD-set-same l u k 0 h) (at-it e)
+    go (no e) = rw (getD-set-other l u v k 0 e) (beside e)
+
+zeros-at : (v : ℕ) → _≡_ {A = ℕ} (getD (replicate 4096 0) v 0) 0
+zeros-at v = go (decLt v 4096)
+  where
+    go : Dec (v < 4096) → _≡_ {A = ℕ} (getD (replicate 4096 0) v 0) 0
+    go (yes l) = getD-replicate {A = ℕ} 4096 v 0 0 l
+    go (no l) = List·getD-eq-default (replicate 4096 0) 0 {n = v} (omega (arith, length-replicate {A = ℕ} 4096 0))
+
+-- a chain stays below its head
+pub reached-below : {links : List ℕ} {q head : ℕ} → ((p : ℕ) → getD links p 0 ≤ p) → Reached links q head → q < head
+reached-below falls (here e) = omega arith
+reached-below falls (further place e r) = let l = reached-below falls r in omega (arith, falls place)
+
+-- nothing is reached from 0, and from place k + 1 that place and what its link reaches
+pub reached-none : {A : Type 0} {links : List ℕ} {q head : ℕ} → head ≡ 0 → Reached links q head → A
+reached-none z (here e) = absurd (omega arith)
+reached-none z (further place e r) = absurd (omega arith)
+
+pub reached-cases : {links : List ℕ} {q head : ℕ} (place : ℕ) → head ≡ place + 1 → Reached links q head → (q ≡ place) ⊎ Reached links q (getD links place 0)
+reached-cases place z (here e) = inl (omega arith)
+reached-cases {links} {q} place z (further other e r) =
+    let same : other ≡ place = omega arith in inr (subst (λ (p : ℕ). Reached links q (getD links p 0)) same r)
+
+-- a link that is set behind a chain leaves it
+reached-set : {links : List ℕ} {q head : ℕ} → ((p : ℕ) → getD links p 0 ≤ p) → (place k : ℕ) → head ≤ place → Reached links q head → Reached (set links place k) q head
+reached-set falls place k l (here e) = here e
+reached-set {links} {q} falls place k l (further other e r) =
+    let apart : ¬ (other ≡ place) = λ z. omega arith in
+    let rest = reached-set falls place k (omega (arith, falls other)) r in
+    further other e (rw (getD-set-other links place other k 0 apart) rest)
+
+-- one place more for node v: its link is the node's head, and it is the node's head
+module _ {s : List ℕ} {n middle h c places : ℕ} {rest : List Target} {heads links spots : List ℕ} (d : Linked s n middle h rest c places heads links spots)
+    (room : places < 4096) (v : ℕ) (named : v < 4096) (at : ℕ) where
+  new-head : getD (set heads v (places + 1)) v 0 ≡ places + 1
+  new-head = getD-set-same heads v (places + 1) 0 (omega (arith, d .heads-long))
+
+  -- what was found still is
+  found-still : {u p : ℕ} → Finds heads links spots u p → Finds (set heads v (places + 1)) (set links places (getD heads v 0)) (set spots places at) u p
+  found-still {u} {p} f =
+      let old : Reached (set links places (getD heads v 0)) (f .place) (getD heads u 0) = reached-set (d .falls) places (getD heads v 0) (d .within u) (f .reached) in
+      let below = reached-below (d .falls) (f .reached) in
+      let apart : ¬ (f .place ≡ places) = λ z. omega (arith, d .within u) in
+      record {
+        place = f .place;
+        reached = go (ℕ-discrete u v) old;
+        stands = getD-set-other spots places (f .place) at 0 apart ∙ f .stands;
+      }
+    where
+      go : Dec (u ≡ v) → Reached (set links places (getD heads v 0)) (f .place) (getD heads u 0) → Reached (set links places (getD heads v 0)) (f .place) (getD (set heads v (places + 1)) u 0)
+      go (yes e) old =
+          let is : getD (set heads v (places + 1)) u 0 ≡ places + 1 = rw e new-head in
+          let link : getD (set links places (getD heads v 0)) places 0 ≡ getD heads u 0 = rw e (getD-set-same links places (getD heads v 0) 0 (omega (arith, d .links-long))) in
+          further places is (rw link old)
+      go (no e) old = rw (getD-set-other heads v u (places + 1) 0 e) old
+
+  -- and so is the new one
+  found-new : Finds (set heads v (places + 1)) (set links places (getD heads v 0)) (set spots places at) v at
+  found-new = record { place = places; reached = here new-head; stands = getD-set-same spots places at 0 (omega (arith, d .spots-long)) }
+
+  within-more : (u : ℕ) → getD (set heads v (places + 1)) u 0 ≤ places + 1
+  within-more u = set-at (λ k. k ≤ places + 1) heads v (places + 1) u (omega (arith, d .heads-long)) (λ e. omega arith) (λ e. omega (arith, d .within u))
+
+  falls-more : (q : ℕ) → getD (set links places (getD heads v 0)) q 0 ≤ q
+  falls-more q = set-at (λ k. k ≤ q) links places (getD heads v 0) q (omega (arith, d .links-long)) (λ e. omega (arith, d .within v)) (λ e. d .falls q)
+
+  records-more : {h′ c′ : ℕ} → h ≤ h′ → c ≤ c′ → RecordAt s n h′ c′ middle at → (q : ℕ) → q < places + 1 → RecordAt s n h′ c′ middle (getD (set spots places at) q 0)
+  records-more {h′} {c′} hs cs new q l = set-at (λ k. RecordAt s n h′ c′ middle k) spots places at q (omega (arith, d .spots-long)) (λ e. new) (λ e. wider (d .records q (omega arith)))
+    where
+      wider : {p : ℕ} → RecordAt s n h c middle p → RecordAt s n h′ c′ middle p
+      wider (hyper j l e) = hyper j (omega arith) e
+      wider (cover j l e) = cover j (omega arith) e
+
+-- nothing is linked
+pub linked-none : (s : List ℕ) (n middle : ℕ) → Linked s n middle 0 [] 0 0 (replicate 4096 0) (replicate 4096 0) (replicate 4096 0)
+linked-none s n middle = record {
+  heads-long = length-replicate {A = ℕ} 4096 0;
+  links-long = length-replicate {A = ℕ} 4096 0;
+  spots-long = length-replicate {A = ℕ} 4096 0;
+  within = λ v. omega (arith, zeros-at v);
+  falls = λ q. omega (arith, zeros-at q);
+  records = λ q l. absurd (omega arith);
+  hypers = λ j t l. absurd (omega arith);
+  covers = λ j l. absurd (omega arith);
+}
+
+-- the targets of one hyperedge more are left to link
+module _ {s : List ℕ} {n middle j places : ℕ} {heads links spots : List ℕ} (d : Linked s n middle j [] 0 places heads links spots) where
+  pub linked-open : (ts : List Target) → targetsAt s n j ≡ ts → Linked s n middle (j + 1) ts 0 places heads links spots
+  linked-open ts e = record {
+    heads-long = d .heads-long;
+    links-long = d .links-long;
+    spots-long = d .spots-long;
+    within = d .within;
+    falls = d .falls;
+    records = λ q l. wider (d .records q l);
+    hypers = λ i t l m. go i t l m (decLt i j);
+    covers = λ i l. absurd (omega arith);
+  }
+    where
+      wider : {p : ℕ} → RecordAt s n j 0 middle p → RecordAt s n (j + 1) 0 middle p
+      wider (hyper i l e) = hyper i (omega arith) e
+      wider (cover i l e) = cover i l e
+
+      go : (i : ℕ) (t : Target) → i < j + 1 → t ∈ targetsAt s n i → Dec (i < j) → Finds heads links spots (t .node) (hyperAt s n i) ⊎ ((i + 1 ≡ j + 1) × (t ∈ ts))
+      go i t l m (yes h) = old (d .hypers i t h m)
+        where
+          old : Finds heads links spots (t .node) (hyperAt s n i) ⊎ ((i + 1 ≡ j) × (t ∈ [])) → Finds heads links spots (t .node) (hyperAt s n i) ⊎ ((i + 1 ≡ j + 1) × (t ∈ ts))
+          old (inl f) = inl f
+          old (inr q) = absurd (List·Memᴰ·not-nil (q .1))
+      go i t l m (no h) = let same : i ≡ j = omega arith in inr (omega arith, rw (ap (targetsAt s n) same ∙ e) at m)
+
+-- none is left
+module _ {s : List ℕ} {n middle h places : ℕ} {heads links spots : List ℕ} (i q : ℕ) (d : Linked s n middle h (items (targetLayout s n) i q) 0 places heads links spots) where
+  pub linked-end : i ≡ 0 → Linked s n middle h [] 0 places heads links spots
+  unfolding items
+  linked-end e = subst (λ (k : ℕ). Linked s n middle h (items (targetLayout s n) k q) 0 places heads links spots) e d
+
+  -- the next of them is linked
+  pub linked-turn : (j : ℕ) → h ≡ j + 1 → 0 < i → places < 4096 → (v : ℕ) → v ≡ targetLayout s n .item q .node → v < 4096 → (at : ℕ) → at ≡ hyperAt s n j
+      → Linked s n middle h (items (targetLayout s n) (i - 1) (q + targetWidth)) 0 (places + 1) (set heads v (places + 1)) (set links places (getD heads v 0)) (set spots places at)
+  linked-turn j last some room v is named at there = record {
+    heads-long = length-set heads v (places + 1) ∙ d .heads-long;
+    links-long = length-set links places (getD heads v 0) ∙ d .links-long;
+    spots-long = length-set spots places at ∙ d .spots-long;
+    within = within-more d room v named at;
+    falls = falls-more d room v named at;
+    records = records-more d room v named at (omega arith) (omega arith) (hyper j (omega arith) there);
+    hypers = λ k t l m. go k t (d .hypers k t l m);
+    covers = λ k l. absurd (omega arith);
+  }
+    where
+      left : List Target
+      left = items (targetLayout s n) (i - 1) (q + targetWidth)
+
+      go : (k : ℕ) (t : Target) → Finds heads links spots (t .node) (hyperAt s n k) ⊎ ((k + 1 ≡ h) × (t ∈ items (targetLayout s n) i q))
+          → Finds (set heads v (places + 1)) (set links places (getD heads v 0)) (set spots places at) (t .node) (hyperAt s n k) ⊎ ((k + 1 ≡ h) × (t ∈ items (targetLayout s n) (i - 1) (q + targetWidth)))
+      go k t (inl f) = inl (found-still d room v named at f)
+      go k t (inr m) = new (List·Memᴰ·cases-cons (subst (λ (ts : List Target). t ∈ ts) (items-more (targetLayout s n) i q some) (m .1)))
+        where
+          new : (t ≡ targetLayout s n .item q) ⊎ (t ∈ items (targetLayout s n) (i - 1) (q + targetWidth))
+              → Finds (set heads v (places + 1)) (set links places (getD heads v 0)) (set spots places at) (t .node) (hyperAt s n k) ⊎ ((k + 1 ≡ h) × (t ∈ items (targetLayout s n) (i - 1) (q + targetWidth)))
+          new (inl e) =
+              let same : k ≡ j = omega (arith, m .0) in
+              let node : t .node ≡ v = ap (λ (u : Target). u .node) e ∙ sym is in
+              let where-at : hyperAt s n k ≡ at = ap (hyperAt s n) same ∙ sym there in
+              inl (rw (node, where-at) (found-new d room v named at))
+          new (inr l) = inr (m .0, l)
+
+-- one cover edge more is linked
+module _ {s : List ℕ} {n middle h j places : ℕ} {heads links spots : List ℕ} (d : Linked s n middle h [] j places heads links spots) where
+  pub linked-cover : places < 4096 → (v : ℕ) → v ≡ targetOf s n middle j → v < 4096 → (at : ℕ) → at ≡ coverAt s n middle j
+      → Linked s n middle h [] (j + 1) (places + 1) (set heads v (places + 1)) (set links places (getD heads v 0)) (set spots places at)
+  linked-cover room v is named at there = record {
+    heads-long = length-set heads v (places + 1) ∙ d .heads-long;
+    links-long = length-set links places (getD heads v 0) ∙ d .links-long;
+    spots-long = length-set spots places at ∙ d .spots-long;
+    within = within-more d room v named at;
+    falls = falls-more d room v named at;
+    records = records-more d room v named at (omega arith) (omega arith) (cover j (omega arith) there);
+    hypers = λ k t l m. old k t (d .hypers k t l m);
+    covers = λ k l. go k (decLt k j) l;
+  }
+    where
+      old : (k : ℕ) (t : Target) → Finds heads links spots (t .node) (hyperAt s n k) ⊎ ((k + 1 ≡ h) × (t ∈ []))
+          → Finds (set heads v (places + 1)) (set links places (getD heads v 0)) (set spots places at) (t .node) (hyperAt s n k) ⊎ ((k + 1 ≡ h) × (t ∈ []))
+      old k t (inl f) = inl (found-still d room v named at f)
+      old k t (inr m) = inr m
+
+      go : (k : ℕ) → Dec (k < j) → k < j + 1 → Finds (set heads v (places + 1)) (set links places (getD heads v 0)) (set spots places at) (targetOf s n middle k) (coverAt s n middle k)
+      go k (yes l) _ = found-still d room v named at (d .covers k l)
+      go k (no l) below =
+          let same : k ≡ j = omega arith in
+          rw (same, sym is, sym there) (found-new d room v named at)
+
+  -- all are linked
+  pub linked-all : places ≤ 4096 → Index s n h j middle heads links spots
+  linked-all few = record {
+    within = λ v. omega (arith, d .within v);
+    falls = d .falls;
+    records = λ v q r. d .records q (omega (arith, reached-below (d .falls) r, d .within v));
+    hypers = λ k t l m. go k t (d .hypers k t l m);
+    covers = d .covers;
+  }
+    where
+      go : (k : ℕ) (t : Target) → Finds heads links spots (t .node) (hyperAt s n k) ⊎ ((k + 1 ≡ h) × (t ∈ [])) → Finds heads links spots (t .node) (hyperAt s n k)
+      go k t (inl f) = f
+      go k t (inr q) = absurd (List·Memᴰ·not-nil (q .1))
+
+-- each hyperedge takes its fixed bytes
+module _ (s : List ℕ) (n : ℕ) where
+  far : (k at : ℕ) → at + k * hyperWidth ≤ end (hyperLayout s n) k at
+  unfolding end
+  far zero at = omega arith
+  far (suc k) at = omega (arith, far k (at + hyperWidth + number 2 s (at + 2) * targetWidth))
+
+  pub hyper-far : (j h : ℕ) → j ≤ h → hyperAt s n j + (h - j) * hyperWidth ≤ hyperAt s n h
+  hyper-far j h l =
+      let whole : j + (h - j) ≡ h = omega arith in
+      let split = ap (λ (k : ℕ). end (hyperLayout s n) k graphHeader) (sym whole) ∙ end-add (hyperLayout s n) j (h - j) graphHeader in
+      omega (arith, split, far (h - j) (hyperAt s n j))

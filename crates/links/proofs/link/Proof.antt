@@ -1,0 +1,142 @@
+-- `links::link` meets its contract: the targets at q are left to link.
+use Prim.Native.Nat.{ℕ, _+_, _<_}
+use mathlib.Core.List.{[]}
+use mathlib.Core.Path.{_≡_, refl, subst}
+use denote.Ref.{now}
+use native.Mathlib.Omega.{arith}
+use borrow.Author.Needs.{needs}
+use Rattle.wire.specs.Layout.{items, end, Sound}
+use Rattle.wire.proofs.Layouts.{sound-more}
+use Rattle.graph.specs.Format.{graphHeader, hyperWidth}
+use Rattle.graph.specs.Layouts.{targetLayout, hyperLayout, TargetOk}
+use Rattle.links.specs.Links.{Linked}
+use Rattle.links.proofs.Linking.{linked-end, linked-turn}
+use Rattle.links.proofs.link.Statement.{statement}
+use Rattle.links.proofs.link.Tie as tie
+
+abbrev Inv-loop : tie.InvT-loop
+Inv-loop s n p k place heads₀ links₀ spots₀ i₀ q₀ at₀ heads links spots i q at =
+    Sound (targetLayout s n) i q × (at + i ≡ place + k)
+    × ((middle j : ℕ) → p ≡ end (hyperLayout s n) j graphHeader
+    → Linked s n middle (j + 1) (items (targetLayout s n) k (p + hyperWidth)) 0 place heads₀ links₀ spots₀
+    → Linked s n middle (j + 1) (items (targetLayout s n) i q) 0 at heads links spots)
+
+abbrev μ-loop : tie.MeasureT-loop
+μ-loop s n p k place heads₀ links₀ spots₀ i₀ q₀ at₀ heads links spots i q at = i
+
+-- the call, from the loop's test
+abbrev start : tie.In-loop Inv-loop μ-loop → tie.Start Inv-loop μ-loop
+start c = c .before .before .before
+
+add-q : tie.Need-add-q Inv-loop μ-loop
+add-q c = omega (arith, c .before .pre .1 .0)
+
+loop-holds : tie.Need-loop-holds Inv-loop μ-loop
+loop-holds c = (c .before .pre .0, omega arith, λ middle j e d. d)
+
+-- the next target is sound, and there is a place for it
+here : (c : tie.In-loop Inv-loop μ-loop) → TargetOk (now (start c .args .s)) (start c .args .n) (c .before .loop .q)
+here c = sound-more _ (c .loop-test .taken) (c .before .loop .inv .0) .0
+
+free : (c : tie.In-loop Inv-loop μ-loop) → c .before .loop .at < 4096
+free c = omega (arith, c .loop-test .taken, c .before .loop .inv .1, start c .pre .1 .1 .2)
+
+named : (c : tie.After-number-at Inv-loop μ-loop) → c .number-at .result < 4096
+named c = omega (arith, c .number-at .ensures, here (c .before) .named, start (c .before) .pre .1 .1 .0)
+
+add-number-at : tie.Need-add-number-at Inv-loop μ-loop
+add-number-at c = omega (arith, here c .inside)
+
+number-at-requires : tie.Need-number-at-requires Inv-loop μ-loop
+number-at-requires c κs = omega (arith, here c .inside)
+
+cast-v : tie.Need-cast-v Inv-loop μ-loop
+cast-v c = search needs
+
+mul-head : tie.Need-mul-head Inv-loop μ-loop
+mul-head c = omega (arith, named c)
+
+element-copy-out-head : tie.Need-element-copy-out-head Inv-loop μ-loop
+element-copy-out-head c = omega (arith, named c)
+
+mul-links : tie.Need-mul-links Inv-loop μ-loop
+mul-links c = omega (arith, free (c .before .before))
+
+element-write-links : tie.Need-element-write-links Inv-loop μ-loop
+element-write-links c = omega (arith, free (c .before .before))
+
+cast-spots : tie.Need-cast-spots Inv-loop μ-loop
+cast-spots c = omega (arith, start (c .before .before) .pre .1 .1 .1)
+
+mul-spots : tie.Need-mul-spots Inv-loop μ-loop
+mul-spots c = omega (arith, free (c .before .before))
+
+element-write-spots : tie.Need-element-write-spots Inv-loop μ-loop
+element-write-spots c = omega (arith, free (c .before .before))
+
+add-at : tie.Need-add-at Inv-loop μ-loop
+add-at c = omega (arith, free (c .before .before))
+
+cast-heads : tie.Need-cast-heads Inv-loop μ-loop
+cast-heads c = omega (arith, free (c .before .before))
+
+mul-heads : tie.Need-mul-heads Inv-loop μ-loop
+mul-heads c = omega (arith, named (c .before))
+
+element-write-heads : tie.Need-element-write-heads Inv-loop μ-loop
+element-write-heads c = omega (arith, named (c .before))
+
+add-q-2 : tie.Need-add-q-2 Inv-loop μ-loop
+add-q-2 c = omega (arith, here (c .before .before) .inside)
+
+sub-i : tie.Need-sub-i Inv-loop μ-loop
+sub-i c = omega arith
+
+loop-less : tie.Need-loop-less Inv-loop μ-loop
+loop-less c = omega arith
+
+loop-again : tie.Need-loop-again Inv-loop μ-loop
+loop-again c =
+    let t = c .before .before in
+    let l = t .before .loop in (
+      sound-more _ (t .loop-test .taken) (l .inv .0) .1,
+      omega (arith, t .loop-test .taken, l .inv .1),
+      λ middle j e d. linked-turn _ _ (l .inv .2 middle j e d) j refl (t .loop-test .taken) (free t) _ (c .before .number-at .ensures) (named (c .before)) _ e,
+    )
+
+returns : tie.Need-returns Inv-loop μ-loop
+returns c =
+    let l = c .before .loop in
+    let a = c .before .before .before .args in
+    let all : l .at ≡ a .place + a .k = omega (arith, l .inv .1) in (
+      all,
+      λ middle j e d. subst (λ (places : ℕ). Linked (now (a .s)) (a .n) middle (j + 1) [] 0 places (l .heads) (l .links) (l .spots)) all (linked-end _ _ (l .inv .2 middle j e d) (omega arith)),
+    )
+
+pub link-spec : {M : Type 1} → statement M
+link-spec =
+    tie.close
+    (tie.spec
+    Inv-loop
+    μ-loop
+    add-q
+    loop-holds
+    add-number-at
+    number-at-requires
+    cast-v
+    mul-head
+    element-copy-out-head
+    mul-links
+    element-write-links
+    cast-spots
+    mul-spots
+    element-write-spots
+    add-at
+    cast-heads
+    mul-heads
+    element-write-heads
+    add-q-2
+    sub-i
+    loop-less
+    loop-again
+    returns)

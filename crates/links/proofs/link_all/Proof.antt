@@ -1,0 +1,28 @@
+-- `links::link_all` meets its contract: the cover edges stand behind the hyperedges, and there are places for both.
+use mathlib.Core.Path.{sym, subst}
+use denote.Ref.{now}
+use native.Mathlib.Omega.{arith}
+use Rattle.wire.specs.Layout.{Sound}
+use Rattle.graph.specs.Layouts.{coverLayout}
+use Rattle.links.proofs.link_all.Statement.{statement}
+use Rattle.links.proofs.link_all.Tie as tie
+
+link-hypers-requires : tie.Need-link-hypers-requires
+link-hypers-requires c κs =
+    let a = c .before .before .before .before in
+    let fits = a .pre .1 .1 .0 in
+    (a .pre .0 .hypers, (a .pre .1 .0, ((fits .nodes, omega (arith, fits .positions), omega (arith, fits .places)), a .pre .1 .1 .1)))
+
+link-covers-requires : tie.Need-link-covers-requires
+link-covers-requires c κs =
+    let k = c .before .before .before in
+    let a = k .before .before .before .before .before in
+    let fits = a .pre .1 .1 .0 in
+    let covers = subst (Sound (coverLayout (now (a .args .s)) (a .args .n)) (a .args .c)) (sym (a .pre .1 .0)) (a .pre .0 .covers) in
+    (covers, ((fits .nodes, fits .positions, omega (arith, fits .places, k .link-hypers .ensures .0)), k .link-hypers .ensures .1))
+
+returns : tie.Need-returns
+returns c = c .link-covers .ensures
+
+pub link-all-spec : {M : Type 1} → statement M
+link-all-spec = tie.close (tie.spec link-hypers-requires link-covers-requires returns)

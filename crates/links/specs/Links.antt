@@ -1,0 +1,75 @@
+-- Where each node is a target: a place for each target of a hyperedge and for each cover edge, linked for each node; and the nodes that changed.
+use Prim.Native.Nat.{ℕ, _+_, _*_, _<_, _≤_}
+use mathlib.Core.List.{List}
+use mathlib.Core.Logic.{_⊎_}
+use mathlib.Core.Path.{_≡_}
+use lib.ListN.{length, getD}
+use Rattle.lists.specs.Lists.{_∈_}
+use Rattle.wire.specs.Bytes.{number}
+use Rattle.wire.specs.Layout.{end}
+use Rattle.rules.specs.Graph.{Target}
+use Rattle.graph.specs.Format.{graphHeader, hyperWidth, targetWidth, coverTargetAt, coverWidth}
+use Rattle.graph.specs.Layouts.{hyperLayout, coverLayout}
+use Rattle.halves.specs.Room.{Raised}
+
+-- a graph whose nodes, places and positions can be numbered
+pub record Fits (n h c middle : ℕ) : Type 0 where
+  pub nodes : n ≤ 4096
+  pub positions : middle + c * coverWidth ≤ 65535
+  pub places : middle + c * targetWidth ≤ graphHeader + h * hyperWidth + 4096 * targetWidth
+
+-- place q is on the chain that starts at a head: 0 is none, and k + 1 is place k, whose link leads on
+pub data Reached (links : List ℕ) (q : ℕ) : ℕ → Type 0 where
+  here : {head : ℕ} → head ≡ q + 1 → Reached links q head
+  further : {head : ℕ} (place : ℕ) → head ≡ place + 1 → Reached links q (getD links place 0) → Reached links q head
+
+-- the chain of a node has a place of the record at a position
+pub record Finds (heads links spots : List ℕ) (v at : ℕ) : Type 0 where
+  pub place : ℕ
+  pub reached : Reached links place (getD heads v 0)
+  pub stands : getD spots place 0 ≡ at
+
+-- one of h hyperedges, or of c cover edges at `middle`, stands at a position
+pub data RecordAt (s : List ℕ) (n h c middle at : ℕ) : Type 0 where
+  hyper : (j : ℕ) → j < h → at ≡ end (hyperLayout s n) j graphHeader → RecordAt s n h c middle at
+  cover : (j : ℕ) → j < c → at ≡ end (coverLayout s n) j middle → RecordAt s n h c middle at
+
+-- where hyperedge j stands, and its targets; where cover edge j stands, and its target
+abbrev pub hyperAt : List ℕ → (n j : ℕ) → ℕ
+hyperAt s n j = end (hyperLayout s n) j graphHeader
+
+abbrev pub targetsAt : List ℕ → (n j : ℕ) → List Target
+targetsAt s n j = hyperLayout s n .item (hyperAt s n j) .targets
+
+abbrev pub coverAt : List ℕ → (n middle j : ℕ) → ℕ
+coverAt s n middle j = end (coverLayout s n) j middle
+
+abbrev pub targetOf : List ℕ → (n middle j : ℕ) → ℕ
+targetOf s n middle j = number 2 s (coverAt s n middle j + coverTargetAt)
+
+-- so many places are linked: the targets of h hyperedges, but for those left of the last of them, and c cover edges
+pub record Linked (s : List ℕ) (n middle h : ℕ) (rest : List Target) (c places : ℕ) (heads links spots : List ℕ) : Type 0 where
+  pub heads-long : length heads ≡ 4096
+  pub links-long : length links ≡ 4096
+  pub spots-long : length spots ≡ 4096
+  pub within : (v : ℕ) → getD heads v 0 ≤ places
+  pub falls : (q : ℕ) → getD links q 0 ≤ q
+  pub records : (q : ℕ) → q < places → RecordAt s n h c middle (getD spots q 0)
+  pub hypers : (j : ℕ) (t : Target) → j < h → t ∈ targetsAt s n j → Finds heads links spots (t .node) (hyperAt s n j) ⊎ ((j + 1 ≡ h) × (t ∈ rest))
+  pub covers : (j : ℕ) → j < c → Finds heads links spots (targetOf s n middle j) (coverAt s n middle j)
+
+-- all are linked: what a chain leads to is a record, and the chain of a node leads to every record that has the node as a target
+pub record Index (s : List ℕ) (n h c middle : ℕ) (heads links spots : List ℕ) : Type 0 where
+  pub within : (v : ℕ) → getD heads v 0 ≤ 4096
+  pub falls : (q : ℕ) → getD links q 0 ≤ q
+  pub records : (v q : ℕ) → Reached links q (getD heads v 0) → RecordAt s n h c middle (getD spots q 0)
+  pub hypers : (j : ℕ) (t : Target) → j < h → t ∈ targetsAt s n j → Finds heads links spots (t .node) (hyperAt s n j)
+  pub covers : (j : ℕ) → j < c → Finds heads links spots (targetOf s n middle j) (coverAt s n middle j)
+
+-- the first i numbers are brought up to the next round, and those of them that changed are listed
+pub record Listed (n i : ℕ) (b₀ b changed : List ℕ) (many : ℕ) : Type 0 where
+  pub raised : Raised n i b₀ b
+  pub long : length changed ≡ 4096
+  pub few : many ≤ i
+  pub named : (k : ℕ) → k < many → getD changed k 0 < i
+  pub reach : (v : ℕ) → v < i → ¬ (getD b₀ v 0 ≡ getD b₀ (n + v) 0) → (k : ℕ) × (k < many) × (getD changed k 0 ≡ v)
