@@ -1,4 +1,4 @@
--- `text::put_decimal` meets its contract: a 4-byte number is written as an 8-byte one.
+-- `decimals::put_decimal` meets its contract: a 4-byte number is written as an 8-byte one.
 use mathlib.Core.Path.{_≡_, refl, sym}
 use native.Mathlib.Omega.{arith}
 use borrow.Author.Needs.{needs}

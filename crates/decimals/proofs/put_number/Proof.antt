@@ -1,4 +1,4 @@
--- `text::put_number` meets its contract.
+-- `decimals::put_number` meets its contract.
 use borrow.Author.Needs.{needs}
 use Rattle.wire.proofs.Laid.{_then_}
 use Rattle.decimals.proofs.put_number.Statement.{statement}

@@ -1,4 +1,4 @@
--- `text::put_word` meets its contract: after i turns the room holds the first i bytes of the word.
+-- `decimals::put_word` meets its contract: after i turns the room holds the first i bytes of the word.
 use Prim.Native.Nat.{_≤_, _<_, _+_, _-_}
 use mathlib.Core.Path.{_≡_, refl, sym}
 use native.Mathlib.Numerals.{add-one}

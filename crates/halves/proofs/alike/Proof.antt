@@ -1,4 +1,4 @@
--- `rounds::alike` meets its contract: whether the numbers below i are the same.
+-- `halves::alike` meets its contract: whether the numbers below i are the same.
 use Prim.Native.Nat.{_-_, _≤_}
 use mathlib.Core.Path.{_≡_, refl}
 use mathlib.Core.Bool.{true, false}

@@ -1,4 +1,4 @@
--- `rounds::clear` meets its contract: those below i are infinite.
+-- `halves::clear` meets its contract: those below i are infinite.
 use Prim.Native.Nat.{ℕ, _-_, _≤_}
 use mathlib.Core.Path.{_≡_, subst}
 use denote.Ref.{now}

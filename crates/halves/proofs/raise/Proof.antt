@@ -1,4 +1,4 @@
--- `rounds::raise` meets its contract: the first i numbers are those of the second half.
+-- `halves::raise` meets its contract: the first i numbers are those of the second half.
 use Prim.Native.Nat.{ℕ, _-_, _≤_}
 use mathlib.Core.Path.{_≡_, refl, subst}
 use denote.Ref.{now}

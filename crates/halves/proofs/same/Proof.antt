@@ -1,4 +1,4 @@
--- `rounds::same` meets its contract: the numbers below i are the same.
+-- `halves::same` meets its contract: the numbers below i are the same.
 use Prim.Native.Nat.{ℕ, _+_, _-_, _≤_, _<_}
 use mathlib.Core.Path.{_≡_, refl}
 use denote.Ref.{now}

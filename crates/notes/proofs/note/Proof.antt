@@ -1,4 +1,4 @@
--- `rounds::note` meets its contract: the targets at q are left to note.
+-- `notes::note` meets its contract: the targets at q are left to note.
 use Prim.Native.Nat.{ℕ, _+_, _-_, _<_}
 use mathlib.Core.List.{List, []}
 use mathlib.Core.Path.{_≡_, refl, sym, ap, subst, _∙_}

@@ -1,4 +1,4 @@
--- `rounds::note_covers` meets its contract: the first j are noted.
+-- `notes::note_covers` meets its contract: the first j are noted.
 use Prim.Native.Nat.{ℕ, _+_, _-_, _*_, _≤_, min}
 use mathlib.Core.List.{List}
 use mathlib.Core.Path.{_≡_, refl, sym, ap, subst, _∙_}

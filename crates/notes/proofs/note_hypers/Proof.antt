@@ -1,4 +1,4 @@
--- `rounds::note_hypers` meets its contract: the first j hyperedges are noted.
+-- `notes::note_hypers` meets its contract: the first j hyperedges are noted.
 use Prim.Native.Nat.{ℕ, _+_, _-_, _*_, _≤_}
 use mathlib.Core.List.{List, []}
 use mathlib.Core.Path.{_≡_, refl, sym, ap, subst, _∙_}

@@ -1,4 +1,4 @@
--- `rounds::publish` meets its contract: those below v are brought up.
+-- `notes::publish` meets its contract: those below v are brought up.
 use Prim.Native.Nat.{_+_, _-_, _≤_, _<_}
 use mathlib.Core.Path.{_≡_, refl, ap}
 use borrow.Author.Tests.{not-false}

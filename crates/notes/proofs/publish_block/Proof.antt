@@ -1,4 +1,4 @@
--- `rounds::publish_block` meets its contract: those below v are brought up, whatever was brought up before the block.
+-- `notes::publish_block` meets its contract: those below v are brought up, whatever was brought up before the block.
 use Prim.Native.Nat.{ℕ, _+_, _-_, _≤_, _<_}
 use mathlib.Core.List.{List}
 use mathlib.Core.Path.{_≡_, refl, sym, ap, subst, _∙_}

@@ -1,4 +1,4 @@
--- `rounds::slot` meets its contract.
+-- `notes::slot` meets its contract.
 use native.Mathlib.Omega.{arith}
 use borrow.Author.Tests.{le-leb, lt-leb}
 use Rattle.notes.specs.Index.{slotOf}

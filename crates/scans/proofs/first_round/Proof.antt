@@ -1,4 +1,4 @@
--- `rounds::first_round` meets its contract: what is left to do to each next number makes it what it is to be, and the first half stays infinite.
+-- `scans::first_round` meets its contract: what is left to do to each next number makes it what it is to be, and the first half stays infinite.
 use Prim.Native.Nat.{ℕ, _+_, _*_, _≤_, _<_}
 use mathlib.Core.List.{List}
 use mathlib.Core.Path.{_≡_, refl, sym, ap, _∙_}

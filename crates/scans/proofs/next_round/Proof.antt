@@ -1,4 +1,4 @@
--- `rounds::next_round` meets its contract: with the hyperedges, with the cover edges that are marked.
+-- `scans::next_round` meets its contract: with the hyperedges, with the cover edges that are marked.
 use mathlib.Core.Path.{refl}
 use borrow.Author.Needs.{needs}
 use Rattle.scans.specs.Scan.{forth}

@@ -1,4 +1,4 @@
--- `rounds::take_covers` meets its contract: what is left to do to each next number makes it what it is to be.
+-- `scans::take_covers` meets its contract: what is left to do to each next number makes it what it is to be.
 use Prim.Native.Nat.{ℕ, _+_, _<_, _≤_}
 use mathlib.Core.List.{List}
 use mathlib.Core.Path.{_≡_, refl, sym, ap, ap₂, _∙_}

@@ -1,4 +1,4 @@
--- `rounds::take_first` meets its contract: with targets nothing is below infinity.
+-- `scans::take_first` meets its contract: with targets nothing is below infinity.
 use Prim.Native.Nat.{ℕ, _+_, _<_}
 use mathlib.Core.List.{List}
 use mathlib.Core.Path.{_≡_, sym, ap, _∙_}

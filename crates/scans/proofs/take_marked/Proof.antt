@@ -1,4 +1,4 @@
--- `rounds::take_marked` meets its contract: the part of the cover edges that is marked, or none.
+-- `scans::take_marked` meets its contract: the part of the cover edges that is marked, or none.
 use Prim.Native.Nat.{_+_, _-_, _*_, _≤_}
 use mathlib.Core.Path.{_≡_, refl, sym, subst}
 use denote.Ref.{now}

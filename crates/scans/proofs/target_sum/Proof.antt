@@ -1,4 +1,4 @@
--- `rounds::target_sum` meets its contract.
+-- `scans::target_sum` meets its contract.
 use Prim.Native.Nat.{ℕ, _<_}
 use mathlib.Core.Path.{ap₂, _∙_}
 use denote.Ref.{now}

@@ -1,4 +1,4 @@
--- `rounds::worst` meets its contract: the greatest so far, and that of the targets left, make the whole.
+-- `scans::worst` meets its contract: the greatest so far, and that of the targets left, make the whole.
 use Prim.Native.Nat.{_+_, _-_, _≤_, _<_, max}
 use mathlib.Core.Path.{_≡_, ap, _∙_}
 use denote.Ref.{now}

@@ -1,4 +1,4 @@
--- `text::action_length` meets its contract.
+-- `wording::action_length` meets its contract.
 use mathlib.Core.Path.{ap}
 use native.Mathlib.Omega.{arith}
 use lib.ListN.{length}

@@ -1,4 +1,4 @@
--- `text::bound_length` meets its contract.
+-- `wording::bound_length` meets its contract.
 use mathlib.Core.Path.{ap}
 use native.Mathlib.Omega.{arith}
 use lib.ListN.{length}

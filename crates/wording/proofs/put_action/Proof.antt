@@ -1,4 +1,4 @@
--- `text::put_action` meets its contract.
+-- `wording::put_action` meets its contract.
 use mathlib.Core.Path.{refl, ap}
 use native.Mathlib.Omega.{arith}
 use lib.ListN.{length}

@@ -1,4 +1,4 @@
--- `text::put_bound` meets its contract.
+-- `wording::put_bound` meets its contract.
 use mathlib.Core.Path.{refl, ap}
 use native.Mathlib.Omega.{arith}
 use lib.ListN.{length}

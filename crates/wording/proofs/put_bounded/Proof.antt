@@ -1,4 +1,4 @@
--- `text::put_bounded` meets its contract: three stores one after another.
+-- `wording::put_bounded` meets its contract: three stores one after another.
 use borrow.Author.Needs.{needs}
 use Rattle.wire.proofs.Laid.{_then_}
 use Rattle.wording.proofs.put_bounded.Statement.{statement}

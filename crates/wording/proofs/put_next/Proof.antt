@@ -1,4 +1,4 @@
--- `text::put_next` meets its contract: five stores one after another.
+-- `wording::put_next` meets its contract: five stores one after another.
 use native.Mathlib.Omega.{arith}
 use borrow.Author.Needs.{needs}
 use Rattle.formula.specs.declared.Quantifier.{Quantifier}

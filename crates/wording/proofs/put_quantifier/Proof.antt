@@ -1,4 +1,4 @@
--- `text::put_quantifier` meets its contract.
+-- `wording::put_quantifier` meets its contract.
 use mathlib.Core.Path.{refl, ap}
 use borrow.Author.Needs.{needs}
 use Rattle.wording.specs.Text.{quantifierText}
