@@ -19,11 +19,11 @@ use Rattle.wire.proofs.Laid.{Left, all-left, none-left, left-fits, left-then}
 use Rattle.wire.proofs.Layouts.{items-more}
 use Rattle.graph.specs.Format.{coverWidth}
 use Rattle.graph.specs.Write.{writeCover}
-use Rattle.formula.specs.Format.{formulaHeader, rowWidth}
-use Rattle.formula.specs.declared.Quantifier.{Quantifier}
-use Rattle.formula.specs.declared.Row.{Row}
-use Rattle.formula.specs.declared.Row.the-variants.{Until}
-use Rattle.formula.specs.Layouts.{rowAt, rowLayout}
+use Rattle.syntax.specs.Format.{formulaHeader, rowWidth}
+use Rattle.syntax.specs.declared.Quantifier.{Quantifier}
+use Rattle.syntax.specs.declared.Row.{Row}
+use Rattle.syntax.specs.declared.Row.the-variants.{Until}
+use Rattle.syntax.specs.Layouts.{rowAt, rowLayout}
 use Rattle.reduction.specs.Built.{isUntil, untils}
 use Rattle.transitions.specs.Held.{heldRows, HoldsRows}
 use Rattle.records.specs.Bytes.{coverBytes, coversFrom, coversOf}

@@ -20,12 +20,12 @@ use Rattle.rules.specs.Graph.{Target}
 use Rattle.graph.specs.Write.{writeTarget, writeHyper}
 use Rattle.model.specs.Format.{transitionAt}
 use Rattle.model.specs.Model.{Model, Transition}
-use Rattle.formula.specs.Format.{formulaHeader, rowWidth}
-use Rattle.formula.specs.declared.Quantifier.{Quantifier}
-use Rattle.formula.specs.declared.Quantifier.the-variants.{Some, Every}
-use Rattle.formula.specs.declared.Row.{Row}
-use Rattle.formula.specs.declared.Row.the-variants.{Until}
-use Rattle.formula.specs.Layouts.{rowAt, rowLayout}
+use Rattle.syntax.specs.Format.{formulaHeader, rowWidth}
+use Rattle.syntax.specs.declared.Quantifier.{Quantifier}
+use Rattle.syntax.specs.declared.Quantifier.the-variants.{Some, Every}
+use Rattle.syntax.specs.declared.Row.{Row}
+use Rattle.syntax.specs.declared.Row.the-variants.{Until}
+use Rattle.syntax.specs.Layouts.{rowAt, rowLayout}
 use Rattle.reduction.specs.Built.{to, hyper, ifAny, stepEdges, helperEdges, isUntil, untils, layout}
 use Rattle.transitions.specs.Held.{transitionLayout, transitionsFrom, heldModel, heldRows, HoldsModel, HoldsRows, Own}
 use Rattle.records.specs.Bytes.{singleWidth, hypersBytes, someSteps, everySteps, helperList, stepBytes, stepsBytes, helperBytes, helpersBytes, Narrow, HelpersFit}

@@ -12,10 +12,10 @@ use Rattle.lists.proofs.Making.{∈-keep}
 use Rattle.lists.proofs.Tests.{by-test, clash}
 use Rattle.value.specs.declared.Bound.{Bound}
 use Rattle.model.specs.Model.{Model}
-use Rattle.formula.specs.declared.Quantifier.{Quantifier}
-use Rattle.formula.specs.declared.Quantifier.the-variants.{Some, Every}
-use Rattle.formula.specs.declared.Row.{Row}
-use Rattle.formula.specs.declared.Row.the-variants.{Until}
+use Rattle.syntax.specs.declared.Quantifier.{Quantifier}
+use Rattle.syntax.specs.declared.Quantifier.the-variants.{Some, Every}
+use Rattle.syntax.specs.declared.Row.{Row}
+use Rattle.syntax.specs.declared.Row.the-variants.{Until}
 use Rattle.reduction.specs.Built.{out, rowEdges, isUntil, untils}
 use Rattle.sizing.specs.Size.{addSize, sizeOf, rowsEdges, helperSize}
 use Rattle.sizing.proofs.Untils.{by-row}

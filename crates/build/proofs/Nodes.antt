@@ -11,21 +11,20 @@ use Rattle.lists.specs.Lists.{_∈_}
 use Rattle.lists.specs.Making.{keep, span}
 use Rattle.lists.proofs.Making.{∈-keep}
 use Rattle.value.specs.declared.Bound.{Bound}
-use Rattle.formula.specs.declared.Action.{Action}
+use Rattle.syntax.specs.declared.Action.{Action}
 use Rattle.wire.specs.Laid.{Laid}
 use Rattle.wire.specs.Write.{writeAll}
 use Rattle.wire.proofs.Laid.{nothing, said}
-use Rattle.rules.specs.Graph.{Target}
 use Rattle.graph.specs.Write.{writeHyper}
-use Rattle.model.specs.Model.{Model, Transition}
-use Rattle.formula.specs.Format.{formulaHeader, rowWidth, placeOf}
-use Rattle.formula.specs.declared.Quantifier.{Quantifier}
-use Rattle.formula.specs.declared.Quantifier.the-variants.{Some, Every}
-use Rattle.formula.specs.declared.Row.{Row}
-use Rattle.formula.specs.declared.Row.the-variants.{Next, Until}
-use Rattle.formula.specs.Layouts.{rowAt, rowLayout}
-use Rattle.formula.specs.Rows.{operands}
-use Rattle.formula.specs.WellFormed.{RowAt}
+use Rattle.model.specs.Model.{Model}
+use Rattle.syntax.specs.Format.{formulaHeader, rowWidth, placeOf}
+use Rattle.syntax.specs.declared.Quantifier.{Quantifier}
+use Rattle.syntax.specs.declared.Quantifier.the-variants.{Some, Every}
+use Rattle.syntax.specs.declared.Row.{Row}
+use Rattle.syntax.specs.declared.Row.the-variants.{Next, Until}
+use Rattle.syntax.specs.Layouts.{rowAt, rowLayout}
+use Rattle.syntax.specs.Rows.{operands}
+use Rattle.syntax.specs.WellFormed.{RowAt}
 use Rattle.reduction.specs.Built.{to, endOf, hyper, out, looksAt, near, rowEdges, ifAny, stepEdges, layout}
 use Rattle.transitions.specs.Held.{transitionsFrom, heldModel, heldRows, HoldsModel, HoldsRows, Own, Reads}
 use Rattle.records.specs.Bytes.{hypersBytes, nextEdges, helperList, rowBytes, rowsBytes, RowFits}

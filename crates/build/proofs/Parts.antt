@@ -11,7 +11,7 @@ use borrow.Author.Tests.{leb-true, le-leb, lt-leb}
 use Rattle.lists.specs.Lists.{all}
 use Rattle.lists.specs.Making.{span, keep}
 use Rattle.lists.proofs.Kept.{keep-fail}
-use Rattle.lists.proofs.Tests.{by-test, and-left, and-right}
+use Rattle.lists.proofs.Tests.{by-test, and-left}
 use Rattle.refusal.specs.Number.{unplaced}
 use Rattle.refusal.specs.declared.Refusal.the-variants.{Size, Room}
 use Rattle.value.specs.declared.Bound.{Bound}
@@ -25,9 +25,9 @@ use Rattle.graph.specs.Format.{graphLength}
 use Rattle.graph.specs.WellFormed.{targetsOf}
 use Rattle.graph.specs.Write.{writeHeader, writeHyper, writeCover, writeBody, writeGraph}
 use Rattle.model.specs.Model.{Model}
-use Rattle.formula.specs.declared.Quantifier.{Quantifier}
-use Rattle.formula.specs.declared.Row.{Row}
-use Rattle.formula.specs.declared.Row.the-variants.{Until}
+use Rattle.syntax.specs.declared.Quantifier.{Quantifier}
+use Rattle.syntax.specs.declared.Row.{Row}
+use Rattle.syntax.specs.declared.Row.the-variants.{Until}
 use Rattle.reduction.specs.Built.{ifUntil, isUntil, untils, helperAt, layout, cover, CoverEnd, graphOf}
 use Rattle.build.specs.declared.Built.the-variants as Built
 use Rattle.sizing.specs.declared.Size as size

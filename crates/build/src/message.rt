@@ -9,8 +9,8 @@ ghost use Rattle.reduction.specs.Built as built;
 ghost use Rattle.transitions.specs.Held.{transitionsFrom, heldModel, heldRows, HoldsModel, HoldsRows, Starts, Own, Reads};
 ghost use Rattle.records.specs.Bytes.{hypersBytes, helperList, rowBytes, rowsBytes, helperBytes, helpersBytes, coverBytes, coversOf, RowFits, Narrow, HelpersFit};
 ghost use Rattle.build.specs.Built.{Writable};
-use formula::Quantifier;
-use formula::Row;
+use syntax::Quantifier;
+use syntax::Row;
 use value::Bound;
 use wire::Width;
 
@@ -106,12 +106,12 @@ fn put_rows(
     ensures { λ e. ⌜ Laid (now (room .entry)) at (rowsBytes (heldModel (now (m .entry)) n p t) 0 (heldRows (now (f .entry)) k)) (now (room .exit)) e ⌝ }
 {
     let mut next = at;
-    let mut row_at = formula::HEADER;
+    let mut row_at = syntax::HEADER;
     let mut r: u32 = 0;
     while r < k {
-        let row = formula::row_at(f, row_at);
+        let row = syntax::row_at(f, row_at);
         next = put_row_states(room, next, m, n, p, t, table, r, row);
-        row_at += formula::ROW;
+        row_at += syntax::ROW;
         r += 1;
     }
     next
@@ -207,12 +207,12 @@ fn put_helpers(
         (now (room .exit)) e ⌝ }
 {
     let mut next = at;
-    let mut row_at = formula::HEADER;
+    let mut row_at = syntax::HEADER;
     let mut h = k;
     let mut i = k;
     while 0 < i {
-        let row = formula::row_at(f, row_at);
-        row_at += formula::ROW;
+        let row = syntax::row_at(f, row_at);
+        row_at += syntax::ROW;
         i -= 1;
         if let Row::Until(q, l, r, _) = row {
             next = put_helper_states(room, next, m, n, p, t, table, h, q, l, r);
@@ -263,13 +263,13 @@ fn put_covers(room: &mut [u8], at: usize, n: u32, p: u32, f: &[u8], k: u32) -> u
     ensures { λ e. ⌜ Laid (now (room .entry)) at (coversOf n (heldRows (now (f .entry)) k)) (now (room .exit)) e ⌝ }
 {
     let mut next = at;
-    let mut row_at = formula::HEADER;
+    let mut row_at = syntax::HEADER;
     let mut h = k;
     let mut r: u32 = 0;
     while r < k {
-        let row = formula::row_at(f, row_at);
+        let row = syntax::row_at(f, row_at);
         let place = r;
-        row_at += formula::ROW;
+        row_at += syntax::ROW;
         r += 1;
         if let Row::Until(_, _, _, b) = row {
             next = put_cover_states(room, next, n, place, h, b);

@@ -25,12 +25,12 @@ use Rattle.graph.specs.WellFormed.{Accepted}
 use Rattle.graph.specs.WellFormed.{targetsOf}
 use Rattle.graph.proofs.Good.{counts, graph-good}
 use Rattle.graph.proofs.Ready.{Begin, begin}
-use Rattle.claims.specs.Claims.{claimWidth, AcceptsClaims}
+use Rattle.support.specs.Claims.{claimWidth, AcceptsClaims}
 use Rattle.claims.specs.declared.Judged.{Judged}
 use Rattle.claims.specs.declared.Judged.the-variants.{Yes, No, Refused}
 use Rattle.claims.specs.Answers.{readClaims, Judges, refusedOr}
 use Rattle.claims.specs.Promise.{JudgedPromise}
-use Rattle.claims.proofs.Accepted.{accepted-largest}
+use Rattle.support.proofs.Accepted.{accepted-largest}
 
 -- a message that was checked is the writing of a well-formed graph, within the limits of the table
 module _ {s : List ℕ} {n h c : ℕ} (bytes : Bytes s) (begun : Begin s n h c) where

@@ -21,10 +21,12 @@ use Rattle.graph.specs.Layouts.{targetLayout, hyperLayout, decoded}
 use Rattle.rules.specs.Rounds.{Assignment, worst}
 use Rattle.rules.proofs.Reasons.{worst-≼, ≼-worst}
 use Rattle.rules.proofs.Size.{Light}
-use Rattle.claims.specs.Claims.{Support, by-hyper, by-cover, Accepts}
-use Rattle.claims.specs.Scans.{HyperFair, HyperBacks, CoverFair, CoverBacks, Marked, AllBacked}
-use Rattle.claims.proofs.Marking.{zeros-at}
-use Rattle.claims.proofs.Edgewise.{edgewise-accepted, accepted-edgewise, supported-bound}
+use Rattle.support.specs.Claims.{Support, by-hyper, by-cover, Accepts}
+use Rattle.support.specs.Backing.{HyperFair, HyperBacks, CoverFair, CoverBacks}
+use Rattle.claims.specs.Scans.{Marked}
+use Rattle.claimed.specs.Targets.{AllBacked}
+use Rattle.support.proofs.Zeros.{zeros-at}
+use Rattle.support.proofs.Edgewise.{edgewise-accepted, accepted-edgewise, supported-bound}
 
 -- the order of values and that of their stored numbers, where none is cut off
 ⊑-stored : (a b : Value) → a ⊑ b → stored a ≤ stored b

@@ -1,22 +1,16 @@
 -- Marks of the sources that an edge backs, set one after another where all are 0. Assumes nothing.
-use Prim.Native.Nat.{ℕ, zero, suc, _<_}
+use Prim.Native.Nat.{ℕ, _<_}
 use mathlib.Core.List.{List}
 use mathlib.Core.Logic.{_⊎_, inl, inr}
 use mathlib.Core.Path.{_≡_, refl, sym, _∙_}
-use lib.ListN.{length, getD, set, replicate, length-set}
+use lib.ListN.{length, getD, set, length-set}
 use lib.Seq.{getD-set-same, getD-set-other}
 use native.Mathlib.Decide.{ℕ-discrete}
 use native.Mathlib.Omega.{arith}
 use Rattle.lists.specs.Lists.{_∈_}
 use Rattle.wire.specs.Layout.{Layout, items}
 use Rattle.claims.specs.Scans.{Marked}
-use Rattle.claims.proofs.Passing.{Walking, walking-done}
-
--- what is all 0 at first
-pub zeros-at : (k v : ℕ) → getD {A = ℕ} (replicate k 0) v 0 ≡ 0
-zeros-at zero v = refl
-zeros-at (suc k) zero = refl
-zeros-at (suc k) (suc v) = zeros-at k v
+use Rattle.support.proofs.Passing.{Walking, walking-done}
 
 -- a mark that is set, and those that stay
 pub mark-here : (b : List ℕ) (v : ℕ) → v < length b → getD (set b v 1) v 0 ≡ 1

@@ -10,7 +10,7 @@ use Rattle.wire.specs.Read.{Read, good, bad, _>>=_, _>>_, demand}
 use Rattle.rules.specs.Graph.{Graph}
 use Rattle.graph.specs.Stored.{StoredGraph, ruled}
 use Rattle.graph.specs.Message.{readGraph}
-use Rattle.claims.specs.Claims.{claimWidth, AcceptsClaims}
+use Rattle.support.specs.Claims.{claimWidth, AcceptsClaims}
 use Rattle.claims.specs.declared.Judged.{Judged}
 use Rattle.claims.specs.declared.Judged.the-variants as Judged
 

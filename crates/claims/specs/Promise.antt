@@ -6,7 +6,7 @@ use lib.ListN.{length}
 use Rattle.rules.specs.Rounds.{Largest}
 use Rattle.graph.specs.Stored.{StoredGraph, ruled}
 use Rattle.graph.specs.WellFormed.{Accepted}
-use Rattle.claims.specs.Claims.{claimedValue, AcceptsClaims}
+use Rattle.support.specs.Claims.{claimedValue, AcceptsClaims}
 use Rattle.claims.specs.Answers.{claimsLength}
 use Rattle.claims.specs.declared.Judged.{Judged}
 use Rattle.claims.specs.declared.Judged.the-variants as Judged

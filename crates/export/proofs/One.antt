@@ -9,7 +9,7 @@ use Rattle.claims.proofs.One.{judges-one}
 use Rattle.ranks.proofs.One.{SameClaims, writes-one}
 use Rattle.export.specs.Claimed.{judgedVerdict}
 use Prim.Native.Nat.{ℕ}
-use Rattle.tally.specs.declared.Entry.{Entry}
+use Rattle.entries.specs.declared.Entry.{Entry}
 use Rattle.tally.specs.declared.Tally.{Tally}
 use Rattle.export.specs.Sheet.{EnteredInto}
 use Rattle.export.proofs.otzarvim_graph_check.Reads as graph-check

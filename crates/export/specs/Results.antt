@@ -11,12 +11,10 @@ use Rattle.search.specs.Answer.{answerOf as searchOf, readAsked as askedOf}
 use Rattle.search.specs.declared.Verdict.{Verdict as Found}
 use Rattle.search.specs.declared.Verdict.the-variants as found
 use Rattle.search.specs.declared.Answer.{Answer as Searched}
-use Rattle.verdict.specs.Answer.{readSettled, readAsked, answerOf, allOf}
-use Rattle.verdict.specs.declared.Verdict.{Verdict}
-use Rattle.verdict.specs.declared.Verdict.the-variants as Verdict
-use Rattle.verdict.specs.declared.Answer.{Answer}
-use Rattle.verdict.specs.declared.AllStates.{AllStates}
-use Rattle.verdict.specs.declared.AllStates.the-variants as AllStates
+use Rattle.settling.specs.Answer.{readSettled, readAsked, answerOf, allOf}
+use Rattle.settling.specs.declared.Answer.{Answer}
+use Rattle.settling.specs.declared.AllStates.{AllStates}
+use Rattle.settling.specs.declared.AllStates.the-variants as AllStates
 
 -- the counts of an accepted message's header; a refusal leaves what is lent for them as it came. Nodes, hyperedges and cover edges
 abbrev pub graphCounts : graph.Checked → (came : List ℕ) → List ℕ
@@ -33,13 +31,7 @@ abbrev pub formulaCount : formula.Checked → (came : ℕ) → ℕ
 formulaCount (Formula.Formula f) came = f
 formulaCount (Formula.Refused e) came = came
 
--- 0 none, 1 yes, 2 no
-abbrev pub verdictNumber : Verdict → ℕ
-verdictNumber Verdict.None = 0
-verdictNumber Verdict.Yes = 1
-verdictNumber Verdict.No = 2
-
--- the same of a search from one node, and its answer
+-- the number of a verdict of a search from one node, as `verdictNumber` has it of a state, and its answer
 abbrev pub foundNumber : Found → ℕ
 foundNumber found.None = 0
 foundNumber found.Yes = 1

@@ -2,7 +2,7 @@
 use Prim.Native.Nat.{ℕ}
 use mathlib.Core.Path.{_≡_}
 use Rattle.tally.specs.Entered.{answerNumber, enterOf}
-use Rattle.tally.specs.declared.Entry.{Entry}
+use Rattle.entries.specs.declared.Entry.{Entry}
 use Rattle.tally.specs.declared.Tally.{Tally}
 use Rattle.tally.specs.declared.Entered.{Entered}
 use Rattle.export.specs.declared.Noted.{Noted}

@@ -6,27 +6,27 @@ ghost use Rattle.graph.specs.Message.{readGraph};
 ghost use Rattle.graph.specs.Answers as g;
 ghost use Rattle.model.specs.Message.{readModel};
 ghost use Rattle.model.specs.Answers as m;
-ghost use Rattle.formula.specs.Message.{readFormula};
+ghost use Rattle.syntax.specs.Message.{readFormula};
 ghost use Rattle.formula.specs.Answers as f;
-ghost use Rattle.rounds.specs.Outcome as rounds;
+ghost use Rattle.turns.specs.Outcome as rounds;
 ghost use Rattle.rounds.specs.Promise as promise;
 ghost use Rattle.text.specs.Written as text;
 ghost use Rattle.build.specs.Built as b;
-ghost use Rattle.verdict.specs.Answer as v;
-ghost use Rattle.verdict.specs.Promise.{Promise, PromiseAll, PromiseGraph};
+ghost use Rattle.settling.specs.Answer as v;
+ghost use Rattle.settling.specs.Answer.{verdictNumber};
+ghost use Rattle.states.specs.Promise.{Promise, PromiseAll, PromiseGraph};
 ghost use Rattle.search.specs.Answer as search;
 ghost use Rattle.search.specs.Promise as found;
-ghost use Rattle.export.specs.Results.{graphCounts, modelCounts, formulaCount, verdictNumber, foundNumber, searched, askedOne, askedAll, statesLent};
+ghost use Rattle.export.specs.Results.{graphCounts, modelCounts, formulaCount, foundNumber, searched, askedOne, askedAll, statesLent};
 ghost use Rattle.export.specs.Claimed.{judgedVerdict, JudgedBy, WrittenBy};
 use claims::Judged;
 ghost use Rattle.tally.specs.Entered as t;
-ghost use Rattle.tally.specs.Report as report;
-ghost use Rattle.tally.specs.Returned.{entryOf};
+ghost use Rattle.lines.specs.Lines as report;
+ghost use Rattle.entries.specs.Returned.{entryOf};
 ghost use Rattle.export.specs.Sheet.{notedOf, EnteredInto};
 use tally::Entry;
 use tally::Tally;
 use verdict::AllStates;
-use verdict::Verdict;
 
 // Checks a graph message; gives its nodes, hyperedges and cover edges.
 #[no_mangle]
@@ -221,17 +221,6 @@ pub extern "C" fn otzarvim_formula_text(
     written.number()
 }
 
-// The number of a verdict.
-fn verdict_number(verdict: Verdict) -> u8
-    ensures { λ r. ⌜ r ≡ verdictNumber verdict ⌝ }
-{
-    match verdict {
-        Verdict::None => 0,
-        Verdict::Yes => 1,
-        Verdict::No => 2,
-    }
-}
-
 // The verdict on a state; gives the verdict's number, the count of rounds and the length of the graph.
 #[no_mangle]
 pub extern "C" fn otzarvim_verdict(
@@ -262,7 +251,7 @@ pub extern "C" fn otzarvim_verdict(
         (now (values .exit)) (askedOne (now (model .entry)) (now (formula .entry)) state budget (now (bytes .entry)) (now (values .entry))) ⌝ }
 {
     let answer = verdict::decide(model, formula, state, budget, bytes, values);
-    *verdict = verdict_number(answer.verdict());
+    *verdict = answer.verdict().number();
     *count = answer.count();
     *length = answer.length();
     *offset = answer.offset();

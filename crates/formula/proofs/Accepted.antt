@@ -11,10 +11,10 @@ use Rattle.wire.specs.Layout.{items, Sound}
 use Rattle.wire.proofs.Fields.{value-inside, value-is}
 use Rattle.wire.proofs.Layouts.{Reads, ReadsAll, reads-while}
 use Rattle.wire.specs.Step.{start}
-use Rattle.formula.specs.Format.{formulaHeader, boundAt}
-use Rattle.formula.specs.declared.Row.{Row}
-use Rattle.formula.specs.Message.{readRow, rows, readFormula}
-use Rattle.formula.specs.Layouts.{rowAt, rowLayout}
+use Rattle.syntax.specs.Format.{formulaHeader, boundAt}
+use Rattle.syntax.specs.declared.Row.{Row}
+use Rattle.syntax.specs.Message.{readRow, rows, readFormula}
+use Rattle.syntax.specs.Layouts.{rowAt, rowLayout}
 use Rattle.formula.proofs.Good.{row-good, header-good, formula-good}
 
 -- a row that is read stands there

@@ -6,12 +6,13 @@ use native.Mathlib.Omega.{arith}
 use lib.ListN.{length}
 use Rattle.refusal.specs.declared.Fault.{Fault}
 use Rattle.wire.specs.Read.{Read, good, bad, _>>=_}
-use Rattle.formula.specs.Answers.{operandsOf, listed, kept, judged, counted, checked}
-use Rattle.formula.specs.declared.Row.{Row}
-use Rattle.formula.specs.declared.Row.the-variants.{True, False, Proposition, Negation, And, Or, Next, Until}
-use Rattle.formula.specs.Rows.{operands}
-use Rattle.formula.specs.declared.Operands.{Operands}
-use Rattle.formula.specs.declared.Judged.the-variants as Judged
+use Rattle.kinds.specs.Kept.{operandsOf, listed, kept, judged}
+use Rattle.formula.specs.Answers.{counted, checked}
+use Rattle.syntax.specs.declared.Row.{Row}
+use Rattle.syntax.specs.declared.Row.the-variants.{True, False, Proposition, Negation, And, Or, Next, Until}
+use Rattle.syntax.specs.Rows.{operands}
+use Rattle.kinds.specs.declared.Operands.{Operands}
+use Rattle.kinds.specs.declared.Judged.the-variants as Judged
 use Rattle.formula.specs.declared.Checked.the-variants as Checked
 
 -- operands that were kept are those of the row that was read

@@ -21,12 +21,12 @@ use Rattle.wire.specs.Step.{start}
 use Rattle.wire.proofs.Stands.{Stands, stands-first, stands-second, stands-both, stands-last, value-stands, stands-field}
 use Rattle.wire.proofs.Counts.{good-count}
 use Rattle.wire.proofs.Exact.{good-bind, good-after, good-demand, length-writeAll, Exact, FitsAll, none, more, all-reads, all-written, message-length, message-rest, start-reads, start-written}
-use Rattle.formula.specs.Format.{formulaHeader, formulaHead, rowsCount, leftAt, rightAt, zeroAt, boundAt, rowWidth, formulaLength}
-use Rattle.formula.specs.declared.Row.{Row}
-use Rattle.formula.specs.Rows.{rowOf, usesLeft, usesRight, usesBound, operands, propositions}
-use Rattle.formula.specs.Message.{rowFrom, fieldsFrom, rows, readHeader, readFormula}
-use Rattle.formula.specs.Write.{fields, writeRow, writeFormula}
-use Rattle.formula.specs.WellFormed.{SayableRow, RowAt, WellFormed}
+use Rattle.syntax.specs.Format.{formulaHeader, formulaHead, rowsCount, leftAt, rightAt, zeroAt, boundAt, rowWidth, formulaLength}
+use Rattle.syntax.specs.declared.Row.{Row}
+use Rattle.syntax.specs.Rows.{rowOf, usesLeft, usesRight, usesBound, operands, propositions}
+use Rattle.syntax.specs.Message.{rowFrom, fieldsFrom, rows, readHeader, readFormula}
+use Rattle.syntax.specs.Write.{fields, writeRow, writeFormula}
+use Rattle.syntax.specs.WellFormed.{SayableRow, RowAt, WellFormed}
 use Rattle.formula.proofs.Good.{row-good, header-good, formula-good, good-formula}
 use Rattle.formula.proofs.Judging.{Named, spare-fields, named-fields}
 use Rattle.formula.proofs.Using.{good-spare, good-operand}

@@ -18,21 +18,16 @@ use Rattle.wire.specs.Start.{readStart}
 use Rattle.wire.specs.Step.{start}
 use Rattle.wire.proofs.Fields.{part-field}
 use Rattle.wire.proofs.Counts.{CountAt, count-good}
-use Rattle.wire.proofs.Reading.{reading, bind-good, and-good, demand-good, field-good, good-same, part-below}
+use Rattle.wire.proofs.Reading.{bind-good, and-good, demand-good, field-good, good-same, part-below}
 use Rattle.wire.proofs.Readers.{all-length}
 use Rattle.wire.proofs.Exact.{good-bind, good-demand, all-there}
-use Rattle.formula.specs.Format.{formulaHeader, formulaHead, rowsCount, leftAt, rightAt, zeroAt, boundAt, rowWidth, formulaLength}
-use Rattle.formula.specs.declared.Row.{Row}
-use Rattle.formula.specs.Rows.{rowOf, usesLeft, usesRight, usesBound, leftLimit, rightLimit, usedOnce}
-use Rattle.formula.specs.Message.{illFormed, spare, operand, fieldsFrom, rowFrom, readRow, rows, readHeader, readFormula}
+use Rattle.syntax.specs.Format.{formulaHeader, formulaHead, rowsCount, leftAt, rightAt, zeroAt, boundAt, rowWidth, formulaLength}
+use Rattle.syntax.specs.declared.Row.{Row}
+use Rattle.syntax.specs.Rows.{rowOf, usesLeft, usesRight, usesBound, leftLimit, rightLimit, usedOnce}
+use Rattle.syntax.specs.Message.{illFormed, spare, operand, fieldsFrom, rowFrom, readRow, rows, readHeader, readFormula}
 use Rattle.formula.proofs.Spelt.{spareZero}
 use Rattle.formula.proofs.Judging.{named, Idle, Named, fields-spare, fields-named}
 use Rattle.formula.proofs.Using.{spare-good, operand-good, zero-good}
-
--- a row of a known operator is read by its fields
-pub row-known : (s : List ℕ) (at offset p place : ℕ) {o : ℕ} → fieldAt 1 s at ≡ Number o → o ≤ 11 → rowFrom s at offset p place ≡ fieldsFrom s at offset p place o
-unfolding rowFrom
-row-known s at offset p place {o} there known = simp (reading, there, le-leb o 11 known)
 
 -- a row is read from its part of the message as from the message
 module _ (s : List ℕ) (at : ℕ) (inside : at + rowWidth ≤ length s) where

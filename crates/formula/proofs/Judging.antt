@@ -7,9 +7,10 @@ use borrow.Author.Tests.{ltb-true, lt-ltb}
 use Rattle.lists.specs.Lists.{_∈_, all}
 use Rattle.lists.proofs.Tests.{and-left, and-right}
 use Rattle.lists.proofs.Lists.{all-true, true-all}
-use Rattle.formula.specs.declared.Row.{Row}
-use Rattle.formula.specs.Rows.{rowOf, usesLeft, usesRight, usesBound, leftLimit, rightLimit, operands, propositions, actions}
-use Rattle.formula.proofs.Spelt.{spareZero, by-operator}
+use Rattle.syntax.specs.declared.Row.{Row}
+use Rattle.syntax.specs.Rows.{rowOf, usesLeft, usesRight, usesBound, leftLimit, rightLimit, operands, propositions, actions}
+use Rattle.operands.proofs.Operators.{by-operator}
+use Rattle.formula.proofs.Spelt.{spareZero}
 
 -- a field that is not used is zero
 abbrev pub idle : (used : Bool) → (field : ℕ) → Bool

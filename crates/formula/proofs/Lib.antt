@@ -1,9 +1,7 @@
 -- Laws of formula messages.
 --     Spelt      the fields that a row is written with
 --     Judging    the tests of a row's fields, in terms of the row
---     Using      which fields each kind of operator uses, and how each is read
---     Spared     a row's fields told as numbers, those that its operator doesn't use looked at together
---     Keeping    the operands of a row by the kind of its operator
+--     Using      how a field that is used, or not, is read
 --     Good       what a good reading says of the bytes
 --     Marks      how often rows are operands: marks, and the rule of use
 --     Begun      what a loop over rows has read, and what is left
@@ -17,8 +15,6 @@
 pub mod Spelt
 pub mod Judging
 pub mod Using
-pub mod Spared
-pub mod Keeping
 pub mod Good
 pub mod Marks
 pub mod Begun

@@ -17,9 +17,9 @@ use Rattle.wire.specs.Counts.{readCount}
 use Rattle.wire.specs.Step.{start}
 use Rattle.wire.proofs.Fields.{refused-short, value-inside}
 use Rattle.wire.proofs.Reading.{never, bad-same, field-good}
-use Rattle.formula.specs.Format.{formulaHeader, rowsCount, placeOf}
-use Rattle.formula.specs.Rows.{usesLeft, usesRight, usesBound}
-use Rattle.formula.specs.Message.{illFormed, spare, operand, fieldsFrom, rowFrom, rows, readHeader, readFormula}
+use Rattle.syntax.specs.Format.{formulaHeader, rowsCount, placeOf}
+use Rattle.syntax.specs.Rows.{usesLeft, usesRight, usesBound}
+use Rattle.syntax.specs.Message.{illFormed, spare, operand, fieldsFrom, rowFrom, rows, readHeader, readFormula}
 use Rattle.formula.specs.Located as at-start
 use Rattle.formula.specs.Located.{FieldStart, Located, of-no-field, of-field}
 use Rattle.formula.proofs.Good.{header-good}

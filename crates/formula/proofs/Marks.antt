@@ -15,11 +15,11 @@ use borrow.Author.Tests.{eq-eqb, ne-eqb, eqb-true, eqb-false}
 use Rattle.lists.specs.Lists.{_∈_, all, upTo}
 use Rattle.lists.proofs.Tests.{by-test}
 use Rattle.lists.proofs.Lists.{all-true, true-all, ∈-upTo, upTo-∈}
-use Rattle.formula.specs.declared.Row.{Row}
-use Rattle.formula.specs.declared.Row.the-variants.{True, False, Proposition, Negation, And, Or, Next, Until}
+use Rattle.syntax.specs.declared.Row.{Row}
+use Rattle.syntax.specs.declared.Row.the-variants.{True, False, Proposition, Negation, And, Or, Next, Until}
 use Rattle.formula.specs.declared.Uses.{Uses}
 use Rattle.formula.specs.Marked.{Marked}
-use Rattle.formula.specs.Rows.{operands, times, uses, usedOnce}
+use Rattle.syntax.specs.Rows.{operands, times, uses, usedOnce}
 use Rattle.formula.proofs.Sums.{sumOf, sumFrom, times-append, times-∈, sumFrom-same, sumOf-range}
 
 -- ---- marks

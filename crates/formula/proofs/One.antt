@@ -2,7 +2,6 @@
 -- Here a are the arguments, r is the result, and s is what stands in each argument at the end. Assumes nothing.
 use mathlib.Core.Path.{_≡_, sym, _∙_}
 use Rattle.formula.proofs.check.Reads as check
-use Rattle.formula.proofs.row_at.Reads as row-at
 use Rattle.formula.proofs.Checked.number.Reads as Checked-number
 use Rattle.formula.proofs.Checked.offset.Reads as Checked-offset
 
@@ -10,11 +9,6 @@ use Rattle.formula.proofs.Checked.offset.Reads as Checked-offset
 pub one-check : (κs : _) (a : _) (r r′ : _) (s s′ : _) → check.Post κs a r s → check.Post κs a r′ s′
     → r ≡ r′
 one-check κs a r r′ s s′ p q = p ∙ sym q
-
--- `formula::row_at`
-pub one-row-at : (κs : _) (a : _) (r r′ : _) (s s′ : _) → row-at.Post κs a r s → row-at.Post κs a r′ s′
-    → r ≡ r′
-one-row-at κs a r r′ s s′ p q = p ∙ sym q
 
 -- `formula::Checked::number`
 pub one-number : (κs : _) (a : _) (r r′ : _) (s s′ : _) → Checked-number.Post κs a r s → Checked-number.Post κs a r′ s′

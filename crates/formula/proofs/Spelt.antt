@@ -1,5 +1,5 @@
 -- The fields of a row: those that it is written with, and that fields without a fault are those of their row. Assumes nothing.
-use Prim.Native.Nat.{ℕ, zero, suc, _^_, _≤_, _<_}
+use Prim.Native.Nat.{ℕ, zero, _^_, _≤_, _<_}
 use mathlib.Core.Bool.{Bool, true, _&&_}
 use mathlib.Core.List.{List, _++_}
 use mathlib.Core.Path.{_≡_, refl, ap}
@@ -11,14 +11,15 @@ use Rattle.lists.proofs.Tests.{and-left, and-right}
 use Rattle.value.specs.Coded.{codeOf}
 use Rattle.value.proofs.Coded.{code-bound, bound-sayable, bound-code, code-fits}
 use Rattle.wire.proofs.Bytes.{length-bytes}
-use Rattle.formula.specs.Format.{rowWidth}
-use Rattle.formula.specs.declared.Quantifier.the-variants.{Some, Every}
-use Rattle.formula.specs.declared.Action.the-variants.{Any, Only}
-use Rattle.formula.specs.declared.Row.{Row}
-use Rattle.formula.specs.declared.Row.the-variants.{True, False, Proposition, Negation, And, Or, Next, Until}
-use Rattle.formula.specs.Rows.{rowOf, operands, propositions, actions}
-use Rattle.formula.specs.Write.{fields, writeRow}
-use Rattle.formula.specs.WellFormed.{SayableRow}
+use Rattle.syntax.specs.Format.{rowWidth}
+use Rattle.syntax.specs.declared.Quantifier.the-variants.{Some, Every}
+use Rattle.syntax.specs.declared.Action.the-variants.{Any, Only}
+use Rattle.syntax.specs.declared.Row.{Row}
+use Rattle.syntax.specs.declared.Row.the-variants.{True, False, Proposition, Negation, And, Or, Next, Until}
+use Rattle.syntax.specs.Rows.{rowOf, operands, propositions, actions}
+use Rattle.syntax.specs.Write.{fields, writeRow}
+use Rattle.syntax.specs.WellFormed.{SayableRow}
+use Rattle.operands.proofs.Operators.{by-operator}
 
 -- left and right are the names that the row has, and zero where it has none
 abbrev pub names : Row → List ℕ
@@ -82,22 +83,6 @@ pub record Said (o l r z b : ℕ) (row : Row) : Type 0 where
   pub sayable : b < 2 ^ 32 → SayableRow row
   pub left-below : (k : ℕ) → 0 < k → l < k → left row < k
   pub right-below : (k : ℕ) → 0 < k → r < k → right row < k
-
--- by which operator it is
-pub by-operator : (P : ℕ → Type 0) → P 0 → P 1 → P 2 → P 3 → P 4 → P 5 → P 6 → P 7 → P 8 → P 9 → P 10 → P 11 → (o : ℕ) → o ≤ 11 → P o
-by-operator P p0 p1 p2 p3 p4 p5 p6 p7 p8 p9 p10 p11 zero h = p0
-by-operator P p0 p1 p2 p3 p4 p5 p6 p7 p8 p9 p10 p11 (suc zero) h = p1
-by-operator P p0 p1 p2 p3 p4 p5 p6 p7 p8 p9 p10 p11 (suc (suc zero)) h = p2
-by-operator P p0 p1 p2 p3 p4 p5 p6 p7 p8 p9 p10 p11 (suc (suc (suc zero))) h = p3
-by-operator P p0 p1 p2 p3 p4 p5 p6 p7 p8 p9 p10 p11 (suc (suc (suc (suc zero)))) h = p4
-by-operator P p0 p1 p2 p3 p4 p5 p6 p7 p8 p9 p10 p11 (suc (suc (suc (suc (suc zero))))) h = p5
-by-operator P p0 p1 p2 p3 p4 p5 p6 p7 p8 p9 p10 p11 (suc (suc (suc (suc (suc (suc zero)))))) h = p6
-by-operator P p0 p1 p2 p3 p4 p5 p6 p7 p8 p9 p10 p11 (suc (suc (suc (suc (suc (suc (suc zero))))))) h = p7
-by-operator P p0 p1 p2 p3 p4 p5 p6 p7 p8 p9 p10 p11 (suc (suc (suc (suc (suc (suc (suc (suc zero)))))))) h = p8
-by-operator P p0 p1 p2 p3 p4 p5 p6 p7 p8 p9 p10 p11 (suc (suc (suc (suc (suc (suc (suc (suc (suc zero))))))))) h = p9
-by-operator P p0 p1 p2 p3 p4 p5 p6 p7 p8 p9 p10 p11 (suc (suc (suc (suc (suc (suc (suc (suc (suc (suc zero)))))))))) h = p10
-by-operator P p0 p1 p2 p3 p4 p5 p6 p7 p8 p9 p10 p11 (suc (suc (suc (suc (suc (suc (suc (suc (suc (suc (suc zero))))))))))) h = p11
-by-operator P p0 p1 p2 p3 p4 p5 p6 p7 p8 p9 p10 p11 (suc (suc (suc (suc (suc (suc (suc (suc (suc (suc (suc (suc n)))))))))))) h = absurd (omega arith)
 
 -- all of four fields are zero
 zeros : (l r z b : ℕ) → (eqb l 0 && (eqb r 0 && (eqb z 0 && eqb b 0))) ≡ true → (l ≡ 0) × (r ≡ 0) × (z ≡ 0) × (b ≡ 0)

@@ -9,7 +9,7 @@ use native.Mathlib.Omega.{arith}
 use lib.Dec.{eqb}
 use borrow.Author.Tests.{eq-eqb, ne-eqb, eqb-true}
 use Rattle.lists.specs.Lists.{_∈_}
-use Rattle.formula.specs.Rows.{times}
+use Rattle.syntax.specs.Rows.{times}
 
 -- the sum of w over a list, and over the n numbers from k on
 unfoldable pub sumOf : (ℕ → ℕ) → List ℕ → ℕ

@@ -1,7 +1,7 @@
 -- The rows of a message are a tree: the formula of a row is its operator over the formulas of its operands,
 -- the root has as many operators and propositions as there are rows, and it reaches every row. Assumes nothing.
 use Prim.Native.Nat.{ℕ, zero, suc, _+_, _*_, _-_, _≤_, _<_}
-use mathlib.Core.List.{List, [], _∷_, _++_, List·Memᴰ·not-nil, List·Memᴰ·append-cases}
+use mathlib.Core.List.{List, [], _∷_, List·Memᴰ·not-nil, List·Memᴰ·append-cases}
 use mathlib.Core.Logic.{_⊎_, inl, inr}
 use mathlib.Core.Option.{Option, some, none}
 use mathlib.Core.Path.{_≡_, refl, sym, ap, ap₂, subst, _∙_}
@@ -10,11 +10,11 @@ use native.Mathlib.Omega.{arith}
 use lib.ListN.{length, getElem?}
 use Rattle.lists.specs.Lists.{_∈_}
 use Rattle.lists.proofs.Places.{first, second, place-lt}
-use Rattle.formula.specs.declared.Row.{Row}
-use Rattle.formula.specs.declared.Row.the-variants.{True, False, Proposition, Negation, And, Or, Next, Until}
-use Rattle.formula.specs.Rows.{operands, times}
-use Rattle.formula.specs.Formula.{Formula, and, or, next, until, grow, tree, formulaOf, rootOf, size, Reaches, here, through}
-use Rattle.formula.specs.WellFormed.{RowAt, WellFormed}
+use Rattle.syntax.specs.declared.Row.{Row}
+use Rattle.syntax.specs.declared.Row.the-variants.{True, False, Proposition, Negation, And, Or, Next, Until}
+use Rattle.syntax.specs.Rows.{operands, times}
+use Rattle.syntax.specs.Formula.{Formula, and, or, next, until, grow, tree, formulaOf, rootOf, size, Reaches, here, through}
+use Rattle.syntax.specs.WellFormed.{RowAt, WellFormed}
 use Rattle.formula.proofs.Marks.{allOperands, uses-times}
 use Rattle.formula.proofs.Sums.{sumOf, sumFrom, sumOf-append, times-∈, sumFrom-last, sumFrom-same, sumOf-range}
 

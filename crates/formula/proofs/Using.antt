@@ -1,65 +1,17 @@
--- Which fields each kind of operator uses, and how a field that is used, or not, is read. Assumes nothing.
-use Prim.Native.Nat.{ℕ, _≤_}
+-- How a field that is used, or not, is read. Assumes nothing.
+use Prim.Native.Nat.{ℕ}
 use mathlib.Core.Bool.{Bool, true, false}
 use mathlib.Core.List.{List}
 use mathlib.Core.Path.{_≡_, refl, sym, ap, _∙_}
 use native.Mathlib.Omega.{arith}
-use lib.Dec.{eqb, ltb}
-use borrow.Author.Tests.{lt-leb, le-leb, lt-ltb, le-ltb, ltb-true, eq-eqb, eqb-true}
+use lib.Dec.{eqb}
+use borrow.Author.Tests.{lt-ltb, ltb-true, eq-eqb, eqb-true}
 use Rattle.wire.specs.declared.Field.the-variants.{Number}
 use Rattle.wire.specs.Field.{fieldAt}
 use Rattle.wire.specs.Read.{good, field}
 use Rattle.wire.proofs.Reading.{below-good, good-below, good-same, field-good}
-use Rattle.formula.specs.Rows.{usesLeft, usesRight, usesBound}
-use Rattle.formula.specs.Message.{illFormed, spare, operand}
+use Rattle.syntax.specs.Message.{illFormed, spare, operand}
 use Rattle.formula.proofs.Judging.{idle, named}
-
--- which fields an operator uses, and whether left is a proposition
-pub record Uses (operator : ℕ) (left right bound proposition : Bool) : Type 0 where
-  pub of-left : usesLeft operator ≡ left
-  pub of-right : usesRight operator ≡ right
-  pub of-bound : usesBound operator ≡ bound
-  pub names : ltb operator 4 ≡ proposition
-
-pub constant-uses : (o : ℕ) → o ≤ 1 → Uses o false false false true
-constant-uses o h = record {
-  of-left = lt-leb 2 o (omega arith);
-  of-right = rw (lt-ltb o 6 (omega arith)) (lt-leb 4 o (omega arith));
-  of-bound = lt-leb 6 o (omega arith);
-  names = lt-ltb o 4 (omega arith);
-}
-
-pub proposition-uses : (o : ℕ) → 2 ≤ o → o ≤ 3 → Uses o true false false true
-proposition-uses o l h = record {
-  of-left = le-leb 2 o l;
-  of-right = rw (lt-ltb o 6 (omega arith)) (lt-leb 4 o (omega arith));
-  of-bound = lt-leb 6 o (omega arith);
-  names = lt-ltb o 4 (omega arith);
-}
-
-pub pair-uses : (o : ℕ) → 4 ≤ o → o ≤ 5 → Uses o true true false false
-pair-uses o l h = record {
-  of-left = le-leb 2 o (omega arith);
-  of-right = rw (lt-ltb o 6 (omega arith)) (le-leb 4 o l);
-  of-bound = lt-leb 6 o (omega arith);
-  names = le-ltb o 4 l;
-}
-
-pub next-uses : (o : ℕ) → 6 ≤ o → o ≤ 7 → Uses o true false true false
-next-uses o l h = record {
-  of-left = le-leb 2 o (omega arith);
-  of-right = rw (le-ltb o 6 l) (lt-leb 8 o (omega arith));
-  of-bound = le-leb 6 o l;
-  names = le-ltb o 4 (omega arith);
-}
-
-pub full-uses : (o : ℕ) → 8 ≤ o → Uses o true true true false
-full-uses o l = record {
-  of-left = le-leb 2 o (omega arith);
-  of-right = rw (le-ltb o 6 (omega arith)) (le-leb 8 o l);
-  of-bound = le-leb 6 o (omega arith);
-  names = le-ltb o 4 (omega arith);
-}
 
 -- a field that is spare where it isn't used, and what it is then
 module _ (k : ℕ) (s : List ℕ) (at offset : ℕ) where

@@ -6,7 +6,7 @@ use lib.ListN.{length}
 use Rattle.refusal.specs.declared.Fault.{Fault}
 use Rattle.refusal.specs.Number.{nowhere}
 use Rattle.wire.specs.Start.{versionAt, kindAt}
-use Rattle.formula.specs.Format.{rowsCount, leftAt, rightAt, zeroAt, boundAt, placeOf}
+use Rattle.syntax.specs.Format.{rowsCount, leftAt, rightAt, zeroAt, boundAt, placeOf}
 
 -- where a field of the message s starts: the version, the kind, the row count, or a field of row i, which is inside
 pub data FieldStart (s : List ℕ) : ℕ → Type 0 where

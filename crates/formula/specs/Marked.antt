@@ -6,7 +6,7 @@ use mathlib.Core.Path.{_≡_}
 use lib.Dec.{eqb}
 use lib.ListN.{length, getD}
 use Rattle.formula.specs.declared.Uses.{Uses}
-use Rattle.formula.specs.Rows.{times}
+use Rattle.syntax.specs.Rows.{times}
 
 -- the rows that were used, in this order, are marked; a use again shows that one of them was used more than once
 pub record Marked (marks : List ℕ) (uses : Uses) (ls : List ℕ) : Type 0 where

@@ -12,10 +12,10 @@ use Rattle.wire.specs.Counts.{readCount}
 use Rattle.wire.specs.Write.{writeAll, message}
 use Rattle.model.specs.Message as model
 use Rattle.model.specs.Write.{writeModel, writeBody, writeTransition}
-use Rattle.formula.specs.declared.Row.{Row}
-use Rattle.formula.specs.Rows.{rowOf, times, uses, usedOnce}
-use Rattle.formula.specs.Message as formula
-use Rattle.formula.specs.Write.{writeFormula, writeRow}
+use Rattle.syntax.specs.declared.Row.{Row}
+use Rattle.syntax.specs.Rows.{rowOf, times, uses, usedOnce}
+use Rattle.syntax.specs.Message as formula
+use Rattle.syntax.specs.Write.{writeFormula, writeRow}
 use Rattle.known.specs.Questions.{M, T13, T14, T15}
 
 pub model-read : model.readModel (writeModel M) ≡ good M

@@ -12,7 +12,7 @@ use Rattle.rules.specs.Rounds.{rounds, round, best, worst, covered}
 use Rattle.rules.specs.Count.{count, unchanged}
 use Rattle.graph.specs.Stored.{ruled}
 use Rattle.reduction.specs.Built.{to, hyper}
-use Rattle.claims.specs.Claims.{Support, by-hyper, by-cover, Accepts}
+use Rattle.support.specs.Claims.{Support, by-hyper, by-cover, Accepts}
 use Rattle.known.specs.Table.{T12}
 
 module _ (rank : ℕ → ℕ) where

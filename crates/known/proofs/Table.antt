@@ -19,12 +19,12 @@ use Rattle.rules.specs.Rounds.{rounds, round, best, worst, covered}
 use Rattle.rules.specs.Count.{count, unchanged}
 use Rattle.graph.specs.Stored.{ruled}
 use Rattle.graph.specs.Write.{writeTarget, writeHyper, writeCover, writeBody, writeGraph}
-use Rattle.rounds.specs.declared.Outcome.the-variants as Outcome
-use Rattle.rounds.specs.Outcome.{outcomeNumber, outcomeCount, ended}
+use Rattle.turns.specs.declared.Outcome.the-variants as Outcome
+use Rattle.turns.specs.Outcome.{outcomeNumber, outcomeCount, ended}
 use Rattle.reduction.specs.Built.{out, near, layout, graphOf}
-use Rattle.verdict.specs.declared.Verdict.{Verdict}
-use Rattle.verdict.specs.Question.{Question, graphFor, rootNode}
-use Rattle.verdict.specs.Answer.{answerVerdict, verdictOf, answerOf}
+use Rattle.settling.specs.declared.Verdict.{Verdict}
+use Rattle.questions.specs.Question.{Question, graphFor, rootNode}
+use Rattle.settling.specs.Answer.{answerVerdict, verdictOf, answerOf}
 use Rattle.known.specs.Table.{Row, Given, graphIn, eachFrom, worked, ask, known, G}
 
 pub known-hold : map worked known ≡ map (λ (r : Row). r .gives) known

@@ -17,21 +17,21 @@ use Rattle.rules.specs.Graph.{Closed}
 use Rattle.rules.specs.Rounds.{rounds}
 use Rattle.rules.proofs.Count.{count-first}
 use Rattle.model.specs.Model.{Transition}
-use Rattle.formula.specs.declared.Quantifier.{Quantifier}
-use Rattle.formula.specs.declared.Quantifier.the-variants.{Some, Every}
-use Rattle.formula.specs.declared.Row.{Row}
-use Rattle.formula.specs.declared.Row.the-variants.{Proposition, Until}
-use Rattle.formula.specs.Rows.{operands}
-use Rattle.formula.specs.WellFormed.{RowAt}
+use Rattle.syntax.specs.declared.Quantifier.{Quantifier}
+use Rattle.syntax.specs.declared.Quantifier.the-variants.{Some, Every}
+use Rattle.syntax.specs.declared.Row.{Row}
+use Rattle.syntax.specs.declared.Row.the-variants.{Proposition, Until}
+use Rattle.syntax.specs.Rows.{operands}
+use Rattle.syntax.specs.WellFormed.{RowAt}
 use Rattle.formula.proofs.Trees.{Ordered}
 use Rattle.runs.proofs.Proper.{Proper}
 use Rattle.reduction.specs.Built.{graphOf}
 use Rattle.reduction.proofs.Built.{built-closed}
 use Rattle.reduction.proofs.Verdict.{yes-exactly}
-use Rattle.verdict.specs.declared.Verdict.{Verdict}
-use Rattle.verdict.specs.declared.Verdict.the-variants.{Yes}
-use Rattle.verdict.specs.Promise.{Satisfies}
-use Rattle.verdict.proofs.Deciding.{yes-zero}
+use Rattle.settling.specs.declared.Verdict.{Verdict}
+use Rattle.settling.specs.declared.Verdict.the-variants.{Yes}
+use Rattle.states.specs.Promise.{Satisfies}
+use Rattle.states.proofs.Deciding.{yes-zero}
 use Rattle.known.specs.Questions.{M, p0-until-p1, on-M, T13, T14, T15}
 use Rattle.known.specs.Table.{ask, known}
 use Rattle.known.proofs.Table.{row-within, row-verdict}

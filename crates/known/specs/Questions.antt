@@ -4,11 +4,11 @@ use mathlib.Core.List.{List, [], _∷_}
 use Rattle.value.specs.declared.Bound.{Bound}
 use Rattle.value.specs.declared.Bound.the-variants.{Within, Unbounded}
 use Rattle.model.specs.Model.{Model, Transition}
-use Rattle.formula.specs.declared.Quantifier.{Quantifier}
-use Rattle.formula.specs.declared.Quantifier.the-variants.{Some, Every}
-use Rattle.formula.specs.declared.Row.{Row}
-use Rattle.formula.specs.declared.Row.the-variants.{Proposition, Until}
-use Rattle.verdict.specs.Question.{Question}
+use Rattle.syntax.specs.declared.Quantifier.{Quantifier}
+use Rattle.syntax.specs.declared.Quantifier.the-variants.{Some, Every}
+use Rattle.syntax.specs.declared.Row.{Row}
+use Rattle.syntax.specs.declared.Row.the-variants.{Proposition, Until}
+use Rattle.questions.specs.Question.{Question}
 
 -- a transition by its parts, with action 0
 abbrev transition : (from weight to : ℕ) → Transition

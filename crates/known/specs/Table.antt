@@ -9,12 +9,12 @@ use Rattle.wire.specs.Read.{good}
 use Rattle.rules.specs.Graph.{Hyper, Cover}
 use Rattle.rules.specs.Rounds.{rounds}
 use Rattle.graph.specs.Stored.{StoredGraph, ruled}
-use Rattle.rounds.specs.Outcome.{outcomeNumber, outcomeCount, ended}
+use Rattle.turns.specs.Outcome.{outcomeNumber, outcomeCount, ended}
 use Rattle.reduction.specs.Built.{to, hyper}
-use Rattle.verdict.specs.declared.Verdict.{Verdict}
-use Rattle.verdict.specs.declared.Verdict.the-variants.{Yes, No}
-use Rattle.verdict.specs.Question.{Question, graphFor}
-use Rattle.verdict.specs.Answer.{answerVerdict, answerOf}
+use Rattle.settling.specs.declared.Verdict.{Verdict}
+use Rattle.settling.specs.declared.Verdict.the-variants.{Yes, No}
+use Rattle.questions.specs.Question.{Question, graphFor}
+use Rattle.settling.specs.Answer.{answerVerdict, answerOf}
 use Rattle.known.specs.Questions.{T13, T14, T15}
 
 -- a cover edge, and a graph

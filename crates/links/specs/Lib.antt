@@ -1,3 +1,2 @@
--- Definitions: the places at which a node is a target, linked; and what is taken in by them.
+-- Definitions: the places at which a node is a target, linked.
 pub mod Links
-pub mod Taken

@@ -1,4 +1,4 @@
--- Where each node is a target: a place for each target of a hyperedge and for each cover edge, linked for each node; and the nodes that changed.
+-- Where each node is a target: a place for each target of a hyperedge and for each cover edge, linked for each node.
 use Prim.Native.Nat.{ℕ, _+_, _*_, _<_, _≤_}
 use mathlib.Core.List.{List}
 use mathlib.Core.Logic.{_⊎_}
@@ -10,7 +10,6 @@ use Rattle.wire.specs.Layout.{end}
 use Rattle.rules.specs.Graph.{Target}
 use Rattle.graph.specs.Format.{graphHeader, hyperWidth, targetWidth, coverTargetAt, coverWidth}
 use Rattle.graph.specs.Layouts.{hyperLayout, coverLayout}
-use Rattle.halves.specs.Room.{Raised}
 
 -- a graph whose nodes, places and positions can be numbered
 pub record Fits (n h c middle : ℕ) : Type 0 where
@@ -65,11 +64,3 @@ pub record Index (s : List ℕ) (n h c middle : ℕ) (heads links spots : List �
   pub records : (v q : ℕ) → Reached links q (getD heads v 0) → RecordAt s n h c middle (getD spots q 0)
   pub hypers : (j : ℕ) (t : Target) → j < h → t ∈ targetsAt s n j → Finds heads links spots (t .node) (hyperAt s n j)
   pub covers : (j : ℕ) → j < c → Finds heads links spots (targetOf s n middle j) (coverAt s n middle j)
-
--- the first i numbers are brought up to the next round, and those of them that changed are listed
-pub record Listed (n i : ℕ) (b₀ b changed : List ℕ) (many : ℕ) : Type 0 where
-  pub raised : Raised n i b₀ b
-  pub long : length changed ≡ 4096
-  pub few : many ≤ i
-  pub named : (k : ℕ) → k < many → getD changed k 0 < i
-  pub reach : (v : ℕ) → v < i → ¬ (getD b₀ v 0 ≡ getD b₀ (n + v) 0) → (k : ℕ) × (k < many) × (getD changed k 0 ≡ v)

@@ -18,16 +18,17 @@ use Rattle.rules.specs.Rounds.{rounds, Agree}
 use Rattle.rules.specs.Count.{count}
 use Rattle.rules.specs.Walks.{CoverCycle}
 use Rattle.rules.proofs.Cycles.{free-count}
-use Rattle.rounds.specs.declared.Outcome.{Outcome}
-use Rattle.rounds.specs.Outcome.{outcomeCount, storedValues, filled, ended}
+use Rattle.turns.specs.declared.Outcome.{Outcome}
+use Rattle.turns.specs.Outcome.{outcomeCount, storedValues, filled, ended}
 use Rattle.graph.specs.Ready.{Storable}
 use Rattle.rounds.proofs.Promised.{stored-length, filled-at}
 use Rattle.rounds.proofs.Laws.{settled-within}
-use Rattle.claims.specs.Claims.{rankAt, claimWidth, claimedValue, claimedRank, AcceptsClaims}
+use Rattle.support.specs.Claims.{rankAt, claimWidth, claimedValue, claimedRank, AcceptsClaims}
 use Rattle.ranks.specs.Answers.{Filled}
-use Rattle.ranks.specs.Ranking.{unranked, Begun, Kept}
-use Rattle.claims.proofs.Accepted.{accepted-largest}
-use Rattle.ranks.proofs.Puts.{put-length, put-other, put-same, put-past}
+use Rattle.ranking.specs.Ranking.{unranked, Kept}
+use Rattle.ranks.specs.Begun.{Begun}
+use Rattle.support.proofs.Accepted.{accepted-largest}
+use Rattle.ranking.proofs.Puts.{put-length, put-other, put-same, put-past}
 
 -- ---- words that are cleared one after another
 

@@ -15,7 +15,7 @@ use Rattle.rules.specs.Graph.{Graph}
 use Rattle.rules.proofs.Order.{largest-unique}
 use Rattle.graph.specs.Stored.{StoredGraph, ruled}
 use Rattle.graph.specs.Message.{readGraph}
-use Rattle.claims.specs.Claims.{claimWidth, claimedValue}
+use Rattle.support.specs.Claims.{claimWidth, claimedValue}
 use Rattle.claims.specs.Answers.{claimsLength}
 use Rattle.ranks.specs.declared.Written.{Written}
 use Rattle.ranks.specs.declared.Written.the-variants as Written

@@ -21,13 +21,13 @@ use Rattle.rules.proofs.Order.{round-agree}
 use Rattle.graph.specs.Stored.{StoredGraph, ruled}
 use Rattle.graph.specs.Message.{readGraph}
 use Rattle.graph.proofs.Exact.{accepted-written}
-use Rattle.claims.specs.Claims.{rankAt, claimWidth, Support, by-hyper, by-cover, Accepts, AcceptsClaims}
+use Rattle.support.specs.Claims.{rankAt, claimWidth, Support, by-hyper, by-cover, Accepts, AcceptsClaims}
 use Rattle.claims.specs.declared.Judged.{Judged}
 use Rattle.claims.specs.declared.Judged.the-variants as Judged
 use Rattle.ranks.specs.declared.Written.the-variants as Written
 use Rattle.claims.specs.Answers.{claimsLength, readClaims, Judges}
 use Rattle.ranks.specs.Answers.{Narrow, Filled, WritesOf, filled, Writes}
-use Rattle.ranks.proofs.Puts.{number-same}
+use Rattle.ranking.proofs.Puts.{number-same}
 
 -- ---- claims are accepted by what they say of the nodes
 

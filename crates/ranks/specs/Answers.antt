@@ -11,7 +11,7 @@ use Rattle.rules.specs.Graph.{Graph}
 use Rattle.rules.specs.Rounds.{Largest}
 use Rattle.rules.specs.Walks.{CoverCycle}
 use Rattle.graph.specs.Stored.{StoredGraph, ruled}
-use Rattle.claims.specs.Claims.{claimedValue, AcceptsClaims}
+use Rattle.support.specs.Claims.{claimedValue, AcceptsClaims}
 use Rattle.claims.specs.Answers.{claimsLength}
 use Rattle.ranks.specs.declared.Written.{Written}
 use Rattle.ranks.specs.declared.Written.the-variants as Written

@@ -1,5 +1,4 @@
--- Definitions: what the writer of claims answers; what is known of labels and ranks on the way.
+-- Definitions: what the writer of claims answers; what it begins with.
 pub mod Answers
 pub mod Promise
-pub mod Ranking
-pub mod Labels
+pub mod Begun

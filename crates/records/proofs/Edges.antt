@@ -21,7 +21,7 @@ use Rattle.graph.specs.Format.{hyperWidth}
 use Rattle.graph.specs.Write.{writeTarget, writeHyper}
 use Rattle.model.specs.Format.{weightAt, actionAt, toAt, transitionWidth, transitionAt}
 use Rattle.model.specs.Model.{Transition}
-use Rattle.formula.specs.declared.Action.{Action}
+use Rattle.syntax.specs.declared.Action.{Action}
 use Rattle.reduction.specs.Built.{to, hyper, looksAt}
 use Rattle.transitions.specs.Held.{transitionLayout, transitionsFrom, Reads}
 use Rattle.records.specs.Bytes.{singleWidth, pairWidth, hypersBytes, everyNext}

@@ -11,7 +11,7 @@ use lib.Seq.{length-take-le, take-at, drop-drop, drop-append-add}
 use Rattle.lists.specs.Lists.{_∈_}
 use Rattle.lists.specs.Making.{keep}
 use Rattle.value.specs.declared.Bound.{Bound}
-use Rattle.formula.specs.declared.Action.{Action}
+use Rattle.syntax.specs.declared.Action.{Action}
 use Rattle.wire.specs.Bytes.{number}
 use Rattle.wire.specs.Laid.{laid, Laid}
 use Rattle.wire.specs.Layout.{items}
@@ -24,8 +24,8 @@ use Rattle.graph.specs.Write.{writeTarget}
 use Rattle.graph.proofs.Exact.{target-length}
 use Rattle.model.specs.Format.{weightAt, actionAt, toAt, transitionWidth, transitionAt}
 use Rattle.model.specs.Model.{Transition}
-use Rattle.formula.specs.declared.Quantifier.{Quantifier}
-use Rattle.formula.specs.declared.Quantifier.the-variants.{Some, Every}
+use Rattle.syntax.specs.declared.Quantifier.{Quantifier}
+use Rattle.syntax.specs.declared.Quantifier.the-variants.{Some, Every}
 use Rattle.reduction.specs.Built.{to, looksAt}
 use Rattle.transitions.specs.Held.{transitionLayout, transitionsFrom, Reads}
 use Rattle.records.specs.Bytes.{hypersBytes, someNext, everyNext, nearBytes, nearWidth, nearbyBytes}

@@ -5,17 +5,16 @@ use lib.ListN.{length}
 use Rattle.lists.specs.Lists.{_∈_}
 use Rattle.lists.specs.Making.{keep, span}
 use Rattle.value.specs.declared.Bound.{Bound}
-use Rattle.wire.specs.Bytes.{bytes}
 use Rattle.wire.specs.Write.{writeAll}
 use Rattle.graph.specs.Format.{hyperWidth, targetWidth}
 use Rattle.graph.specs.Write.{writeTarget, writeHyper, writeCover}
 use Rattle.rules.specs.Graph.{Target}
 use Rattle.model.specs.Model.{Model, Transition}
-use Rattle.formula.specs.declared.Quantifier.{Quantifier}
-use Rattle.formula.specs.declared.Quantifier.the-variants.{Some, Every}
-use Rattle.formula.specs.declared.Action.{Action}
-use Rattle.formula.specs.declared.Row.{Row}
-use Rattle.formula.specs.Rows.{operands}
+use Rattle.syntax.specs.declared.Quantifier.{Quantifier}
+use Rattle.syntax.specs.declared.Quantifier.the-variants.{Some, Every}
+use Rattle.syntax.specs.declared.Action.{Action}
+use Rattle.syntax.specs.declared.Row.{Row}
+use Rattle.syntax.specs.Rows.{operands}
 use Rattle.transitions.specs.Looked.{isNear}
 use Rattle.reduction.specs.Built.{to, hyper, out, looksAt, rowEdges, ifAny, stepEdges, helperEdges, ifUntil, layout}
 

@@ -13,8 +13,8 @@ ghost use Rattle.transitions.specs.Held.{transitionsFrom, Reads};
 ghost use Rattle.transitions.specs.Looked.{leafEdges};
 ghost use Rattle.records.specs.Bytes.{singleWidth, pairWidth, hypersBytes, nearBytes, nearWidth, nearbyBytes, stepBytes, stepsBytes, nextEdges};
 ghost use Rattle.transitions.specs.Looked.{lowest, highest, isNear};
-use formula::Action;
-use formula::Quantifier;
+use syntax::Action;
+use syntax::Quantifier;
 use value::Bound;
 use wire::Width;
 

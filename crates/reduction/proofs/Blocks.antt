@@ -20,10 +20,10 @@ use Rattle.rules.specs.Graph.{Graph, Target, Hyper, Cover}
 use Rattle.rules.specs.Rounds.{Assignment, round}
 use Rattle.rules.proofs.Reasons.{Reason, by-cover, by-hyper, reason, at-most}
 use Rattle.model.specs.Model.{Model}
-use Rattle.formula.specs.declared.Quantifier.{Quantifier}
-use Rattle.formula.specs.declared.Row.{Row}
-use Rattle.formula.specs.declared.Row.the-variants.{Until}
-use Rattle.formula.specs.WellFormed.{RowAt}
+use Rattle.syntax.specs.declared.Quantifier.{Quantifier}
+use Rattle.syntax.specs.declared.Row.{Row}
+use Rattle.syntax.specs.declared.Row.the-variants.{Until}
+use Rattle.syntax.specs.WellFormed.{RowAt}
 use Rattle.reduction.specs.Built.{hyper, rowEdges, helperEdges, untils, helperAt, graphOf}
 use Rattle.reduction.proofs.Stands.{Stands, apart, until-place, OfRow, OfHelper, hyper-stands, row-stands, helper-stands, Covers, cover-stands, limit-stands}
 

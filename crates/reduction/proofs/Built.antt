@@ -18,9 +18,9 @@ use Rattle.rules.specs.Graph.{Hyper, Target, Closed}
 use Rattle.graph.specs.WellFormed as graph
 use Rattle.model.specs.Model.{Model}
 use Rattle.model.specs.WellFormed as model
-use Rattle.formula.specs.declared.Row.{Row}
-use Rattle.formula.specs.Rows.{operands}
-use Rattle.formula.specs.WellFormed as formula
+use Rattle.syntax.specs.declared.Row.{Row}
+use Rattle.syntax.specs.Rows.{operands}
+use Rattle.syntax.specs.WellFormed as formula
 use Rattle.formula.proofs.Trees.{Ordered, ordered}
 use Rattle.runs.specs.Systems.{Leads, systemOf}
 use Rattle.runs.proofs.Proper.{Proper, proper}

@@ -19,13 +19,13 @@ use Rattle.value.proofs.Peak.{peak}
 use Rattle.rules.specs.Graph.{Target}
 use Rattle.rules.specs.Rounds.{Assignment, Obeys}
 use Rattle.model.specs.Model.{Model}
-use Rattle.formula.specs.declared.Quantifier.{Quantifier}
-use Rattle.formula.specs.declared.Quantifier.the-variants.{Some, Every}
-use Rattle.formula.specs.declared.Row.{Row}
-use Rattle.formula.specs.declared.Row.the-variants.{True, False, Proposition, Negation, And, Or, Next, Until}
-use Rattle.formula.specs.Formula.{grow, formulaOf}
-use Rattle.formula.specs.Rows.{operands}
-use Rattle.formula.specs.WellFormed.{RowAt}
+use Rattle.syntax.specs.declared.Quantifier.{Quantifier}
+use Rattle.syntax.specs.declared.Quantifier.the-variants.{Some, Every}
+use Rattle.syntax.specs.declared.Row.{Row}
+use Rattle.syntax.specs.declared.Row.the-variants.{True, False, Proposition, Negation, And, Or, Next, Until}
+use Rattle.syntax.specs.Formula.{grow, formulaOf}
+use Rattle.syntax.specs.Rows.{operands}
+use Rattle.syntax.specs.WellFormed.{RowAt}
 use Rattle.formula.proofs.Trees.{Ordered, formula-of-row}
 use Rattle.runs.specs.Systems.{Leads, systemOf}
 use Rattle.runs.specs.Sat as sat

@@ -22,10 +22,10 @@ use Rattle.rules.proofs.Walks.{layered-free}
 use Rattle.rules.proofs.Cycles.{free-count}
 use Rattle.model.specs.Model.{Model}
 use Rattle.model.specs.WellFormed as model
-use Rattle.formula.specs.declared.Row.{Row}
-use Rattle.formula.specs.Rows.{operands}
-use Rattle.formula.specs.WellFormed as formula
-use Rattle.formula.specs.WellFormed.{RowAt}
+use Rattle.syntax.specs.declared.Row.{Row}
+use Rattle.syntax.specs.Rows.{operands}
+use Rattle.syntax.specs.WellFormed as formula
+use Rattle.syntax.specs.WellFormed.{RowAt}
 use Rattle.formula.proofs.Trees.{Ordered, ordered}
 use Rattle.runs.proofs.Proper.{Proper, proper}
 use Rattle.reduction.specs.Built.{to, stepEdges, isUntil, untils, hyper, graphOf}

@@ -15,8 +15,8 @@ use Rattle.value.specs.declared.Bound.{Bound}
 use Rattle.value.specs.Value.{inside}
 use Rattle.rules.specs.Graph.{Target}
 use Rattle.model.specs.Model.{Model, Transition}
-use Rattle.formula.specs.declared.Action.{Action}
-use Rattle.formula.specs.Rows.{allows}
+use Rattle.syntax.specs.declared.Action.{Action}
+use Rattle.syntax.specs.Rows.{allows}
 use Rattle.runs.specs.Systems.{Leads, Step, systemOf}
 use Rattle.reduction.specs.Built.{to, endOf, leaving, out, looksAt, near, ifAny}
 

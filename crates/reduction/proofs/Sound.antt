@@ -8,7 +8,7 @@ use mathlib.Core.Path.{_≡_, refl}
 use mathlib.Core.Logic.{inl, inr}
 use mathlib.Core.Bool.{Bool, true, false, cond, not}
 use mathlib.Core.Option.{some}
-use mathlib.Core.List.{List, [], _∷_, map, List·Memᴰ·head, List·Memᴰ·tail, List·Memᴰ·eq-of-singleton, Memᴰ·map, Memᴰ·of-map}
+use mathlib.Core.List.{List, [], _∷_, List·Memᴰ·head, List·Memᴰ·tail, List·Memᴰ·eq-of-singleton, Memᴰ·map, Memᴰ·of-map}
 use Rattle.lists.specs.Lists.{_∈_}
 use Rattle.lists.proofs.Places.{first, second, place-lt, element}
 use Rattle.value.specs.declared.Bound.{Bound}
@@ -18,13 +18,13 @@ use Rattle.value.proofs.Values.{≼-plus, ≼-inf, meets-inside}
 use Rattle.rules.specs.Graph.{Target}
 use Rattle.rules.specs.Rounds.{Assignment, round, rounds}
 use Rattle.model.specs.Model.{Model, holds}
-use Rattle.formula.specs.declared.Quantifier.{Quantifier}
-use Rattle.formula.specs.declared.Quantifier.the-variants.{Some, Every}
-use Rattle.formula.specs.declared.Row.{Row}
-use Rattle.formula.specs.declared.Row.the-variants.{True, False, Proposition, Negation, And, Or, Next, Until}
-use Rattle.formula.specs.Formula.{grow, formulaOf}
-use Rattle.formula.specs.Rows.{operands}
-use Rattle.formula.specs.WellFormed.{RowAt}
+use Rattle.syntax.specs.declared.Quantifier.{Quantifier}
+use Rattle.syntax.specs.declared.Quantifier.the-variants.{Some, Every}
+use Rattle.syntax.specs.declared.Row.{Row}
+use Rattle.syntax.specs.declared.Row.the-variants.{True, False, Proposition, Negation, And, Or, Next, Until}
+use Rattle.syntax.specs.Formula.{grow, formulaOf}
+use Rattle.syntax.specs.Rows.{operands}
+use Rattle.syntax.specs.WellFormed.{RowAt}
 use Rattle.formula.proofs.Trees.{Ordered, formula-of-row}
 use Rattle.runs.specs.Systems.{System, Leads, systemOf}
 use Rattle.runs.specs.Sat as sat

@@ -16,10 +16,10 @@ use Rattle.lists.proofs.Places.{first, place-lt}
 use Rattle.value.specs.declared.Bound.{Bound}
 use Rattle.rules.specs.Graph.{Graph, Target, Hyper, Cover}
 use Rattle.model.specs.Model.{Model}
-use Rattle.formula.specs.declared.Quantifier.{Quantifier}
-use Rattle.formula.specs.declared.Row.{Row}
-use Rattle.formula.specs.declared.Row.the-variants.{True, False, Proposition, Negation, And, Or, Next, Until}
-use Rattle.formula.specs.WellFormed.{RowAt}
+use Rattle.syntax.specs.declared.Quantifier.{Quantifier}
+use Rattle.syntax.specs.declared.Row.{Row}
+use Rattle.syntax.specs.declared.Row.the-variants.{True, False, Proposition, Negation, And, Or, Next, Until}
+use Rattle.syntax.specs.WellFormed.{RowAt}
 use Rattle.reduction.specs.Built.{layout, hyper, cover, rowEdges, helperEdges, rowCovers, ifUntil, isUntil, untils, helperAt, graphOf}
 
 -- ---- the edges of a layout

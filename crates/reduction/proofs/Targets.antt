@@ -8,11 +8,11 @@ use Rattle.lists.proofs.Places.{first, second}
 use Rattle.lists.proofs.Each.{Each, each-none, each-more, each-map}
 use Rattle.rules.specs.Graph.{Target}
 use Rattle.model.specs.Model.{Model, holds}
-use Rattle.formula.specs.declared.Quantifier.{Quantifier}
-use Rattle.formula.specs.declared.Quantifier.the-variants.{Some, Every}
-use Rattle.formula.specs.declared.Row.{Row}
-use Rattle.formula.specs.declared.Row.the-variants.{True, False, Proposition, Negation, And, Or, Next, Until}
-use Rattle.formula.specs.Rows.{operands}
+use Rattle.syntax.specs.declared.Quantifier.{Quantifier}
+use Rattle.syntax.specs.declared.Quantifier.the-variants.{Some, Every}
+use Rattle.syntax.specs.declared.Row.{Row}
+use Rattle.syntax.specs.declared.Row.the-variants.{True, False, Proposition, Negation, And, Or, Next, Until}
+use Rattle.syntax.specs.Rows.{operands}
 use Rattle.runs.specs.Systems.{Leads, systemOf}
 use Rattle.runs.proofs.Proper.{Proper}
 use Rattle.reduction.specs.Built.{to, out, near, rowEdges, stepEdges}

@@ -11,8 +11,8 @@ use Rattle.value.specs.Value.{Value, fin, inf, _≼_}
 use Rattle.value.proofs.Values.{fin-≼, ≼-fin, ≼-inf}
 use Rattle.rules.specs.Rounds.{rounds, Settled}
 use Rattle.model.specs.Model.{Model}
-use Rattle.formula.specs.declared.Row.{Row}
-use Rattle.formula.specs.Formula.{formulaOf}
+use Rattle.syntax.specs.declared.Row.{Row}
+use Rattle.syntax.specs.Formula.{formulaOf}
 use Rattle.formula.proofs.Trees.{Ordered}
 use Rattle.runs.specs.Systems.{systemOf}
 use Rattle.runs.specs.Sat.{Sat}

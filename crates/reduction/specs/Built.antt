@@ -10,12 +10,12 @@ use Rattle.value.specs.declared.Bound.{Bound}
 use Rattle.value.specs.Value.{inside}
 use Rattle.rules.specs.Graph.{Graph, Hyper, Cover, Target}
 use Rattle.model.specs.Model.{Model, Transition, holds}
-use Rattle.formula.specs.declared.Quantifier.{Quantifier}
-use Rattle.formula.specs.declared.Quantifier.the-variants.{Some, Every}
-use Rattle.formula.specs.declared.Action.{Action}
-use Rattle.formula.specs.Rows.{allows}
-use Rattle.formula.specs.declared.Row.{Row}
-use Rattle.formula.specs.declared.Row.the-variants.{True, False, Proposition, Negation, And, Or, Next, Until}
+use Rattle.syntax.specs.declared.Quantifier.{Quantifier}
+use Rattle.syntax.specs.declared.Quantifier.the-variants.{Some, Every}
+use Rattle.syntax.specs.declared.Action.{Action}
+use Rattle.syntax.specs.Rows.{allows}
+use Rattle.syntax.specs.declared.Row.{Row}
+use Rattle.syntax.specs.declared.Row.the-variants.{True, False, Proposition, Negation, And, Or, Next, Until}
 pub use Rattle.reduction.specs.Fits.{Fits}
 
 -- a hyperedge's target

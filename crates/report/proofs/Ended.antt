@@ -21,19 +21,19 @@ use Rattle.graph.specs.Write.{writeGraph}
 use Rattle.model.specs.Model.{Model}
 use Rattle.model.specs.Message.{readModel}
 use Rattle.model.proofs.Good.{header-good, model-good}
-use Rattle.formula.specs.Formula.{rootOf}
-use Rattle.formula.specs.Message.{readFormula}
+use Rattle.syntax.specs.Formula.{rootOf}
+use Rattle.syntax.specs.Message.{readFormula}
 use Rattle.wording.specs.Text.{text}
 use Rattle.lists.proofs.Making.{span-agree}
-use Rattle.verdict.specs.Question.{Question, readQuestion, graphFor, nodesOf, rootNode}
-use Rattle.verdict.specs.Answer.{roomed, readSettled, allOf, valuesOf}
-use Rattle.verdict.specs.declared.AllStates.the-variants as AllStates
-use Rattle.verdict.proofs.Deciding.{zero-test}
-use Rattle.verdict.proofs.Finished.{roomed-good, ended-as, node-inside, node-holds}
-use Rattle.verdict.proofs.Promised.{asks}
-use Rattle.verdict.proofs.Reading.{question-parts}
-use Rattle.report.specs.Lines.{line, refusedLine, roundsLine, stateLine}
-use Rattle.report.specs.Pieces.{statesLines, textIn, endedLines}
+use Rattle.questions.specs.Question.{Question, readQuestion, graphFor, nodesOf, rootNode}
+use Rattle.settling.specs.Answer.{roomed, readSettled, allOf, valuesOf}
+use Rattle.settling.specs.declared.AllStates.the-variants as AllStates
+use Rattle.states.proofs.Deciding.{zero-test}
+use Rattle.states.proofs.Finished.{roomed-good, ended-as, node-inside, node-holds}
+use Rattle.states.proofs.Promised.{asks}
+use Rattle.questions.proofs.Reading.{question-parts}
+use Rattle.pieces.specs.Lines.{line, refusedLine, roundsLine, stateLine}
+use Rattle.pieces.specs.Pieces.{statesLines, textIn, endedLines}
 use Rattle.report.specs.Output.{budgetOf, settledLines, outputWithin, outputOf, leftOf}
 
 -- where the budget allows the count, the lines are those of the settled question

@@ -14,17 +14,17 @@ use Rattle.wire.proofs.Reading.{bind-good}
 use Rattle.rules.specs.Rounds.{rounds}
 use Rattle.rules.specs.Count.{count}
 use Rattle.model.specs.WellFormed as model
-use Rattle.formula.specs.WellFormed as formula
+use Rattle.syntax.specs.WellFormed as formula
 use Rattle.reduction.proofs.Depths.{built-count}
 use Rattle.build.specs.Built.{fits}
-use Rattle.verdict.specs.Question.{Question, graphFor, ruledFor, rootNode}
-use Rattle.verdict.specs.Answer.{readSettled}
-use Rattle.verdict.specs.Promise.{Asks, Satisfies}
-use Rattle.verdict.proofs.Deciding.{test-when}
+use Rattle.questions.specs.Question.{Question, graphFor, ruledFor, rootNode}
+use Rattle.settling.specs.Answer.{readSettled}
+use Rattle.states.specs.Promise.{Asks, Satisfies}
+use Rattle.states.proofs.Deciding.{test-when}
 use Rattle.rules.proofs.Count.{count-first, count-le}
-use Rattle.verdict.proofs.Finished.{roomed-good}
-use Rattle.verdict.proofs.Fitting.{fits-well}
-use Rattle.verdict.proofs.Promised.{asks}
+use Rattle.states.proofs.Finished.{roomed-good}
+use Rattle.settling.proofs.Settling.{fits-well}
+use Rattle.states.proofs.Promised.{asks}
 use Rattle.report.specs.Output.{readInput, budgetOf, settledLines, outputWithin, outputOf}
 use Rattle.report.proofs.Ended.{within-settles}
 

@@ -13,13 +13,14 @@ use Rattle.wire.specs.Laid.{laid, Laid}
 use Rattle.wire.specs.Read.{Read, good, bad}
 use Rattle.wire.proofs.Laid.{same-length}
 use Rattle.wire.proofs.Reading.{good-then, bad-then, bind-good, demand-good, good-same}
-use Rattle.verdict.specs.Question.{Question}
-use Rattle.verdict.specs.Answer.{readSettled, bytesOf}
-use Rattle.report.specs.declared.Cut.{Cut}
-use Rattle.report.specs.declared.Cut.the-variants as Cut
-use Rattle.report.specs.Lines.{refusedLine}
-use Rattle.report.specs.Pieces.{cutOf}
-use Rattle.report.specs.Output.{readCut, readInput, outputWithin, outputOf, leftOf, reportLength, reportOut, reportBytes, reportValues}
+use Rattle.questions.specs.Question.{Question}
+use Rattle.settling.specs.Answer.{readSettled, bytesOf}
+use Rattle.pieces.specs.declared.Cut.{Cut}
+use Rattle.pieces.specs.declared.Cut.the-variants as Cut
+use Rattle.pieces.specs.Lines.{refusedLine}
+use Rattle.pieces.specs.Pieces.{cutOf}
+use Rattle.pieces.specs.Cut.{readCut}
+use Rattle.report.specs.Output.{readInput, outputWithin, outputOf, leftOf, reportLength, reportOut, reportBytes, reportValues}
 
 -- ---- where the model ends
 

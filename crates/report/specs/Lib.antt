@@ -1,4 +1,2 @@
--- Definitions: the lines that the program writes, and its whole output.
-pub mod Lines
+-- Definitions: the whole output of the program.
 pub mod Output
-pub mod Pieces

@@ -6,24 +6,16 @@ use lib.ListN.{length, take, drop, replicate}
 use lib.Dec.{leb}
 use Rattle.lists.specs.Making.{span}
 use Rattle.refusal.specs.Number.{overBudget, numberOf, nowhere}
-use Rattle.refusal.specs.declared.Refusal.the-variants.{Length}
 use Rattle.value.specs.Value.{atMost}
-use Rattle.wire.specs.Read.{Read, good, bad, _>>=_, _>>_, demand, field}
+use Rattle.wire.specs.Read.{Read, good, bad, _>>=_}
 use Rattle.rules.specs.Rounds.{rounds}
 use Rattle.rules.specs.Count.{count}
-use Rattle.formula.specs.Formula.{rootOf}
+use Rattle.syntax.specs.Formula.{rootOf}
 use Rattle.wording.specs.Text.{text}
-use Rattle.verdict.specs.Question.{Question, ruledFor, rootNode}
-use Rattle.verdict.specs.Answer.{readSettled, bytesOf, valuesOf}
-use Rattle.report.specs.Lines.{line, refusedLine, roundsLine, stateLine}
-
--- at most 8,192 bytes; the model ends where its length field says; if that can't be done, or the input is longer, LENGTH
-unfoldable pub readCut : (input : List ℕ) → Read ℕ
-readCut input = do
-  demand (leb (length input) 8192) Length nowhere
-  total ← field 4 input 0
-  demand (leb total (length input)) Length nowhere
-  good total
+use Rattle.questions.specs.Question.{Question, ruledFor, rootNode}
+use Rattle.settling.specs.Answer.{readSettled, bytesOf, valuesOf}
+use Rattle.pieces.specs.Cut.{readCut}
+use Rattle.pieces.specs.Lines.{line, refusedLine, roundsLine, stateLine}
 
 -- a model followed by a formula, and what settling them asks for before BUDGET
 unfoldable pub readInput : (input bytes values : List ℕ) → Read Question

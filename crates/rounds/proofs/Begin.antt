@@ -17,9 +17,9 @@ use Rattle.graph.specs.Answers.{checked}
 use Rattle.graph.specs.Layouts.{decoded}
 use Rattle.graph.proofs.Answered.{checked-refused}
 use Rattle.graph.proofs.Ready.{Begin}
-use Rattle.rounds.specs.declared.Outcome.{Outcome}
-use Rattle.rounds.specs.declared.Outcome.the-variants.{Refused}
-use Rattle.rounds.specs.Outcome.{outcomeCount, filled, readRounds, ended, outcomeOf, roundsRoom}
+use Rattle.turns.specs.declared.Outcome.{Outcome}
+use Rattle.turns.specs.declared.Outcome.the-variants.{Refused}
+use Rattle.turns.specs.Outcome.{outcomeCount, filled, readRounds, ended, outcomeOf, roundsRoom}
 use Rattle.rounds.specs.Promise.{Promise}
 use Rattle.rounds.proofs.Promised.{kept}
 use Rattle.rounds.proofs.Laws.{count-reported}

@@ -13,8 +13,8 @@ use Rattle.refusal.proofs.Numbers.{number-above}
 use Rattle.wire.specs.Read.{Read, good, bad}
 use Rattle.rules.specs.Count.{count}
 use Rattle.graph.specs.Stored.{StoredGraph, ruled}
-use Rattle.rounds.specs.declared.Outcome.the-variants as Outcome
-use Rattle.rounds.specs.Outcome.{outcomeNumber, readRounds, ended, outcomeOf}
+use Rattle.turns.specs.declared.Outcome.the-variants as Outcome
+use Rattle.turns.specs.Outcome.{outcomeNumber, readRounds, ended, outcomeOf}
 
 pub rounds-budget : (s : List ℕ) (budget : ℕ) (room : List ℕ)
     → (outcomeNumber (outcomeOf (readRounds s room) budget) ≡ overBudget) ↔ ((g : StoredGraph) × (readRounds s room ≡ good g) × (budget < count (ruled g)))

@@ -17,8 +17,8 @@ use Rattle.rules.specs.Rounds.{rounds}
 use Rattle.rules.specs.Count.{count}
 use Rattle.graph.specs.Stored.{StoredGraph}
 use Rattle.graph.specs.Message.{readGraph}
-use Rattle.rounds.specs.declared.Outcome.the-variants.{Settled, Spent, Refused}
-use Rattle.rounds.specs.Outcome.{outcomeCount, storedValues, filled, readRounds, ended, outcomeOf, roundsRoom}
+use Rattle.turns.specs.declared.Outcome.the-variants.{Settled, Spent, Refused}
+use Rattle.turns.specs.Outcome.{outcomeCount, storedValues, filled, readRounds, ended, outcomeOf, roundsRoom}
 use Rattle.rounds.proofs.Promised.{stored-length, rounds-read}
 
 -- the reported count is the smaller of the budget and the first unchanged round

@@ -4,9 +4,6 @@ use mathlib.Core.Path.{_≡_, sym, _∙_}
 use denote.Ref.{now}
 use Rattle.rounds.proofs.solve.Reads as solve
 use Rattle.rounds.proofs.run.Reads as run
-use Rattle.rounds.proofs.Outcome.number.Reads as Outcome-number
-use Rattle.rounds.proofs.Outcome.offset.Reads as Outcome-offset
-use Rattle.rounds.proofs.Outcome.count.Reads as Outcome-count
 
 -- `rounds::solve`: the answer and the room
 pub one-solve : (κs : _) (a : _) (r r′ : _) (s s′ : _) → solve.Post κs a r s → solve.Post κs a r′ s′
@@ -17,18 +14,3 @@ one-solve κs a r r′ s s′ p q = (p .0 ∙ sym (q .0), p .1 .0 ∙ sym (q .1 
 pub one-run : (κs : _) (a : _) (r r′ : _) (s s′ : _) → run.Post κs a r s → run.Post κs a r′ s′
     → (r ≡ r′) × (now (s .1 .1 .1 .1 .1 .0) ≡ now (s′ .1 .1 .1 .1 .1 .0))
 one-run κs a r r′ s s′ p q = let same : r ≡ r′ = p .0 ∙ sym (q .0) in (same, p .1 ∙ rw same (sym (q .1)))
-
--- `rounds::Outcome::number`
-pub one-number : (κs : _) (a : _) (r r′ : _) (s s′ : _) → Outcome-number.Post κs a r s → Outcome-number.Post κs a r′ s′
-    → r ≡ r′
-one-number κs a r r′ s s′ p q = p ∙ sym q
-
--- `rounds::Outcome::offset`
-pub one-offset : (κs : _) (a : _) (r r′ : _) (s s′ : _) → Outcome-offset.Post κs a r s → Outcome-offset.Post κs a r′ s′
-    → r ≡ r′
-one-offset κs a r r′ s s′ p q = p ∙ sym q
-
--- `rounds::Outcome::count`
-pub one-count : (κs : _) (a : _) (r r′ : _) (s s′ : _) → Outcome-count.Post κs a r s → Outcome-count.Post κs a r′ s′
-    → r ≡ r′
-one-count κs a r r′ s s′ p q = p ∙ sym q

@@ -30,9 +30,9 @@ use Rattle.graph.specs.Write.{writeGraph}
 use Rattle.graph.specs.WellFormed.{WellFormed, Accepted}
 use Rattle.graph.proofs.Ready.{rounds-fit}
 use Rattle.graph.proofs.Exact.{accepted-written}
-use Rattle.rounds.specs.declared.Outcome.the-variants.{Settled, Spent, Refused}
+use Rattle.turns.specs.declared.Outcome.the-variants.{Settled, Spent, Refused}
 use Rattle.halves.specs.Held.{held}
-use Rattle.rounds.specs.Outcome.{storedValues, filled, readRounds, ended, outcomeOf, roundsRoom}
+use Rattle.turns.specs.Outcome.{storedValues, filled, readRounds, ended, outcomeOf, roundsRoom}
 use Rattle.rounds.specs.Promise.{Halves, SettledAt, SpentAt, Promise}
 
 -- the stored values one by one

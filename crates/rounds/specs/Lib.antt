@@ -1,4 +1,2 @@
--- Definitions: the outcome, the promise, and what the room holds where a turn begins.
-pub mod Outcome
+-- Definitions: the promise.
 pub mod Promise
-pub mod Turns

@@ -13,8 +13,8 @@ use Rattle.rules.specs.Walks.{CoverCycle}
 use Rattle.graph.specs.Stored.{StoredGraph, ruled}
 use Rattle.graph.specs.WellFormed.{Accepted}
 use Rattle.halves.specs.Held.{held}
-use Rattle.rounds.specs.Outcome.{outcomeNumber, outcomeCount}
-use Rattle.rounds.specs.declared.Outcome.{Outcome}
+use Rattle.turns.specs.Outcome.{outcomeNumber, outcomeCount}
+use Rattle.turns.specs.declared.Outcome.{Outcome}
 
 -- the first n numbers are round i, the next n are round i + 1, and no finite number of the two is above (n - 1) w
 pub record Halves (graph : Graph) (i : ℕ) (room : List ℕ) : Type 0 where

@@ -1,17 +1,17 @@
 -- At a dead state EX is false, AX true, and both untils hold exactly where right holds. Assumes nothing.
-use Prim.Native.Nat.{ℕ, suc, zero, _≤_}
-use native.Mathlib.Nat.{le-refl, not-suc-le-zero}
+use Prim.Native.Nat.{ℕ, suc, zero}
+use native.Mathlib.Nat.{not-suc-le-zero}
 use native.Mathlib.Omega.{arith}
 use mathlib.Core.Path.{_≡_, refl}
 use mathlib.Core.Logic.{_↔_}
 use Rattle.value.specs.declared.Bound.{Bound}
-use Rattle.formula.specs.declared.Quantifier.{Quantifier}
-use Rattle.formula.specs.declared.Quantifier.the-variants.{Some, Every}
-use Rattle.formula.specs.declared.Action.{Action}
-use Rattle.formula.specs.Formula.{Formula, next, until}
+use Rattle.syntax.specs.declared.Quantifier.{Quantifier}
+use Rattle.syntax.specs.declared.Quantifier.the-variants.{Some, Every}
+use Rattle.syntax.specs.declared.Action.{Action}
+use Rattle.syntax.specs.Formula.{Formula, next, until}
 use Rattle.runs.specs.Systems.{System}
-use Rattle.runs.specs.Runs.{Dead, Ending, Run, endless, ending}
-use Rattle.runs.specs.Sat.{Witness, Witnessed, Until, Sat}
+use Rattle.runs.specs.Runs.{Dead, Run, endless, ending}
+use Rattle.runs.specs.Sat.{Witnessed, Until, Sat}
 use Rattle.runs.proofs.Untils.{run-now}
 
 module _ (S : System) {a : S .State} (dead : Dead S a) where

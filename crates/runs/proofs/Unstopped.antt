@@ -7,14 +7,14 @@ use mathlib.Core.Path.{_≡_}
 use mathlib.Core.Logic.{_↔_, _⊎_, ⊎-map}
 use mathlib.Core.Bool.{true, false}
 use Rattle.value.specs.declared.Bound.{Bound}
-use Rattle.formula.specs.declared.Quantifier.{Quantifier}
-use Rattle.formula.specs.declared.Quantifier.the-variants.{Some, Every}
-use Rattle.formula.specs.declared.Action.{Action}
-use Rattle.formula.specs.Formula.{Formula, true′, false′, prop, not-prop, and, or, next, until}
+use Rattle.syntax.specs.declared.Quantifier.{Quantifier}
+use Rattle.syntax.specs.declared.Quantifier.the-variants.{Some, Every}
+use Rattle.syntax.specs.declared.Action.{Action}
+use Rattle.syntax.specs.Formula.{Formula, true′, false′, prop, not-prop, and, or, next, until}
 use Rattle.model.specs.Model.{Model}
 use Rattle.runs.specs.Systems.{System, Leads, systemOf}
-use Rattle.runs.specs.Runs.{Dead, Endless, Ending, Run, endless, ending}
-use Rattle.runs.specs.Sat.{Next, Witness, Witnessed, Until, Sat}
+use Rattle.runs.specs.Runs.{Dead, Endless, Ending, endless, ending}
+use Rattle.runs.specs.Sat.{Next, Witness, Until, Sat}
 use Rattle.runs.proofs.Proper.{Proper}
 
 -- an until by endless runs, and satisfaction by it: `Until` and `Sat` as they were

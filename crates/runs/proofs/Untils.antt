@@ -9,8 +9,8 @@ use Rattle.value.specs.declared.Bound.{Bound}
 use Rattle.value.specs.declared.Bound.the-variants.{Within}
 use Rattle.value.specs.Value.{inside}
 use Rattle.value.proofs.Values.{inside-le, inside-zero}
-use Rattle.formula.specs.declared.Quantifier.{Quantifier}
-use Rattle.formula.specs.declared.Quantifier.the-variants.{Some, Every}
+use Rattle.syntax.specs.declared.Quantifier.{Quantifier}
+use Rattle.syntax.specs.declared.Quantifier.the-variants.{Some, Every}
 use Rattle.runs.specs.Systems.{System, Leads}
 use Rattle.runs.specs.Runs.{Dead, Endless, Ending, Run, endless, ending, total}
 use Rattle.runs.specs.Sat.{Witness, Witnessed, Until}

@@ -7,8 +7,8 @@ use Rattle.value.specs.declared.Bound.{Bound}
 use Rattle.value.specs.Value.{Value, meets, _≼_}
 use Rattle.value.proofs.Values.{inside-meets}
 use Rattle.model.specs.Model.{Model}
-use Rattle.formula.specs.declared.Quantifier.{Quantifier}
-use Rattle.formula.specs.declared.Quantifier.the-variants.{Some, Every}
+use Rattle.syntax.specs.declared.Quantifier.{Quantifier}
+use Rattle.syntax.specs.declared.Quantifier.the-variants.{Some, Every}
 use Rattle.runs.specs.Systems.{System, Leads, systemOf}
 use Rattle.runs.specs.Runs.{Endless, Ending, endless, ending, total}
 use Rattle.runs.specs.Sat.{Witness, Until}

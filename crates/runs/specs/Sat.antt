@@ -5,11 +5,11 @@ use mathlib.Core.Logic.{_⊎_}
 use mathlib.Core.Bool.{true, false}
 use Rattle.value.specs.declared.Bound.{Bound}
 use Rattle.value.specs.Value.{inside}
-use Rattle.formula.specs.declared.Quantifier.{Quantifier}
-use Rattle.formula.specs.declared.Quantifier.the-variants.{Some, Every}
-use Rattle.formula.specs.declared.Action.{Action}
-use Rattle.formula.specs.Rows.{allows}
-use Rattle.formula.specs.Formula.{Formula, true′, false′, prop, not-prop, and, or, next, until}
+use Rattle.syntax.specs.declared.Quantifier.{Quantifier}
+use Rattle.syntax.specs.declared.Quantifier.the-variants.{Some, Every}
+use Rattle.syntax.specs.declared.Action.{Action}
+use Rattle.syntax.specs.Rows.{allows}
+use Rattle.syntax.specs.Formula.{Formula, true′, false′, prop, not-prop, and, or, next, until}
 use Rattle.runs.specs.Systems.{System}
 use Rattle.runs.specs.Runs.{Run, endless, ending, total}
 

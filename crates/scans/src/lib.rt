@@ -5,11 +5,10 @@ ghost use Prim.Native.Nat.{ℕ, _+_, _-_, _*_, _<_, _≤_, min};
 ghost use lib.ListN.{length, getD};
 ghost use Rattle.wire.specs.Bytes.{number};
 ghost use Rattle.wire.specs.Layout.{items, end, Sound};
-ghost use Rattle.value.specs.Value.{plus};
 ghost use Rattle.value.specs.Stored.{stored, infinite};
 ghost use Rattle.rules.specs.Rounds as rules;
-ghost use Rattle.graph.specs.Format.{graphHeader, targetCountAt, nodeAt, coverWidth};
-ghost use Rattle.graph.specs.Layouts.{targetLayout, hyperLayout, coverLayout, TargetOk, HyperOk};
+ghost use Rattle.graph.specs.Format.{graphHeader, targetCountAt, coverWidth};
+ghost use Rattle.graph.specs.Layouts.{hyperLayout, coverLayout, HyperOk};
 ghost use Rattle.halves.specs.Held.{held};
 ghost use Rattle.halves.specs.Room.{half};
 ghost use Rattle.scans.specs.Scan.{Sides, lowered, hyperIn, Done, partOf};
@@ -17,86 +16,8 @@ use value::Bound;
 use value::Value;
 use wire::Width;
 
-// Weight plus value of the target at a position.
-fn target_sum(s: &[u8], n: usize, x: &[u64], at: usize) -> Value
-    requires { ⌜ TargetOk (now s) n at ⌝ }
-    requires { ⌜ n ≤ length (now x) ⌝ }
-    ensures { λ r. ⌜ r .0 ≡ stored (plus (number 4 (now (s .entry)) at) (held (now (x .entry)) (number 2 (now (s .entry)) (at + nodeAt)))) ⌝ }
-{
-    let weight = wire::number_at(s, at, Width::Four);
-    let node = wire::number_at(s, at + graph::NODE_AT, Width::Two) as usize;
-    let value = x[node];
-    Value(value).add(weight)
-}
-
-// The greatest weight plus value over k targets at a position; 0 with none. The first stands before the loop: many have no other.
-// Once one is infinite so is the greatest, and the targets left are not read.
-fn worst(s: &[u8], n: usize, x: &[u64], k: u32, at: usize) -> Value
-    requires { ⌜ Sound (targetLayout (now s) n) k at ⌝ }
-    requires { ⌜ n ≤ length (now x) ⌝ }
-    ensures { λ r. ⌜ r .0 ≡ stored (rules.worst (held (now (x .entry))) (items (targetLayout (now (s .entry)) n) k at)) ⌝ }
-{
-    if k == 0 {
-        return Value(0);
-    }
-    let mut most = target_sum(s, n, x, at);
-    let mut i = k - 1;
-    let mut p = at + graph::TARGET;
-    while 0 < i {
-        if most.0 == Value::INFINITE.0 {
-            return most;
-        }
-        let sum = target_sum(s, n, x, p);
-        most = most.greatest(sum);
-        p += graph::TARGET;
-        i -= 1;
-    }
-    most
-}
-
 // From so many targets on a hyperedge has a loop of its own.
 const LONG: u32 = 8;
-
-// How far weight plus value of the target at a position stays below infinity; 0 where it is infinite.
-fn below_infinite(s: &[u8], n: usize, x: &[u64], at: usize) -> u64
-    requires { ⌜ TargetOk (now s) n at ⌝ }
-    requires { ⌜ n ≤ length (now x) ⌝ }
-    ensures { λ r. ⌜ r ≡ infinite - stored (plus (number 4 (now (s .entry)) at) (held (now (x .entry)) (number 2 (now (s .entry)) (at + nodeAt)))) ⌝ }
-{
-    let weight = wire::number_at(s, at, Width::Four) as u64;
-    let node = wire::number_at(s, at + graph::NODE_AT, Width::Two) as usize;
-    let value = x[node];
-    let below = Value::INFINITE.0 - value;
-    if below <= weight {
-        return 0;
-    }
-    below - weight
-}
-
-// The same as `worst`, for many targets. What is kept is how far the greatest stays below infinity, the least of those of the targets: a
-// processor finds a least in fewer steps than a greatest.
-fn worst_of_many(s: &[u8], n: usize, x: &[u64], k: u32, at: usize) -> Value
-    requires { ⌜ Sound (targetLayout (now s) n) k at ⌝ }
-    requires { ⌜ n ≤ length (now x) ⌝ }
-    ensures { λ r. ⌜ r .0 ≡ stored (rules.worst (held (now (x .entry))) (items (targetLayout (now (s .entry)) n) k at)) ⌝ }
-{
-    let mut least = Value::INFINITE.0;
-    let mut i = k;
-    let mut p = at;
-    while 0 < i {
-        let below = below_infinite(s, n, x, p);
-        if below == 0 {
-            return Value::INFINITE;
-        }
-        p += graph::TARGET;
-        i -= 1;
-        if below < least {
-            least = below;
-        }
-    }
-    let most = Value::INFINITE.0 - least;
-    Value(most)
-}
 
 // Lowers the next number of the source of the hyperedge at a position to a value, where that is less.
 fn lower(s: &[u8], n: usize, to: usize, at: usize, value: Value, room: &mut [u64])
@@ -121,7 +42,7 @@ pub fn take_hyper(s: &[u8], n: usize, from: usize, to: usize, k: u32, at: usize,
     ensures { λ _. ⌜ now (room .exit) ≡ hyperIn (now (s .entry)) n from to at (now (room .entry)) ⌝ }
 {
     let stop = from + n;
-    let value = worst(s, n, &room[from..stop], k, at + graph::HYPER);
+    let value = targets::worst(s, n, &room[from..stop], k, at + graph::HYPER);
     lower(s, n, to, at, value, room);
 }
 
@@ -134,7 +55,7 @@ fn take_long(s: &[u8], n: usize, from: usize, to: usize, k: u32, at: usize, room
     ensures { λ _. ⌜ now (room .exit) ≡ hyperIn (now (s .entry)) n from to at (now (room .entry)) ⌝ }
 {
     let stop = from + n;
-    let given = worst_of_many(s, n, &room[from..stop], k, at + graph::HYPER);
+    let given = targets::worst_of_many(s, n, &room[from..stop], k, at + graph::HYPER);
     lower(s, n, to, at, given, room);
 }
 

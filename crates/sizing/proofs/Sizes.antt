@@ -9,17 +9,17 @@ use lib.ListN.{length, length-map}
 use lib.Dec.{ltb, eqb}
 use borrow.Author.Tests.{ltb-true, ltb-false, le-ltb, eqb-true, eqb-false}
 use Rattle.lists.specs.Lists.{_∈_}
-use Rattle.lists.specs.Making.{keep, span}
-use Rattle.lists.proofs.Tests.{by-test, clash}
+use Rattle.lists.specs.Making.{span}
+use Rattle.lists.proofs.Tests.{by-test}
 use Rattle.lists.proofs.Kept.{keep-length}
 use Rattle.value.specs.declared.Bound.{Bound}
-use Rattle.formula.specs.declared.Action.{Action}
+use Rattle.syntax.specs.declared.Action.{Action}
 use Rattle.rules.specs.Graph.{Target}
 use Rattle.model.specs.Model.{Model, holds}
-use Rattle.formula.specs.declared.Quantifier.{Quantifier}
-use Rattle.formula.specs.declared.Quantifier.the-variants.{Some, Every}
-use Rattle.formula.specs.declared.Row.{Row}
-use Rattle.formula.specs.declared.Row.the-variants.{True, False, Proposition, Negation, And, Or, Next, Until}
+use Rattle.syntax.specs.declared.Quantifier.{Quantifier}
+use Rattle.syntax.specs.declared.Quantifier.the-variants.{Some, Every}
+use Rattle.syntax.specs.declared.Row.{Row}
+use Rattle.syntax.specs.declared.Row.the-variants.{True, False, Proposition, Negation, And, Or, Next, Until}
 use Rattle.reduction.specs.Built.{to, out, looksAt, near, rowEdges, ifAny, helperEdges}
 use Rattle.sizing.specs.declared.Size.{Size}
 use Rattle.sizing.specs.Size.{noSize, addSize, sizeOf, stateEdges, rowsEdges, nextSize, stepSize, helperSize}

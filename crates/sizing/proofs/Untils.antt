@@ -7,10 +7,10 @@ use denote.Enum.Declared.{tagOf, declared}
 use types.Run.{OneOf, miss}
 use Rattle.lists.proofs.Tests.{clash}
 use Rattle.value.specs.declared.Bound.{Bound}
-use Rattle.formula.specs.declared.Quantifier.{Quantifier}
-use Rattle.formula.specs.declared.Row.{Row}
-use Rattle.formula.specs.declared.Row.the-variants.{True, False, Proposition, Negation, And, Or, Next, Until}
-use Rattle.formula.proofs.Row.{enum}
+use Rattle.syntax.specs.declared.Quantifier.{Quantifier}
+use Rattle.syntax.specs.declared.Row.{Row}
+use Rattle.syntax.specs.declared.Row.the-variants.{True, False, Proposition, Negation, And, Or, Next, Until}
+use Rattle.syntax.proofs.Row.{enum}
 use Rattle.reduction.specs.Built.{ifUntil, isUntil}
 
 pub other-row : {X : Type 0} (row : Row) (f : Quantifier → ℕ → ℕ → Bound → X) (x : X) → isUntil row ≡ false → ifUntil row f x ≡ x

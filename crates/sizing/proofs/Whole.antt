@@ -19,7 +19,7 @@ use Rattle.graph.specs.Format.{coverWidth, graphLength}
 use Rattle.graph.specs.WellFormed.{targetsOf}
 use Rattle.graph.specs.Write.{writeCover, writeBody, writeGraph}
 use Rattle.model.specs.Model.{Model}
-use Rattle.formula.specs.declared.Row.{Row}
+use Rattle.syntax.specs.declared.Row.{Row}
 use Rattle.reduction.specs.Built.{rowEdges, helperEdges, isUntil, untils, rowCovers, layout, hyper, cover, CoverEnd, graphOf}
 use Rattle.sizing.specs.declared.Size.{Size}
 use Rattle.sizing.specs.Size.{noSize, addSize, sizeOf, stateEdges, rowsEdges}

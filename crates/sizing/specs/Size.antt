@@ -7,9 +7,9 @@ use lib.Dec.{ltb, leb}
 use Rattle.lists.specs.Making.{span}
 use Rattle.rules.specs.Graph.{Target}
 use Rattle.model.specs.Model.{Model}
-use Rattle.formula.specs.declared.Row.{Row}
-use Rattle.formula.specs.declared.Quantifier.{Quantifier}
-use Rattle.formula.specs.declared.Quantifier.the-variants.{Some, Every}
+use Rattle.syntax.specs.declared.Row.{Row}
+use Rattle.syntax.specs.declared.Quantifier.{Quantifier}
+use Rattle.syntax.specs.declared.Quantifier.the-variants.{Some, Every}
 use Rattle.reduction.specs.Built.{rowEdges, helperEdges, ifUntil}
 use Rattle.sizing.specs.declared.Size.{Size}
 

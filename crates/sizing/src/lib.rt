@@ -9,8 +9,8 @@ ghost use Rattle.reduction.specs.Built as built;
 ghost use Rattle.transitions.specs.Held.{heldModel, heldRows, HoldsModel, HoldsRows, Starts, Own};
 ghost use Rattle.sizing.specs.Size.{inLimits, addSize, sizeOf, stateEdges, rowsEdges, nextSize, helperSize};
 ghost use Rattle.transitions.specs.Looked.{leafEdges};
-use formula::Quantifier;
-use formula::Row;
+use syntax::Quantifier;
+use syntax::Row;
 
 // How many hyperedges, how many targets in all, and in the one with the most.
 pub struct Size {
@@ -195,12 +195,12 @@ pub fn total_size(m: &[u8], n: u32, p: u32, t: u32, table: &[u32], f: &[u8], k: 
     ensures { λ r. ⌜ r ≡ sizeOf (rowsEdges (heldModel (now (m .entry)) n p t) (heldRows (now (f .entry)) k)) ⌝ }
 {
     let mut sum = Size::NONE;
-    let mut at = formula::HEADER;
+    let mut at = syntax::HEADER;
     let mut i = k;
     while 0 < i {
-        let row = formula::row_at(f, at);
+        let row = syntax::row_at(f, at);
         sum = sum.plus(row_total(m, n, p, t, table, row));
-        at += formula::ROW;
+        at += syntax::ROW;
         i -= 1;
     }
     sum
@@ -212,11 +212,11 @@ pub fn count_untils(f: &[u8], k: u32, p: u32) -> u32
     ensures { λ r. ⌜ r ≡ length (built.untils (heldRows (now (f .entry)) k)) ⌝ }
 {
     let mut untils: u32 = 0;
-    let mut at = formula::HEADER;
+    let mut at = syntax::HEADER;
     let mut i = k;
     while 0 < i {
-        let row = formula::row_at(f, at);
-        at += formula::ROW;
+        let row = syntax::row_at(f, at);
+        at += syntax::ROW;
         i -= 1;
         if let Row::Until(_, _, _, _) = row {
             untils += 1;

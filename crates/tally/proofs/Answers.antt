@@ -7,11 +7,12 @@ use lib.Dec.{ltb, leb}
 use borrow.Author.Tests.{le-leb, lt-leb, ltb-true, ltb-false, leb-true}
 use Rattle.lists.proofs.Tests.{by-test, and-left, and-right}
 use Rattle.refusal.specs.declared.Refusal.the-variants.{Name, Limit}
-use Rattle.tally.specs.declared.Entry.{Entry}
-use Rattle.tally.specs.declared.Entry.the-variants.{Yes, No, Refused}
+use Rattle.entries.specs.declared.Entry.{Entry}
+use Rattle.entries.specs.declared.Entry.the-variants.{Yes, No, Refused}
 use Rattle.tally.specs.declared.Tally.{Tally}
 use Rattle.tally.specs.declared.Answer.the-variants as Answer
-use Rattle.tally.specs.Tally.{mostAccepted, isEntry, roundsOf, places, countPlace, together, countedAt, takesMore}
+use Rattle.entries.specs.Entries.{isEntry, roundsOf, places, countPlace}
+use Rattle.tally.specs.Tally.{mostAccepted, together, countedAt, takesMore}
 use Rattle.tally.specs.Entered.{turnedAway, enterOf}
 
 -- an entry of the table has a place

@@ -12,12 +12,13 @@ use Rattle.lists.proofs.Kept.{keep-pass, keep-fail}
 use Rattle.lists.proofs.Tests.{by-test, clash}
 use Rattle.refusal.specs.declared.Refusal.{Refusal}
 use Rattle.refusal.specs.declared.Refusal.the-variants.{Name, Limit}
-use Rattle.tally.specs.declared.Entry.{Entry}
+use Rattle.entries.specs.declared.Entry.{Entry}
 use Rattle.tally.specs.declared.Tally.{Tally}
 use Rattle.tally.specs.declared.Answer.{Answer}
 use Rattle.tally.specs.declared.Answer.the-variants as Answer
 use Rattle.tally.specs.declared.Entered.{Entered}
-use Rattle.tally.specs.Tally.{mostAccepted, isEntry, roundsOf, places, atZero, together, takesMore}
+use Rattle.entries.specs.Entries.{isEntry, roundsOf, places}
+use Rattle.tally.specs.Tally.{mostAccepted, atZero, together, takesMore}
 use Rattle.tally.specs.Entered.{turnedAway, enterOf}
 use Rattle.tally.specs.History.{tallyAfter, isAccepted, acceptedFrom, firstEntries, countAt, sumRounds, largestRounds, sheetOf, handedIn, FourBytes}
 use Rattle.tally.proofs.Spelled.{spread-at}

@@ -4,13 +4,14 @@ use mathlib.Core.List.{List, [], _∷_, _++_}
 use mathlib.Core.Path.{_≡_, refl}
 use lib.ListN.{length}
 use Rattle.decimals.specs.Decimal.{word, decimalIn}
-use Rattle.tally.specs.declared.Entry.{Entry}
-use Rattle.tally.specs.declared.Entry.the-variants.{Yes, No, Refused}
+use Rattle.entries.specs.declared.Entry.{Entry}
+use Rattle.entries.specs.declared.Entry.the-variants.{Yes, No, Refused}
 use Rattle.tally.specs.declared.Tally.{Tally}
 use Rattle.tally.specs.Tally.{atZero, together, countedAt, takesMore}
 use Rattle.tally.specs.Entered.{answerNumber, enterOf}
 use Rattle.tally.specs.History.{tallyAfter, acceptedFrom}
-use Rattle.tally.specs.Report.{lines, numbersOf}
+use Rattle.lines.specs.Lines.{lines}
+use Rattle.tally.specs.Report.{numbersOf}
 
 -- yes and no, BUDGET with the most rounds, DEAD with rounds that don't count, 0 and 12, which are none, and PROFILE
 abbrev night : List Entry

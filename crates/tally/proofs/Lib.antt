@@ -4,7 +4,6 @@
 --     Answers    what entering answers, case by case
 --     Sheets     the sheet of a history with one entry more
 --     History    a tally that began at zero is the sheet of what was accepted
---     Lines      the lines of the report, and the answer in each case
 --     Tells      the report determines the tally
 --     Known      known sheets
 --     One        one answer of each public function
@@ -13,7 +12,6 @@ pub mod Counting
 pub mod Answers
 pub mod Sheets
 pub mod History
-pub mod Lines
 pub mod Tells
 pub mod Known
 pub mod One

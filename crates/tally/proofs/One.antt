@@ -1,25 +1,15 @@
 -- One answer and one content of every lent room: two calls with the same arguments that satisfy the contract of a public function agree.
 -- Here a are the arguments, r is the result, and s is what stands in each argument at the end, in the order of the parameters. Assumes nothing.
 use mathlib.Core.Path.{_≡_, sym, _∙_}
-use denote.Ref.{now}
 use Rattle.tally.proofs.Answer.number.Reads as Answer-number
-use Rattle.tally.proofs.Entry.returned.Reads as Entry-returned
 use Rattle.tally.proofs.Tally.zero.Reads as Tally-zero
 use Rattle.tally.proofs.Tally.enter.Reads as Tally-enter
 use Rattle.tally.proofs.Tally.numbers.Reads as Tally-numbers
-use Rattle.tally.proofs.Reported.number.Reads as Reported-number
-use Rattle.tally.proofs.Reported.length.Reads as Reported-length
-use Rattle.tally.proofs.report.Reads as report
 
 -- `tally::Answer::number`
 pub one-answer-number : (κs : _) (a : _) (r r′ : _) (s s′ : _) → Answer-number.Post κs a r s → Answer-number.Post κs a r′ s′
     → r ≡ r′
 one-answer-number κs a r r′ s s′ p q = p ∙ sym q
-
--- `tally::Entry::returned`
-pub one-returned : (κs : _) (a : _) (r r′ : _) (s s′ : _) → Entry-returned.Post κs a r s → Entry-returned.Post κs a r′ s′
-    → r ≡ r′
-one-returned κs a r r′ s s′ p q = p ∙ sym q
 
 -- `tally::Tally::zero`
 pub one-zero : (κs : _) (a : _) (r r′ : _) (s s′ : _) → Tally-zero.Post κs a r s → Tally-zero.Post κs a r′ s′
@@ -35,18 +25,3 @@ one-enter κs a r r′ s s′ p q = p ∙ sym q
 pub one-numbers : (κs : _) (a : _) (r r′ : _) (s s′ : _) → Tally-numbers.Post κs a r s → Tally-numbers.Post κs a r′ s′
     → r ≡ r′
 one-numbers κs a r r′ s s′ p q = p ∙ sym q
-
--- `tally::Reported::number`
-pub one-reported-number : (κs : _) (a : _) (r r′ : _) (s s′ : _) → Reported-number.Post κs a r s → Reported-number.Post κs a r′ s′
-    → r ≡ r′
-one-reported-number κs a r r′ s s′ p q = p ∙ sym q
-
--- `tally::Reported::length`
-pub one-reported-length : (κs : _) (a : _) (r r′ : _) (s s′ : _) → Reported-length.Post κs a r s → Reported-length.Post κs a r′ s′
-    → r ≡ r′
-one-reported-length κs a r r′ s s′ p q = p ∙ sym q
-
--- `tally::report`: the answer and the room
-pub one-report : (κs : _) (a : _) (r r′ : _) (s s′ : _) → report.Post κs a r s → report.Post κs a r′ s′
-    → (r ≡ r′) × (now (s .1 .0) ≡ now (s′ .1 .0))
-one-report κs a r r′ s s′ p q = (p .0 ∙ sym (q .0), p .1 ∙ sym (q .1))

@@ -14,9 +14,10 @@ use Rattle.lists.proofs.Kept.{keep-pass, keep-fail}
 use Rattle.lists.proofs.Places.{first}
 use Rattle.lists.proofs.Tests.{by-test}
 use Rattle.refusal.specs.Number.{overBudget}
-use Rattle.tally.specs.declared.Entry.{Entry}
-use Rattle.tally.specs.declared.Entry.the-variants.{Yes, No, Refused}
-use Rattle.tally.specs.Tally.{isEntry, roundsOf, places, countPlace, atZero, together, countedAt}
+use Rattle.entries.specs.declared.Entry.{Entry}
+use Rattle.entries.specs.declared.Entry.the-variants.{Yes, No, Refused}
+use Rattle.entries.specs.Entries.{isEntry, roundsOf, places, countPlace}
+use Rattle.tally.specs.Tally.{atZero, together, countedAt}
 use Rattle.tally.specs.History.{countAt, sumRounds, largestRounds, sheetOf, handedIn}
 use Rattle.tally.proofs.Spelled.{spread, spread-more, spread-length}
 use Rattle.tally.proofs.Counting.{count-more}

@@ -7,17 +7,11 @@ use lib.ListN.{length, getD, set, drop}
 use lib.Seq.{drop-cons}
 use Rattle.lists.specs.Making.{span}
 use Rattle.lists.proofs.Making.{span-agree}
+use Rattle.lines.proofs.Lines.{past-end}
 
 -- f 0, f 1, .. for n places
 abbrev pub spread : (ℕ → ℕ) → ℕ → ℕ → List ℕ
 spread f = span (λ i. f i ∷ [])
-
--- nothing stands past the end
-pub past-end : (l : List ℕ) (i : ℕ) → length l ≤ i → drop i l ≡ []
-past-end [] zero h = refl
-past-end [] (suc i) h = refl
-past-end (a ∷ l) zero h = absurd (omega arith)
-past-end (a ∷ l) (suc i) h = past-end l i (omega arith)
 
 -- what stands at the places from i on
 pub spelled : (l : List ℕ) (i k : ℕ) → i + k ≡ length l → spread (λ j. getD l j 0) i k ≡ drop i l

@@ -10,8 +10,9 @@ use Rattle.lists.proofs.Places.{first}
 use Rattle.decimals.specs.Decimal.{longDecimal}
 use Rattle.decimals.proofs.Decimal.{value, leading, after, leading-digits, after-digits, decimal-digits, decimal-value}
 use Rattle.tally.specs.declared.Tally.{Tally}
-use Rattle.tally.specs.Tally.{places}
-use Rattle.tally.specs.Report.{lines, numbersOf, Stored}
+use Rattle.entries.specs.Entries.{places}
+use Rattle.lines.specs.Lines.{lines}
+use Rattle.tally.specs.Report.{numbersOf, Stored}
 
 -- so many numbers, each ended by a line feed
 unfoldable pub numbersIn : ℕ → List ℕ → List ℕ

@@ -4,12 +4,13 @@ use mathlib.Core.Bool.{cond}
 use Rattle.refusal.specs.Number.{ok, numberOf}
 use Rattle.refusal.specs.declared.Refusal.{Refusal}
 use Rattle.refusal.specs.declared.Refusal.the-variants.{Name, Limit}
-use Rattle.tally.specs.declared.Entry.{Entry}
+use Rattle.entries.specs.declared.Entry.{Entry}
 use Rattle.tally.specs.declared.Tally.{Tally}
 use Rattle.tally.specs.declared.Answer.{Answer}
 use Rattle.tally.specs.declared.Answer.the-variants as Answer
 use Rattle.tally.specs.declared.Entered.{Entered}
-use Rattle.tally.specs.Tally.{isEntry, roundsOf, countPlace, countedAt, takesMore}
+use Rattle.entries.specs.Entries.{isEntry, roundsOf, countPlace}
+use Rattle.tally.specs.Tally.{countedAt, takesMore}
 
 -- the paper's number of an answer
 abbrev pub answerNumber : Answer → ℕ

@@ -5,12 +5,13 @@ use mathlib.Core.Bool.{Bool, true, false, cond}
 use lib.Dec.{eqb}
 use lib.ListN.{length, take}
 use Rattle.lists.specs.Making.{keep, span}
-use Rattle.tally.specs.declared.Entry.{Entry}
-use Rattle.tally.specs.declared.Entry.the-variants.{Yes, No, Refused}
+use Rattle.entries.specs.declared.Entry.{Entry}
+use Rattle.entries.specs.declared.Entry.the-variants.{Yes, No, Refused}
 use Rattle.tally.specs.declared.Tally.{Tally}
 use Rattle.tally.specs.declared.Answer.{Answer}
 use Rattle.tally.specs.declared.Answer.the-variants as Answer
-use Rattle.tally.specs.Tally.{mostAccepted, isEntry, roundsOf, places, countPlace}
+use Rattle.entries.specs.Entries.{isEntry, roundsOf, places, countPlace}
+use Rattle.tally.specs.Tally.{mostAccepted}
 use Rattle.tally.specs.Entered.{enterOf}
 
 -- the tally after a sequence of entries

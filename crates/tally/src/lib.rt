@@ -1,21 +1,15 @@
-// The nightly sheet: one running tally that each verdict is entered into, and its report. The tally goes in by value and comes back.
+// The nightly sheet: one running tally that each verdict is entered into. The tally goes in by value and comes back.
 ghost use mathlib.Core.Path.{_≡_};
-ghost use Prim.Native.Nat.{_+_, _≤_, _<_, _^_};
-ghost use lib.ListN.{length, getD};
+ghost use Prim.Native.Nat.{_+_, _<_, _^_};
+ghost use lib.ListN.{getD};
 ghost use lib.Dec.{ltb};
-ghost use Rattle.wire.specs.Laid.{Laid};
-ghost use Rattle.tally.specs.Tally.{mostAccepted, isEntry, roundsOf, countPlace, together, atZero, takesMore, countedAt};
+ghost use Rattle.tally.specs.Tally.{mostAccepted, together, atZero, takesMore, countedAt};
 ghost use Rattle.tally.specs.Entered.{answerNumber, enterOf};
-ghost use Rattle.tally.specs.Returned.{entryOf};
-ghost use Rattle.tally.specs.Report.{lines, numbersOf, reportedNumber, reportedLength, reportedOf, reportRoom};
+ghost use Rattle.tally.specs.Report.{numbersOf};
+pub use entries::Entry;
+pub use lines::Reported;
+pub use lines::report;
 use refusal::Refusal;
-
-// What is entered: yes, no or a refusal's number, with the rounds that were reported.
-pub enum Entry {
-    Yes(u32),
-    No(u32),
-    Refused(u8, u32),
-}
 
 // How many entries were yes, no, and each refusal number from 1 to 11; the sum of their rounds, and the largest.
 #[repr(C)]
@@ -45,64 +39,6 @@ impl Answer {
         match self {
             Answer::Accepted => 0,
             Answer::Refused(e) => e.number(),
-        }
-    }
-}
-
-impl Entry {
-    // The entry of what a call returned: yes or no where it returned OK, else its refusal. What no call returns is an entry that the table
-    // doesn't have.
-    pub fn returned(number: u8, verdict: u8, rounds: u32) -> Self
-        ensures { λ r. ⌜ r ≡ entryOf number verdict rounds ⌝ }
-    {
-        if verdict == 0 {
-            return Entry::Refused(number, rounds);
-        }
-        if number != 0 {
-            return Entry::Refused(0, rounds);
-        }
-        match verdict {
-            1 => Entry::Yes(rounds),
-            2 => Entry::No(rounds),
-            _ => Entry::Refused(0, rounds),
-        }
-    }
-
-    // Whether it is yes, no or a number of the table.
-    fn is_entry(self) -> bool
-        ensures { λ r. ⌜ r ≡ isEntry self ⌝ }
-    {
-        match self {
-            Entry::Yes(_) => true,
-            Entry::No(_) => true,
-            Entry::Refused(n, _) => 1 <= n && n <= 11,
-        }
-    }
-
-    // Which of the counts it goes into.
-    fn place(self) -> usize
-        ensures { λ r. ⌜ r ≡ countPlace self ⌝ }
-    {
-        match self {
-            Entry::Yes(_) => 0,
-            Entry::No(_) => 1,
-            Entry::Refused(n, _) => n as usize + 1,
-        }
-    }
-
-    // The rounds that count: BUDGET is the one refusal that has any.
-    fn rounds(self) -> u64
-        ensures { λ r. ⌜ r ≡ roundsOf self ⌝ }
-    {
-        match self {
-            Entry::Yes(rounds) => rounds as u64,
-            Entry::No(rounds) => rounds as u64,
-            Entry::Refused(n, rounds) => {
-                if n == 1 {
-                    return rounds as u64;
-                }
-                0
-            }
         }
     }
 }
@@ -208,61 +144,4 @@ impl Tally {
             self.largest,
         ]
     }
-}
-
-// The length of the report, or why it was not written.
-pub enum Reported {
-    Text(usize),
-    Refused(Refusal),
-}
-
-impl Reported {
-    // The number that the paper gives the answer.
-    pub fn number(self) -> u8
-        ensures { λ r. ⌜ r ≡ reportedNumber self ⌝ }
-    {
-        match self {
-            Reported::Text(_) => 0,
-            Reported::Refused(e) => e.number(),
-        }
-    }
-
-    // The returned length.
-    pub fn length(self) -> usize
-        ensures { λ r. ⌜ r ≡ reportedLength self ⌝ }
-    {
-        match self {
-            Reported::Text(n) => n,
-            Reported::Refused(_) => 0,
-        }
-    }
-}
-
-// Stores numbers in decimal at the lines-front of a room, each ended by a line feed; returns the position past them.
-fn put_lines(room: &mut [u8], numbers: &[u64]) -> usize
-    requires { ⌜ length (lines (now numbers)) ≤ length (now room) ⌝ }
-    ensures { λ r. ⌜ Laid (now (room .entry)) 0 (lines (now (numbers .entry))) (now (room .exit)) r ⌝ }
-{
-    let mut at = 0;
-    let mut i = 0;
-    while i < numbers.len() {
-        let end = decimals::put_long(room, at, numbers[i]);
-        room[end] = 10;
-        at = end + 1;
-        i += 1;
-    }
-    at
-}
-
-// Writes the report of a tally's numbers, where it fits. 15 numbers of at most 20 digits and a line feed fit 315 bytes.
-pub fn report(numbers: &[u64; 15], room: &mut [u8]) -> Reported
-    ensures answer { λ r. ⌜ r ≡ reportedOf (now (numbers .entry)) (now (room .entry)) ⌝ }
-    ensures room { λ _. ⌜ now (room .exit) ≡ reportRoom (now (numbers .entry)) (now (room .entry)) ⌝ }
-{
-    let mut text = [0u8; 315];
-    let length = put_lines(&mut text, numbers);
-    if room.len() < length {
-        return Reported::Refused(Refusal::Room);
-    }
-    Reported::Text(decimals::put_word(room, 0, &text[..length]))
 }

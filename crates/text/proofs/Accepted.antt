@@ -7,14 +7,14 @@ use lib.ListN.{length}
 use Rattle.wire.specs.Bytes.{Bytes}
 use Rattle.wire.specs.Read.{Read, good, bad}
 use Rattle.wire.specs.Layout.{items}
-use Rattle.formula.specs.Format.{formulaHeader}
-use Rattle.formula.specs.declared.Row.{Row}
+use Rattle.syntax.specs.Format.{formulaHeader}
+use Rattle.syntax.specs.declared.Row.{Row}
 use Rattle.formula.specs.declared.Checked.the-variants as Checked
 use Rattle.formula.specs.Answers.{checked}
-use Rattle.formula.specs.Formula.{rootOf, formulaOf}
-use Rattle.formula.specs.Layouts.{rowLayout}
-use Rattle.formula.specs.Message.{readFormula}
-use Rattle.formula.specs.WellFormed.{RowAt, WellFormed}
+use Rattle.syntax.specs.Formula.{rootOf, formulaOf}
+use Rattle.syntax.specs.Layouts.{rowLayout}
+use Rattle.syntax.specs.Message.{readFormula}
+use Rattle.syntax.specs.WellFormed.{RowAt, WellFormed}
 use Rattle.formula.proofs.Good.{formula-good, header-good}
 use Rattle.formula.proofs.Accepted.{accepted-holds}
 use Rattle.formula.proofs.Exact.{accepted-written}

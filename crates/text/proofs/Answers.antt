@@ -9,8 +9,8 @@ use Rattle.refusal.specs.Number.{unplaced}
 use Rattle.refusal.specs.declared.Fault.{Fault}
 use Rattle.refusal.specs.declared.Refusal.the-variants.{Room}
 use Rattle.wire.specs.Read.{Read, good, bad}
-use Rattle.formula.specs.declared.Row.{Row}
-use Rattle.formula.specs.Formula.{rootOf}
+use Rattle.syntax.specs.declared.Row.{Row}
+use Rattle.syntax.specs.Formula.{rootOf}
 use Rattle.wording.specs.Text.{text}
 use Rattle.wire.specs.Laid.{laid, Laid}
 use Rattle.text.specs.Written.{writtenOf, textRoom}

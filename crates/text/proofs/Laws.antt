@@ -6,9 +6,9 @@ use native.Mathlib.Omega.{arith}
 use lib.ListN.{length}
 use borrow.Author.Tests.{le-ltb}
 use Rattle.wire.specs.Read.{good}
-use Rattle.formula.specs.declared.Row.{Row}
-use Rattle.formula.specs.Formula.{rootOf}
-use Rattle.formula.specs.WellFormed.{WellFormed}
+use Rattle.syntax.specs.declared.Row.{Row}
+use Rattle.syntax.specs.Formula.{rootOf}
+use Rattle.syntax.specs.WellFormed.{WellFormed}
 use Rattle.wording.specs.Text.{text}
 use Rattle.text.specs.Written.{writtenOf}
 use Rattle.text.specs.declared.Written.the-variants.{Text}

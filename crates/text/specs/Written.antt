@@ -7,8 +7,8 @@ use lib.Dec.{ltb}
 use Rattle.refusal.specs.Number.{ok, numberOf, nowhere, unplaced}
 use Rattle.refusal.specs.declared.Refusal.the-variants.{Room}
 use Rattle.wire.specs.Read.{Read, good, bad}
-use Rattle.formula.specs.declared.Row.{Row}
-use Rattle.formula.specs.Formula.{rootOf}
+use Rattle.syntax.specs.declared.Row.{Row}
+use Rattle.syntax.specs.Formula.{rootOf}
 use Rattle.wording.specs.Text.{text}
 use Rattle.text.specs.declared.Written.{Written}
 use Rattle.text.specs.declared.Written.the-variants as Written

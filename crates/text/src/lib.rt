@@ -1,7 +1,7 @@
 // The text of a formula message, written into a lent room.
 ghost use mathlib.Core.Path.{_≡_};
 ghost use Rattle.text.specs.Written.{writtenNumber, writtenOffset, writtenLength, writtenOf, textRoom};
-ghost use Rattle.formula.specs.Message.{readFormula};
+ghost use Rattle.syntax.specs.Message.{readFormula};
 use formula::Checked;
 use refusal::Fault;
 

@@ -1,5 +1,5 @@
 -- What accepted messages say of the model and the rows that they hold. Assumes nothing.
-use Prim.Native.Nat.{ℕ, _+_, _*_, _<_, _≤_}
+use Prim.Native.Nat.{ℕ, _<_, _≤_}
 use mathlib.Core.List.{List}
 use mathlib.Core.Path.{_≡_, refl, ap, _∙_}
 use lib.ListN.{length, getD, length-map}
@@ -7,10 +7,10 @@ use lib.Dec.{eqb}
 use Rattle.model.specs.Model.{Model, Transition}
 use Rattle.lists.specs.Making.{keep}
 use Rattle.value.specs.declared.Bound.{Bound}
-use Rattle.formula.specs.declared.Action.{Action}
+use Rattle.syntax.specs.declared.Action.{Action}
 use Rattle.wire.specs.Bytes.{number}
-use Rattle.formula.specs.Format.{formulaHeader}
-use Rattle.formula.specs.Layouts.{rowLayout}
+use Rattle.syntax.specs.Format.{formulaHeader}
+use Rattle.syntax.specs.Layouts.{rowLayout}
 use Rattle.reduction.specs.Built.{endOf, out, looksAt, near}
 use Rattle.model.specs.Format.{modelHeader, labelWidth, labelAt, transitionAt}
 use Rattle.transitions.specs.Held.{labelLayout, transitionLayout, transitionsFrom, heldModel, heldRows, HoldsModel, Own, RiseFrom}

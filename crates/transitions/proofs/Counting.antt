@@ -23,9 +23,9 @@ use Rattle.wire.proofs.Layouts.{items-more, items-length}
 use Rattle.wire.proofs.Parts.{items-∈}
 use Rattle.wire.proofs.Stride.{end-wide}
 use Rattle.model.specs.Format.{weightAt, actionAt, transitionWidth}
-use Rattle.formula.specs.declared.Action.{Action}
-use Rattle.formula.specs.declared.Action.the-variants.{Any, Only}
-use Rattle.formula.specs.Rows.{allows}
+use Rattle.syntax.specs.declared.Action.{Action}
+use Rattle.syntax.specs.declared.Action.the-variants.{Any, Only}
+use Rattle.syntax.specs.Rows.{allows}
 use Rattle.reduction.specs.Built.{looksAt}
 use Rattle.transitions.specs.Held.{transitionLayout}
 use Rattle.transitions.specs.Looked.{lowest, highest, isNear}

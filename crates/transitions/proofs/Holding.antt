@@ -1,5 +1,5 @@
 -- What accepted model and formula messages hold, by position. Assumes nothing.
-use Prim.Native.Nat.{ℕ, _+_, _*_}
+use Prim.Native.Nat.{ℕ, _+_}
 use mathlib.Core.List.{List}
 use mathlib.Core.Path.{_≡_, refl, sym, ap, subst, _∙_}
 use lib.ListN.{length}
@@ -17,9 +17,9 @@ use Rattle.model.specs.Message.{readLabel, readTransition, readModel, labels, t
 use Rattle.model.specs.WellFormed as model
 use Rattle.model.proofs.Good.{label-good, transition-good, header-good, model-good}
 use Rattle.model.proofs.Exact as model-exact
-use Rattle.formula.specs.declared.Row.{Row}
-use Rattle.formula.specs.Message.{readFormula}
-use Rattle.formula.specs.WellFormed as formula
+use Rattle.syntax.specs.declared.Row.{Row}
+use Rattle.syntax.specs.Message.{readFormula}
+use Rattle.syntax.specs.WellFormed as formula
 use Rattle.formula.proofs.Good.{formula-good, header-good as rows-header}
 use Rattle.formula.proofs.Accepted.{accepted-holds}
 use Rattle.formula.proofs.Exact as formula-exact

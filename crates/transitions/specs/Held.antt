@@ -1,5 +1,5 @@
 -- What accepted messages hold, by position, for a builder that checks nothing again.
-use Prim.Native.Nat.{ℕ, suc, _+_, _*_, _-_, _<_, _≤_}
+use Prim.Native.Nat.{ℕ, suc, _+_, _-_, _<_, _≤_}
 use mathlib.Core.List.{List, [], _∷_, map}
 use mathlib.Core.Bool.{cond}
 use mathlib.Core.Path.{_≡_}
@@ -13,10 +13,10 @@ use Rattle.wire.specs.Layout.{Layout, items}
 use Rattle.model.specs.Format.{modelHeader, labelWidth, weightAt, actionAt, toAt, transitionWidth, transitionAt, modelLength}
 use Rattle.model.specs.Model.{Model, Transition}
 use Rattle.model.specs.WellFormed as model
-use Rattle.formula.specs.Format.{formulaHeader, formulaLength}
-use Rattle.formula.specs.declared.Row.{Row}
-use Rattle.formula.specs.Layouts.{rowLayout}
-use Rattle.formula.specs.WellFormed as formula
+use Rattle.syntax.specs.Format.{formulaHeader, formulaLength}
+use Rattle.syntax.specs.declared.Row.{Row}
+use Rattle.syntax.specs.Layouts.{rowLayout}
+use Rattle.syntax.specs.WellFormed as formula
 
 -- a transition and a label at a position
 abbrev pub transitionLayout : List ℕ → Layout Transition

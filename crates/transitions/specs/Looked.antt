@@ -9,8 +9,8 @@ use Rattle.wire.specs.Layout.{items}
 use Rattle.rules.specs.Graph.{Target}
 use Rattle.model.specs.Format.{transitionWidth}
 use Rattle.model.specs.Model.{Transition}
-use Rattle.formula.specs.declared.Action.{Action}
-use Rattle.formula.specs.declared.Action.the-variants.{Any, Only}
+use Rattle.syntax.specs.declared.Action.{Action}
+use Rattle.syntax.specs.declared.Action.the-variants.{Any, Only}
 use Rattle.transitions.specs.Held.{transitionLayout}
 
 -- the least and the greatest action of a transition that it looks at

@@ -8,7 +8,7 @@ ghost use Rattle.model.specs.Model as model;
 ghost use Rattle.reduction.specs.Built.{looksAt};
 ghost use Rattle.transitions.specs.Looked.{isNear, UpToLast};
 ghost use Rattle.transitions.specs.Held.{transitionLayout, transitionsFrom, heldModel, HoldsModel, Starts, RiseFrom, leading};
-use formula::Action;
+use syntax::Action;
 use value::Bound;
 use wire::Width;
 

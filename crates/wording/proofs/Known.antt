@@ -3,9 +3,9 @@ use Prim.Native.String.{String}
 use mathlib.Core.List.{List, [], _∷_, map}
 use mathlib.Core.Path.{_≡_, refl}
 use Rattle.value.specs.declared.Bound.the-variants.{Within, Unbounded}
-use Rattle.formula.specs.declared.Quantifier.the-variants.{Some, Every}
-use Rattle.formula.specs.declared.Action.the-variants.{Any, Only}
-use Rattle.formula.specs.Formula.{Formula, true′, false′, prop, not-prop, and, or, next, until}
+use Rattle.syntax.specs.declared.Quantifier.the-variants.{Some, Every}
+use Rattle.syntax.specs.declared.Action.the-variants.{Any, Only}
+use Rattle.syntax.specs.Formula.{Formula, true′, false′, prop, not-prop, and, or, next, until}
 use Rattle.decimals.specs.Decimal.{word, decimalIn}
 use Rattle.wording.specs.Text.{text}
 

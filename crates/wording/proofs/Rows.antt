@@ -1,5 +1,5 @@
 -- The text of a row is made of the texts of its operands. Assumes nothing.
-use Prim.Native.Nat.{ℕ, _+_, _*_, _<_, _≤_}
+use Prim.Native.Nat.{ℕ, _+_, _<_, _≤_}
 use mathlib.Core.List.{List, _∷_, _++_, append-assoc, List·Memᴰ·head, List·Memᴰ·tail, List·Memᴰ·not-nil}
 use mathlib.Core.Option.{some}
 use mathlib.Core.Path.{_≡_, refl, ap, _∙_}
@@ -8,15 +8,15 @@ use lib.ListN.{length, length-append}
 use Rattle.lists.specs.Lists.{_∈_}
 use Rattle.wire.proofs.Stride.{items-get}
 use Rattle.value.specs.declared.Bound.{Bound}
-use Rattle.formula.specs.Format.{formulaHeader, rowWidth, placeOf}
-use Rattle.formula.specs.declared.Quantifier.{Quantifier}
-use Rattle.formula.specs.declared.Quantifier.the-variants.{Some, Every}
-use Rattle.formula.specs.declared.Row.{Row}
-use Rattle.formula.specs.declared.Row.the-variants.{True, False, Proposition, Negation, And, Or, Next, Until}
-use Rattle.formula.specs.Formula.{Formula, grow, formulaOf}
-use Rattle.formula.specs.Rows.{operands}
-use Rattle.formula.specs.Layouts.{rowAt, rowLayout}
-use Rattle.formula.specs.WellFormed.{RowAt}
+use Rattle.syntax.specs.Format.{formulaHeader, rowWidth, placeOf}
+use Rattle.syntax.specs.declared.Quantifier.{Quantifier}
+use Rattle.syntax.specs.declared.Quantifier.the-variants.{Some, Every}
+use Rattle.syntax.specs.declared.Row.{Row}
+use Rattle.syntax.specs.declared.Row.the-variants.{True, False, Proposition, Negation, And, Or, Next, Until}
+use Rattle.syntax.specs.Formula.{Formula, grow, formulaOf}
+use Rattle.syntax.specs.Rows.{operands}
+use Rattle.syntax.specs.Layouts.{rowAt, rowLayout}
+use Rattle.syntax.specs.WellFormed.{RowAt}
 use Rattle.formula.proofs.Trees.{formula-of-row}
 use Rattle.decimals.specs.Decimal.{word, decimal}
 use Rattle.wording.specs.Text.{boundText, quantifierText, actionText, text}

@@ -9,12 +9,12 @@ use Rattle.lists.proofs.Places.{first, place-∈}
 use Rattle.value.specs.Coded.{Sayable}
 use Rattle.value.specs.declared.Bound.{Bound}
 use Rattle.value.specs.declared.Bound.the-variants.{Within, Unbounded}
-use Rattle.formula.specs.declared.Action.{Action}
-use Rattle.formula.specs.declared.Action.the-variants.{Any, Only}
-use Rattle.formula.specs.declared.Row.{Row}
-use Rattle.formula.specs.declared.Row.the-variants as Row
-use Rattle.formula.specs.Formula.{Formula, true′, false′, prop, not-prop, and, or, next, until, grow, tree, rootOf}
-use Rattle.formula.specs.WellFormed.{WellFormed}
+use Rattle.syntax.specs.declared.Action.{Action}
+use Rattle.syntax.specs.declared.Action.the-variants.{Any, Only}
+use Rattle.syntax.specs.declared.Row.{Row}
+use Rattle.syntax.specs.declared.Row.the-variants as Row
+use Rattle.syntax.specs.Formula.{Formula, true′, false′, prop, not-prop, and, or, next, until, grow, tree, rootOf}
+use Rattle.syntax.specs.WellFormed.{WellFormed}
 
 -- propositions and bounds have at most ten digits, actions at most three
 abbrev pub SmallBound : Bound → Type 0

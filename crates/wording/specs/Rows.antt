@@ -4,12 +4,12 @@ use mathlib.Core.List.{List}
 use lib.ListN.{length}
 use Rattle.lists.specs.Lists.{_∈_}
 use Rattle.wire.specs.Layout.{items}
-use Rattle.formula.specs.Format.{formulaHeader, rowWidth}
-use Rattle.formula.specs.declared.Row.{Row}
-use Rattle.formula.specs.Formula.{formulaOf}
-use Rattle.formula.specs.Rows.{operands}
-use Rattle.formula.specs.Layouts.{rowLayout}
-use Rattle.formula.specs.WellFormed.{RowAt}
+use Rattle.syntax.specs.Format.{formulaHeader, rowWidth}
+use Rattle.syntax.specs.declared.Row.{Row}
+use Rattle.syntax.specs.Formula.{formulaOf}
+use Rattle.syntax.specs.Rows.{operands}
+use Rattle.syntax.specs.Layouts.{rowLayout}
+use Rattle.syntax.specs.WellFormed.{RowAt}
 use Rattle.wording.specs.Text.{text}
 
 -- how many rows a message has, by its length, and the rows

@@ -4,11 +4,11 @@ use mathlib.Core.List.{List, [], _++_}
 use Rattle.decimals.specs.Decimal.{word, decimal}
 use Rattle.value.specs.declared.Bound.{Bound}
 use Rattle.value.specs.declared.Bound.the-variants.{Within, Unbounded}
-use Rattle.formula.specs.declared.Quantifier.{Quantifier}
-use Rattle.formula.specs.declared.Quantifier.the-variants.{Some, Every}
-use Rattle.formula.specs.declared.Action.{Action}
-use Rattle.formula.specs.declared.Action.the-variants.{Any, Only}
-use Rattle.formula.specs.Formula.{Formula, true′, false′, prop, not-prop, and, or, next, until}
+use Rattle.syntax.specs.declared.Quantifier.{Quantifier}
+use Rattle.syntax.specs.declared.Quantifier.the-variants.{Some, Every}
+use Rattle.syntax.specs.declared.Action.{Action}
+use Rattle.syntax.specs.declared.Action.the-variants.{Any, Only}
+use Rattle.syntax.specs.Formula.{Formula, true′, false′, prop, not-prop, and, or, next, until}
 
 -- no bound, no `<=`
 abbrev pub boundText : Bound → List ℕ

@@ -7,9 +7,9 @@ ghost use Rattle.decimals.specs.Decimal.{word};
 ghost use Rattle.wording.specs.Text as t;
 ghost use Rattle.wire.specs.Laid.{Laid};
 ghost use Rattle.wording.specs.Rows.{rowText, Ready};
-use formula::Action;
-use formula::Quantifier;
-use formula::Row;
+use syntax::Action;
+use syntax::Quantifier;
+use syntax::Row;
 use value::Bound;
 
 // Stores a bound: no bound, no `<=`.
@@ -99,8 +99,8 @@ pub fn row_length(s: &[u8], i: u32) -> usize
     requires { ⌜ length (rowText (now s) i) ≤ 2048 ⌝ }
     ensures { λ r. ⌜ r ≡ length (rowText (now (s .entry)) i) ⌝ }
 {
-    let at = formula::HEADER + (i as usize) * formula::ROW;
-    let row = formula::row_at(s, at);
+    let at = syntax::HEADER + (i as usize) * syntax::ROW;
+    let row = syntax::row_at(s, at);
     match row {
         Row::True => 4,
         Row::False => 5,
@@ -118,7 +118,7 @@ pub fn put_row(s: &[u8], i: u32, room: &mut [u8], at: usize) -> usize
     requires { ⌜ at + length (rowText (now s) i) ≤ length (now room) ⌝ }
     ensures { λ r. ⌜ Laid (now (room .entry)) at (rowText (now (s .entry)) i) (now (room .exit)) r ⌝ }
 {
-    let row = formula::row_at(s, formula::HEADER + (i as usize) * formula::ROW);
+    let row = syntax::row_at(s, syntax::HEADER + (i as usize) * syntax::ROW);
     match row {
         Row::True => decimals::put_word(room, at, b"true"),
         Row::False => decimals::put_word(room, at, b"false"),

@@ -10,7 +10,7 @@ use lib.ListN.{length}
 use borrow.Author.Needs.{needs}
 use Rattle.graph.specs.Write.{writeGraph}
 use Rattle.model.specs.Model.{Model}
-use Rattle.formula.specs.declared.Row.{Row}
+use Rattle.syntax.specs.declared.Row.{Row}
 use Rattle.reduction.specs.Built.{graphOf}
 use Rattle.transitions.specs.Held.{heldModel, heldRows}
 use Rattle.sizing.specs.Size.{inLimits}

@@ -1,23 +1,24 @@
 -- `claims::accepts` meets its contract: where a scan finds something odd the message is not read or an edge is not fair; where it finds nothing
 -- the message is read, and the marks say which nodes have a support.
-use Prim.Native.Nat.{ℕ, _+_, _*_, _≤_}
+use Prim.Native.Nat.{ℕ}
 use mathlib.Core.Bool.{true≢false}
 use mathlib.Core.List.{List}
 use mathlib.Core.Path.{_≡_, sym, subst, _∙_}
 use denote.Ref.{now}
-use lib.ListN.{length, replicate, length-replicate}
+use lib.ListN.{replicate, length-replicate}
 use native.Mathlib.Omega.{arith}
 use borrow.Author.Needs.{needs}
 use Rattle.wire.specs.Bytes.{Bytes}
 use Rattle.wire.specs.Layout.{end, items}
 use Rattle.wire.specs.Read.{good}
 use Rattle.rules.specs.Graph.{Closed, Cover}
-use Rattle.graph.specs.Format.{graphHeader, coverWidth}
+use Rattle.graph.specs.Format.{graphHeader}
 use Rattle.graph.specs.Layouts.{hyperLayout, coverLayout, decoded}
 use Rattle.graph.specs.Message.{hypers, covers, readGraph}
 use Rattle.graph.proofs.Exact.{accepted-written}
-use Rattle.claims.specs.Claims.{claimedValue, claimedRank}
-use Rattle.claims.specs.Scans.{HyperFair, HyperBacks, CoverFair, CoverBacks, Marked, Scanned}
+use Rattle.support.specs.Claims.{claimedValue, claimedRank}
+use Rattle.support.specs.Backing.{HyperFair, HyperBacks, CoverFair, CoverBacks}
+use Rattle.claims.specs.Scans.{Marked, Scanned}
 use Rattle.claims.specs.declared.Scan.{Scan}
 use Rattle.claims.specs.declared.Scan.the-variants.{Odd, Past}
 use Rattle.claims.proofs.Checking.{message-light, unmarked-none, hypers-fair, covers-fair, unmarked, all-marked}

@@ -1,5 +1,4 @@
 -- `claims::refused_or` meets its contract.
-use mathlib.Core.Path.{_≡_, sym}
 use borrow.Author.Needs.{needs}
 use Rattle.lists.proofs.Tests.{by}
 use Rattle.claims.proofs.Answering.{refused-graph, refused-fault}

@@ -16,12 +16,14 @@ use Rattle.wire.proofs.Readers.{run-none}
 use Rattle.graph.specs.Message.{covers}
 use Rattle.graph.specs.Format.{coverWidth}
 use Rattle.graph.specs.Layouts.{coverLayout}
-use Rattle.claims.specs.declared.Edge.{Edge}
-use Rattle.claims.specs.Claims.{claimedValue, claimedRank}
-use Rattle.claims.specs.Scans.{CoverFair, CoverBacks, EdgeFound}
-use Rattle.claims.proofs.Passing.{Walking, walking-all, walking-one, walking-turn}
+use Rattle.edges.specs.declared.Edge.{Edge}
+use Rattle.support.specs.Claims.{claimedValue, claimedRank}
+use Rattle.support.specs.Backing.{CoverFair, CoverBacks}
+use Rattle.edges.specs.Found.{EdgeFound}
+use Rattle.support.proofs.Passing.{Walking, walking-all, walking-one, walking-turn}
 use Rattle.claims.proofs.Marking.{Sure, sure-none, sure-more, Seen, mark-here, mark-stays, marked-all}
-use Rattle.claims.proofs.Fused.{cover-fits, cover-next, run-turn, run-next}
+use Rattle.edges.proofs.Fused.{cover-fits}
+use Rattle.claims.proofs.Turns.{cover-next, run-turn, run-next}
 use Rattle.claims.proofs.scan_covers.Statement.{statement}
 use Rattle.claims.proofs.scan_covers.Tie as tie
 

@@ -1,6 +1,6 @@
 -- `claims::scan_hypers` meets its contract: the run of the hyperedges that are left is the whole run, and those passed are fair and have marked their
 -- sources.
-use Prim.Native.Nat.{ℕ, _+_, _*_, _-_, _<_, _≤_}
+use Prim.Native.Nat.{ℕ, _+_, _-_, _<_, _≤_}
 use mathlib.Core.Path.{_≡_, refl, sym, ap, subst, _∙_}
 use denote.Ref.{now}
 use native.Mathlib.Omega.{arith}
@@ -14,14 +14,16 @@ use Rattle.wire.specs.Step.{start}
 use Rattle.wire.specs.declared.State.{State}
 use Rattle.wire.proofs.Readers.{run-none}
 use Rattle.graph.specs.Message.{hypers}
-use Rattle.graph.specs.Format.{graphHeader, mostTargets, targetCountAt, hyperWidth, targetWidth}
+use Rattle.graph.specs.Format.{graphHeader, mostTargets, targetCountAt}
 use Rattle.graph.specs.Layouts.{hyperLayout}
-use Rattle.claims.specs.declared.Edge.{Edge}
-use Rattle.claims.specs.Claims.{claimedValue, claimedRank}
-use Rattle.claims.specs.Scans.{HyperFair, HyperBacks, EdgeFound}
-use Rattle.claims.proofs.Passing.{Walking, walking-all, walking-one, walking-turn}
+use Rattle.edges.specs.declared.Edge.{Edge}
+use Rattle.support.specs.Claims.{claimedValue, claimedRank}
+use Rattle.support.specs.Backing.{HyperFair, HyperBacks}
+use Rattle.edges.specs.Found.{EdgeFound}
+use Rattle.support.proofs.Passing.{Walking, walking-all, walking-one, walking-turn}
 use Rattle.claims.proofs.Marking.{Sure, sure-none, sure-more, Seen, mark-here, mark-stays, marked-all}
-use Rattle.claims.proofs.Fused.{hyper-fits, hyper-next, run-turn, run-next}
+use Rattle.edges.proofs.Fused.{hyper-fits}
+use Rattle.claims.proofs.Turns.{hyper-next, run-turn, run-next}
 use Rattle.claims.proofs.scan_hypers.Statement.{statement}
 use Rattle.claims.proofs.scan_hypers.Tie as tie
 

@@ -2,7 +2,7 @@
 use mathlib.Core.Path.{_≡_, ap, _∙_}
 use Rattle.tally.specs.Entered.{answerNumber, enterOf}
 use Rattle.tally.specs.declared.Entered.{Entered}
-use Rattle.tally.specs.Returned.{entryOf}
+use Rattle.entries.specs.Returned.{entryOf}
 use borrow.Author.Needs.{needs}
 use Rattle.export.proofs.note.Statement.{statement}
 use Rattle.export.proofs.note.Tie as tie

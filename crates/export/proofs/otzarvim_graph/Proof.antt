@@ -2,7 +2,7 @@
 use mathlib.Core.Path.{ap, subst, _∙_}
 use borrow.Author.Needs.{needs}
 use Rattle.build.specs.Built.{builtNumber, builtOffset, builtLength}
-use Rattle.verdict.specs.Promise.{PromiseGraph}
+use Rattle.states.specs.Promise.{PromiseGraph}
 use Rattle.export.proofs.otzarvim_graph.Statement.{statement}
 use Rattle.export.proofs.otzarvim_graph.Tie as tie
 

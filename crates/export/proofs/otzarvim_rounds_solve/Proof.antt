@@ -1,7 +1,7 @@
 -- `export::otzarvim_rounds_solve` meets its contract: the number and the count of how the rounds ended.
 use mathlib.Core.Path.{ap, subst, _∙_}
 use borrow.Author.Needs.{needs}
-use Rattle.rounds.specs.Outcome.{outcomeNumber, outcomeOffset, outcomeCount}
+use Rattle.turns.specs.Outcome.{outcomeNumber, outcomeOffset, outcomeCount}
 use Rattle.rounds.specs.Promise.{Promise}
 use Rattle.export.proofs.otzarvim_rounds_solve.Statement.{statement}
 use Rattle.export.proofs.otzarvim_rounds_solve.Tie as tie

@@ -3,9 +3,9 @@ use mathlib.Core.Path.{_≡_, sym, ap, subst, _∙_}
 use denote.Ref.{now}
 use borrow.Author.Needs.{needs}
 use Rattle.lists.proofs.Tests.{by}
-use Rattle.verdict.specs.Answer.{allNumber, allOffset, allCount, allLength}
-use Rattle.verdict.specs.Promise.{PromiseAll}
-use Rattle.verdict.specs.declared.AllStates.{AllStates}
+use Rattle.settling.specs.Answer.{allNumber, allOffset, allCount, allLength}
+use Rattle.states.specs.Promise.{PromiseAll}
+use Rattle.settling.specs.declared.AllStates.{AllStates}
 use Rattle.export.specs.Results.{askedAll, statesLent}
 use Rattle.export.proofs.otzarvim_settle.Statement.{statement}
 use Rattle.export.proofs.otzarvim_settle.Tie as tie

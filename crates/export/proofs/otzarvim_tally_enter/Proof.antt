@@ -45,7 +45,7 @@ use Rattle.tally.specs.Entered.{enterOf}
 use Rattle.tally.proofs.Tally as T
 use Rattle.tally.proofs.Tally.Laws as T′
 use Rattle.export.specs.declared.Noted.{Noted}
-use Rattle.tally.specs.Returned.{entryOf}
+use Rattle.entries.specs.Returned.{entryOf}
 use Rattle.export.specs.Sheet.{notedOf}
 use Rattle.export.proofs.Noted as N
 use Rattle.export.proofs.Noted.Laws as N′

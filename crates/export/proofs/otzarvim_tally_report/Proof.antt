@@ -1,6 +1,6 @@
 -- `export::otzarvim_tally_report` meets its contract: the number and the length of what the report answers.
 use mathlib.Core.Path.{ap, _∙_}
-use Rattle.tally.specs.Report.{reportedNumber, reportedLength}
+use Rattle.lines.specs.Lines.{reportedNumber, reportedLength}
 use borrow.Author.Needs.{needs}
 use Rattle.export.proofs.otzarvim_tally_report.Statement.{statement}
 use Rattle.export.proofs.otzarvim_tally_report.Tie as tie

@@ -1,9 +1,8 @@
 -- `export::otzarvim_verdict` meets its contract: each part of the answer, and both rooms.
 use mathlib.Core.Path.{ap, subst, _∙_}
 use borrow.Author.Needs.{needs}
-use Rattle.verdict.specs.Answer.{answerNumber, answerOffset, answerVerdict, answerCount, answerLength}
-use Rattle.verdict.specs.Promise.{Promise}
-use Rattle.export.specs.Results.{verdictNumber}
+use Rattle.settling.specs.Answer.{verdictNumber, answerNumber, answerOffset, answerVerdict, answerCount, answerLength}
+use Rattle.states.specs.Promise.{Promise}
 use Rattle.export.proofs.otzarvim_verdict.Statement.{statement}
 use Rattle.export.proofs.otzarvim_verdict.Tie as tie
 
@@ -17,8 +16,8 @@ decide-requires c κs = search needs
 verdict-requires : tie.Need-verdict-requires
 verdict-requires c κs = search needs
 
-verdict-number-requires : tie.Need-verdict-number-requires
-verdict-number-requires c κs = search needs
+number-requires : tie.Need-number-requires
+number-requires c κs = search needs
 
 count-requires : tie.Need-count-requires
 count-requires c κs = search needs
@@ -29,8 +28,8 @@ length-requires c κs = search needs
 offset-requires : tie.Need-offset-requires
 offset-requires c κs = search needs
 
-number-requires : tie.Need-number-requires
-number-requires c κs = search needs
+number-requires-2 : tie.Need-number-requires-2
+number-requires-2 c κs = search needs
 
 same-length : tie.Need-same-length
 same-length c = search needs
@@ -45,13 +44,13 @@ returns c =
     let number = count .before in
     let verdict = number .before in
     let answer = after-decide verdict .decide .ensures in (
-      c .number .ensures ∙ ap answerNumber (answer .0),
+      c .number2 .ensures ∙ ap answerNumber (answer .0),
       (
         answer .1 .0,
         (
           answer .1 .1 .0,
           (
-            number .verdict-number .ensures ∙ ap verdictNumber (verdict .verdict .ensures ∙ ap answerVerdict (answer .0)),
+            number .number .ensures ∙ ap verdictNumber (verdict .verdict .ensures ∙ ap answerVerdict (answer .0)),
             (
               count .count .ensures ∙ ap answerCount (answer .0),
               (
@@ -70,11 +69,11 @@ otzarvim-verdict-spec =
     (tie.spec
     decide-requires
     verdict-requires
-    verdict-number-requires
+    number-requires
     count-requires
     length-requires
     offset-requires
-    number-requires
+    number-requires-2
     same-length
     same-length-2
     returns)

@@ -16,14 +16,15 @@ use Rattle.wire.specs.Read.{Read, good}
 use Rattle.wire.specs.Reader.{readAll}
 use Rattle.wire.specs.Step.{start}
 use Rattle.wire.proofs.Reading.{reading}
-use Rattle.formula.specs.declared.Row.{Row}
-use Rattle.formula.specs.declared.Operands.{Operands}
+use Rattle.syntax.specs.declared.Row.{Row}
+use Rattle.kinds.specs.declared.Operands.{Operands}
 use Rattle.formula.specs.declared.Uses.{Uses}
 use Rattle.formula.specs.Marked.{Marked}
-use Rattle.formula.specs.Format.{formulaHeader, rowWidth, placeOf}
-use Rattle.formula.specs.Rows.{operands, usedOnce}
-use Rattle.formula.specs.Message.{readRow, rows}
-use Rattle.formula.specs.Answers.{listed, judged, checked}
+use Rattle.syntax.specs.Format.{formulaHeader, rowWidth, placeOf}
+use Rattle.syntax.specs.Rows.{operands, usedOnce}
+use Rattle.syntax.specs.Message.{readRow, rows}
+use Rattle.kinds.specs.Kept.{listed, judged}
+use Rattle.formula.specs.Answers.{checked}
 use Rattle.formula.proofs.Answered.{Kept, listed-are, judged-fine, judged-refused}
 use Rattle.formula.proofs.Good.{row-part, row-good}
 use Rattle.formula.proofs.Begun.{Begun, begun, begun-next, begun-bad, begun-none}

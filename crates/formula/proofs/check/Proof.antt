@@ -6,7 +6,7 @@ use borrow.Author.Tests.{lt-leb, le-leb}
 use Rattle.lists.proofs.Tests.{by}
 use Rattle.wire.specs.Read.{good}
 use Rattle.wire.proofs.Reading.{reading}
-use Rattle.formula.specs.Message.{readHeader, readFormula}
+use Rattle.syntax.specs.Message.{readHeader, readFormula}
 use Rattle.formula.specs.Answers.{checked}
 use Rattle.formula.proofs.Good.{header-good}
 use Rattle.formula.proofs.Marks.{none-marked}

@@ -9,8 +9,8 @@ use Rattle.wire.specs.Read.{good}
 use Rattle.wire.specs.Start.{readStart}
 use Rattle.wire.proofs.Reading.{reading, found-good, handed}
 use Rattle.wire.proofs.Start.{opened-good, opened-refused}
-use Rattle.formula.specs.Format.{formulaHead, rowsCount}
-use Rattle.formula.specs.Message.{readHeader}
+use Rattle.syntax.specs.Format.{formulaHead, rowsCount}
+use Rattle.syntax.specs.Message.{readHeader}
 use Rattle.formula.specs.Answers.{counted}
 use Rattle.formula.proofs.header.Statement.{statement}
 use Rattle.formula.proofs.header.Tie as tie

@@ -5,9 +5,9 @@ use denote.Ref.{now}
 use lib.ListN.{length}
 use native.Mathlib.Omega.{arith}
 use Rattle.wire.specs.Field.{longWidth}
-use Rattle.claims.specs.Claims.{claimWidth}
-use Rattle.ranks.specs.Ranking.{Begun}
-use Rattle.ranks.proofs.Puts.{put-length}
+use Rattle.support.specs.Claims.{claimWidth}
+use Rattle.ranks.specs.Begun.{Begun}
+use Rattle.ranking.proofs.Puts.{put-length}
 use Rattle.ranks.proofs.Filling.{begun-none, begun-more}
 use Rattle.ranks.proofs.begin.Statement.{statement}
 use Rattle.ranks.proofs.begin.Tie as tie

@@ -8,7 +8,7 @@ use Rattle.wire.specs.Bytes.{number}
 use Rattle.rules.specs.Graph.{Hyper}
 use Rattle.graph.specs.Format.{graphHeader, targetCountAt}
 use Rattle.graph.specs.Layouts.{hyperLayout, HyperOk}
-use Rattle.claims.proofs.Passing.{Passing, passing-all, passing-here, passing-turn, passing-end}
+use Rattle.support.proofs.Passing.{Passing, passing-all, passing-here, passing-turn, passing-end}
 use Rattle.ranks.proofs.past_hypers.Statement.{statement}
 use Rattle.ranks.proofs.past_hypers.Tie as tie
 

@@ -8,20 +8,19 @@ use native.Mathlib.Nat.{suc-mul}
 use native.Mathlib.Numerals.{add-one}
 use native.Mathlib.Omega.{arith}
 use lib.ListN.{length}
-use Rattle.lists.specs.Making.{keep}
 use Rattle.wire.specs.Layout.{Layout}
 use Rattle.wire.specs.Write.{writeAll}
 use Rattle.wire.proofs.Laid.{said}
 use Rattle.wire.proofs.Written.{writeAll-keep}
-use Rattle.formula.specs.declared.Quantifier.{Quantifier}
+use Rattle.syntax.specs.declared.Quantifier.{Quantifier}
 use Rattle.model.specs.Format.{transitionWidth, transitionAt}
 use Rattle.model.specs.Model.{Transition}
 use Rattle.transitions.specs.Held.{transitionLayout, transitionsFrom}
-use Rattle.records.specs.Bytes.{nearBytes, nearWidth, nearbyBytes}
+use Rattle.records.specs.Bytes.{nearBytes, nearbyBytes}
 use Rattle.transitions.specs.Looked.{isNear}
 use Rattle.transitions.proofs.Counting.{passing, passing-le, passing-none, passing-here, passing-there, last-passes}
 use Rattle.records.proofs.Edges.{Filling, filling-all, filling-none, next-readable, next-named}
-use Rattle.records.proofs.Nearby.{near-long, near-wide, near, near-length, near-short, near-fits, near-stays, near-goes, filled-at, fewer-read}
+use Rattle.records.proofs.Nearby.{near-long, near-wide, near, near-short, near-fits, near-stays, near-goes, filled-at, fewer-read}
 use Rattle.records.proofs.put_nearby.Statement.{statement}
 use Rattle.records.proofs.put_nearby.Tie as tie
 

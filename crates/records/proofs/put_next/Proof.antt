@@ -7,7 +7,7 @@ use native.Mathlib.Omega.{arith}
 use lib.ListN.{length, length-append}
 use borrow.Author.Needs.{needs}
 use Rattle.lists.specs.Making.{keep}
-use Rattle.wire.specs.Bytes.{bytes, Bytes}
+use Rattle.wire.specs.Bytes.{bytes}
 use Rattle.wire.specs.Laid.{Laid}
 use Rattle.wire.specs.Write.{writeAll}
 use Rattle.wire.proofs.Laid.{said, same-length as as-long}
@@ -16,7 +16,7 @@ use Rattle.graph.specs.Format.{hyperWidth}
 use Rattle.graph.specs.Write.{writeTarget, writeHyper}
 use Rattle.model.specs.Format.{transitionAt}
 use Rattle.model.specs.Model.{Transition}
-use Rattle.formula.specs.declared.Quantifier.{Quantifier}
+use Rattle.syntax.specs.declared.Quantifier.{Quantifier}
 use Rattle.reduction.specs.Built.{hyper, looksAt}
 use Rattle.transitions.specs.Held.{transitionLayout, transitionsFrom}
 use Rattle.records.specs.Bytes.{hypersBytes, someNext, everyNext, nearWidth, nearbyBytes}

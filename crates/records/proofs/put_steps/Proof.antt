@@ -5,7 +5,7 @@ use mathlib.Core.Path.{refl}
 use denote.Ref.{now}
 use native.Mathlib.Omega.{arith}
 use lib.ListN.{length}
-use Rattle.formula.specs.declared.Quantifier.{Quantifier}
+use Rattle.syntax.specs.declared.Quantifier.{Quantifier}
 use Rattle.model.specs.Format.{transitionWidth}
 use Rattle.model.specs.Model.{Transition}
 use Rattle.transitions.specs.Held.{transitionsFrom}

@@ -6,9 +6,9 @@ use borrow.Author.Needs.{needs}
 use Rattle.lists.proofs.Tests.{by}
 use Rattle.wire.specs.Bytes.{Bytes}
 use Rattle.wire.proofs.Laid.{said}
-use Rattle.verdict.specs.Question.{readQuestion, nodesOf}
+use Rattle.questions.specs.Question.{readQuestion, nodesOf}
 use Rattle.report.proofs.Ended.{Done, left-is, output-refused, output-spent, output-done}
-use Rattle.report.proofs.Lines.{refused-fits}
+use Rattle.pieces.proofs.Lines.{refused-fits}
 use Rattle.report.proofs.answer.Statement.{statement}
 use Rattle.report.proofs.answer.Tie as tie
 

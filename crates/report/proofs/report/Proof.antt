@@ -6,7 +6,7 @@ use lib.ListN.{length}
 use lib.Seq.{length-take-le}
 use borrow.Author.Needs.{needs}
 use Rattle.lists.proofs.Tests.{by}
-use Rattle.report.proofs.Lines.{refused-fits}
+use Rattle.pieces.proofs.Lines.{refused-fits}
 use Rattle.report.proofs.Reported.{end-inside, end-reads, end-refused, none-reported, as-reported, refusal-reported}
 use Rattle.report.proofs.report.Statement.{statement}
 use Rattle.report.proofs.report.Tie as tie

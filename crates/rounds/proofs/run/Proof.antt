@@ -9,10 +9,10 @@ use Rattle.wire.specs.Layout.{Sound}
 use Rattle.graph.specs.Layouts.{coverLayout, decoded}
 use Rattle.halves.specs.Room.{Beside}
 use Rattle.scans.specs.Scan.{partOf}
-use Rattle.rounds.specs.Turns.{AtRound}
+use Rattle.turns.specs.Turns.{AtRound}
 use Rattle.scans.proofs.Infinite.{covers-idle, stays-infinite}
 use Rattle.scans.proofs.Next.{round-done}
-use Rattle.rounds.proofs.Loop.{begins, from-here, holds-filled, filled-on, ends-settled, ends-spent, goes-on, whole-part}
+use Rattle.turns.proofs.Loop.{begins, from-here, holds-filled, filled-on, ends-settled, ends-spent, goes-on, whole-part}
 use Rattle.rounds.proofs.run.Statement.{statement}
 use Rattle.rounds.proofs.run.Tie as tie
 

@@ -6,8 +6,8 @@ use denote.Ref.{now}
 use native.Mathlib.Omega.{arith}
 use lib.ListN.{length}
 use borrow.Author.Needs.{needs}
-use Rattle.formula.specs.Format.{formulaHeader, rowWidth}
-use Rattle.formula.specs.Layouts.{rowAt, rowLayout}
+use Rattle.syntax.specs.Format.{formulaHeader, rowWidth}
+use Rattle.syntax.specs.Layouts.{rowAt, rowLayout}
 use Rattle.reduction.specs.Built.{isUntil}
 use Rattle.transitions.specs.Held.{heldRows}
 use Rattle.transitions.proofs.Counting.{passing, passing-le, passing-none, passing-here, passing-there}

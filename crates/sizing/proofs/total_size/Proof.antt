@@ -9,9 +9,9 @@ use Rattle.lists.specs.Making.{span}
 use Rattle.wire.specs.Layout.{items}
 use Rattle.wire.proofs.Layouts.{items-more}
 use Rattle.model.specs.Model.{Model}
-use Rattle.formula.specs.Format.{rowWidth}
-use Rattle.formula.specs.declared.Row.{Row}
-use Rattle.formula.specs.Layouts.{rowLayout}
+use Rattle.syntax.specs.Format.{rowWidth}
+use Rattle.syntax.specs.declared.Row.{Row}
+use Rattle.syntax.specs.Layouts.{rowLayout}
 use Rattle.transitions.specs.Held.{heldModel, heldRows}
 use Rattle.sizing.specs.Size.{addSize, sizeOf, stateEdges, rowsEdges}
 use Rattle.transitions.proofs.Accepted.{states-few, transitions-few, rows-length}

@@ -6,7 +6,7 @@ use lib.ListN.{length, drop}
 use borrow.Author.Needs.{needs}
 use borrow.Author.Tests.{lt-ltb, le-ltb}
 use Rattle.tally.specs.Tally.{mostAccepted, together}
-use Rattle.tally.proofs.Spelled.{past-end}
+use Rattle.lines.proofs.Lines.{past-end}
 use Rattle.tally.proofs.Counting.{together-drop}
 use Rattle.tally.proofs.below_most.Statement.{statement}
 use Rattle.tally.proofs.below_most.Tie as tie

@@ -5,7 +5,7 @@ use lib.ListN.{length}
 use borrow.Author.Needs.{needs}
 use Rattle.lists.proofs.Tests.{by}
 use Rattle.wire.specs.Bytes.{Bytes}
-use Rattle.formula.specs.Message.{readFormula}
+use Rattle.syntax.specs.Message.{readFormula}
 use Rattle.formula.proofs.Answered.{checked-refused}
 use Rattle.text.proofs.Accepted.{Root, checked-root}
 use Rattle.text.proofs.Answers.{refused, no-room, written}

@@ -6,11 +6,9 @@ use native.Mathlib.Omega.{arith}
 use lib.ListN.{length}
 use borrow.Author.Needs.{needs}
 use Rattle.lists.specs.Making.{keep}
-use Rattle.value.specs.Coded.{codeOf}
-use Rattle.wire.specs.Bytes.{Bytes}
 use Rattle.wire.proofs.Layouts.{items-length}
-use Rattle.formula.specs.declared.Action.{Action}
-use Rattle.formula.specs.declared.Action.the-variants.{Any, Only}
+use Rattle.syntax.specs.declared.Action.{Action}
+use Rattle.syntax.specs.declared.Action.the-variants.{Any, Only}
 use Rattle.reduction.specs.Built.{looksAt}
 use Rattle.transitions.specs.Held.{transitionsFrom}
 use Rattle.transitions.specs.Looked.{lowest, highest, isNear}

@@ -9,13 +9,13 @@ use borrow.Author.Needs.{needs}
 use Rattle.lists.proofs.Tests.{by}
 use Rattle.wire.specs.Bytes.{Bytes}
 use Rattle.transitions.specs.Held.{heldModel}
-use Rattle.verdict.specs.declared.AllStates.{AllStates}
-use Rattle.verdict.specs.declared.Answer.{Answer}
-use Rattle.verdict.specs.Question.{Question}
-use Rattle.verdict.specs.Asking.{heldQuestion, Asking, Held}
-use Rattle.verdict.proofs.Settling.{shows-as}
-use Rattle.verdict.proofs.Finished.{Finished, ended-as, decided, node-inside, node-small, read-yes, read-no}
-use Rattle.verdict.proofs.Answering.{Shown, one-refused, one-unnamed, one-decided}
+use Rattle.settling.specs.declared.AllStates.{AllStates}
+use Rattle.settling.specs.declared.Answer.{Answer}
+use Rattle.questions.specs.Question.{Question}
+use Rattle.questions.specs.Asking.{heldQuestion, Asking, Held}
+use Rattle.settling.proofs.Settling.{shows-as}
+use Rattle.states.proofs.Finished.{Finished, ended-as, decided, node-inside, node-small, read-yes, read-no}
+use Rattle.states.proofs.Answering.{Shown, one-refused, one-unnamed, one-decided}
 use Rattle.verdict.proofs.decide.Statement.{statement}
 use Rattle.verdict.proofs.decide.Tie as tie
 

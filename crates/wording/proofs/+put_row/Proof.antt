@@ -1,5 +1,5 @@
 -- The proof of the cycle of calls {put_row}: the measure is the row's place, and operands are earlier rows; the pieces are stored one after another.
-use Prim.Native.Nat.{ℕ, _<_, _≤_, _+_, _*_}
+use Prim.Native.Nat.{ℕ, _<_, _≤_, _+_}
 use mathlib.Core.List.{List}
 use mathlib.Core.Path.{_≡_, refl}
 use native.Mathlib.Omega.{arith}
@@ -10,11 +10,11 @@ use borrow.Fn.PlainCycle.{Measures, is, falls, and}
 use Rattle.lists.specs.Lists.{_∈_}
 use Rattle.lists.proofs.Places.{first, second}
 use Rattle.lists.proofs.Tests.{by}
-use Rattle.formula.specs.Format.{placeOf}
-use Rattle.formula.specs.declared.Row.{Row}
-use Rattle.formula.specs.Layouts.{rowAt}
-use Rattle.formula.specs.Rows.{operands}
-use Rattle.formula.proofs.row_at.Reads as row
+use Rattle.syntax.specs.Format.{placeOf}
+use Rattle.syntax.specs.declared.Row.{Row}
+use Rattle.syntax.specs.Layouts.{rowAt}
+use Rattle.syntax.specs.Rows.{operands}
+use Rattle.syntax.proofs.row_at.Reads as row
 use Rattle.decimals.specs.Decimal.{word}
 use Rattle.wording.specs.Rows.{rowText, Ready}
 use Rattle.wire.proofs.Laid as laid

@@ -11,10 +11,10 @@ use borrow.Fn.PlainCycle.{Measures, is, falls, and}
 use Rattle.lists.specs.Lists.{_∈_}
 use Rattle.lists.proofs.Places.{first, second}
 use Rattle.lists.proofs.Tests.{by}
-use Rattle.formula.specs.declared.Row.{Row}
-use Rattle.formula.specs.declared.Row.the-variants.{And, Or}
-use Rattle.formula.specs.Rows.{operands}
-use Rattle.formula.proofs.row_at.Reads as row
+use Rattle.syntax.specs.declared.Row.{Row}
+use Rattle.syntax.specs.declared.Row.the-variants.{And, Or}
+use Rattle.syntax.specs.Rows.{operands}
+use Rattle.syntax.proofs.row_at.Reads as row
 use Rattle.wording.specs.Rows.{rowText, Ready}
 use Rattle.wording.proofs.Rows as rows
 use Rattle.wording.proofs.Rows.{madeLength}

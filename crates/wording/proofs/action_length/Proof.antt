@@ -3,7 +3,7 @@ use mathlib.Core.Path.{ap}
 use native.Mathlib.Omega.{arith}
 use lib.ListN.{length}
 use borrow.Author.Needs.{needs}
-use Rattle.formula.specs.declared.Action.{Action}
+use Rattle.syntax.specs.declared.Action.{Action}
 use Rattle.wording.specs.Text.{actionText}
 use Rattle.decimals.proofs.Decimal.{decimal-length}
 use Rattle.wording.proofs.action_length.Statement.{statement}

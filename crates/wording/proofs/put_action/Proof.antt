@@ -3,7 +3,7 @@ use mathlib.Core.Path.{refl, ap}
 use native.Mathlib.Omega.{arith}
 use lib.ListN.{length}
 use borrow.Author.Needs.{needs}
-use Rattle.formula.specs.declared.Action.{Action}
+use Rattle.syntax.specs.declared.Action.{Action}
 use Rattle.wording.specs.Text.{actionText}
 use Rattle.wire.proofs.Laid.{nothing, said}
 use Rattle.wording.proofs.put_action.Statement.{statement}

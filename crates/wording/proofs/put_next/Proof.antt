@@ -1,7 +1,7 @@
 -- `wording::put_next` meets its contract: five stores one after another.
 use native.Mathlib.Omega.{arith}
 use borrow.Author.Needs.{needs}
-use Rattle.formula.specs.declared.Quantifier.{Quantifier}
+use Rattle.syntax.specs.declared.Quantifier.{Quantifier}
 use Rattle.wire.proofs.Laid.{_then_}
 use Rattle.wording.proofs.Rows.{one-byte}
 use Rattle.wording.proofs.put_next.Statement.{statement}

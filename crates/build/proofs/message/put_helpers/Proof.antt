@@ -4,8 +4,8 @@ use mathlib.Core.Path.{_≡_, sym, ap, _∙_}
 use denote.Ref.{now}
 use native.Mathlib.Omega.{arith}
 use borrow.Author.Needs.{needs}
-use Rattle.formula.specs.declared.Row.the-variants.{Until}
-use Rattle.formula.specs.Layouts.{rowAt}
+use Rattle.syntax.specs.declared.Row.the-variants.{Until}
+use Rattle.syntax.specs.Layouts.{rowAt}
 use Rattle.reduction.specs.Built.{isUntil, untils}
 use Rattle.transitions.specs.Held.{heldModel, heldRows}
 use Rattle.records.specs.Bytes.{helpersBytes}

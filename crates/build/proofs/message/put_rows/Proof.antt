@@ -1,13 +1,13 @@
 -- `message::put_rows` meets its contract: the hyperedges of the rows left make the whole.
-use Prim.Native.Nat.{ℕ, _+_, _*_, _-_, _≤_}
+use Prim.Native.Nat.{ℕ, _+_, _-_, _≤_}
 use mathlib.Core.List.{List, _++_}
 use mathlib.Core.Path.{_≡_, refl, ap, _∙_}
 use denote.Ref.{now}
 use native.Mathlib.Omega.{arith}
 use Rattle.wire.specs.Layout.{items}
 use Rattle.wire.proofs.Laid.{Left, all-left, left-fits, left-then, none-left}
-use Rattle.formula.specs.Format.{formulaHeader, rowWidth, placeOf}
-use Rattle.formula.specs.Layouts.{rowAt, rowLayout}
+use Rattle.syntax.specs.Format.{formulaHeader, rowWidth, placeOf}
+use Rattle.syntax.specs.Layouts.{rowAt, rowLayout}
 use Rattle.transitions.specs.Held.{heldModel, heldRows}
 use Rattle.records.specs.Bytes.{rowBytes, rowsBytes}
 use Rattle.build.proofs.Nodes.{rows-more, rows-none, row-fits}

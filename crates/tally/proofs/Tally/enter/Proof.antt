@@ -8,7 +8,8 @@ use borrow.Author.Tests.{not-true, not-false}
 use Rattle.lists.proofs.Tests.{by}
 use Rattle.tally.specs.declared.Tally.{Tally}
 use Rattle.tally.specs.declared.Answer.the-variants as Answer
-use Rattle.tally.specs.Tally.{isEntry, roundsOf, countPlace, takesMore, countedAt}
+use Rattle.entries.specs.Entries.{isEntry, roundsOf, countPlace}
+use Rattle.tally.specs.Tally.{takesMore, countedAt}
 use Rattle.tally.proofs.Counting.{one-of}
 use Rattle.tally.proofs.Answers.{has-place, takes-counts, takes-fits, no-entry, at-end, entry-counted}
 use borrow.Author.Needs.{needs}

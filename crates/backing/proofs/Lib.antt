@@ -1,0 +1,1 @@
+-- No law of its own: what an edge is to claims is said and shown in `support`.

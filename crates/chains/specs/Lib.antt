@@ -1,0 +1,2 @@
+-- Definitions: what is taken in along chains.
+pub mod Taken

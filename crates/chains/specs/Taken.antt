@@ -1,0 +1,54 @@
+-- What the second half holds while the records of changed nodes are taken in: the round of the part of the graph that they make.
+use Prim.Native.Nat.{ℕ, _+_, _<_, _≤_, min}
+use mathlib.Core.List.{List}
+use mathlib.Core.Bool.{cond}
+use mathlib.Core.Path.{_≡_}
+use lib.ListN.{getD}
+use Rattle.lists.specs.Lists.{_∈_}
+use Rattle.value.specs.Stored.{stored}
+use Rattle.wire.specs.Layout.{items}
+use Rattle.rules.specs.Graph.{Graph, Hyper, Cover}
+use Rattle.rules.specs.Rounds.{covered, round}
+use Rattle.graph.specs.Format.{graphHeader}
+use Rattle.graph.specs.Layouts.{hyperLayout, coverLayout, HyperOk, CoverOk}
+use Rattle.halves.specs.Held.{held}
+use Rattle.halves.specs.Room.{half}
+use Rattle.scans.specs.Scan.{hyperIn, Done}
+use Rattle.links.specs.Links.{Reached}
+
+-- a sound record at a position: a hyperedge before `middle`, a cover edge from there on
+pub record RecordOk (s : List ℕ) (n middle at : ℕ) : Type 0 where
+  pub hyper : at < middle → HyperOk s n at
+  pub cover : middle ≤ at → CoverOk s n at
+
+-- it was taken into the second half
+pub record RecordIn (s : List ℕ) (n middle at : ℕ) (b₀ b : List ℕ) : Type 0 where
+  pub hyper : at < middle → b ≡ hyperIn s n 0 n at b₀
+  pub cover : middle ≤ at → Done n 0 n b₀ b (λ v. cond (covered (held (half n 0 b₀)) v (items (coverLayout s n) 1 at)) 0 (getD b₀ (n + v) 0))
+
+-- the part has it
+pub record Has (s : List ℕ) (n middle : ℕ) (p : Graph) (at : ℕ) : Type 0 where
+  pub hyper : at < middle → hyperLayout s n .item at ∈ p .hypers
+  pub cover : middle ≤ at → coverLayout s n .item at ∈ p .covers
+
+-- the second half has the least of what it had and the round of a part of the graph, all of whose sources are from lo to before hi
+pub record Taken (s : List ℕ) (n h c middle : ℕ) (b₀ b : List ℕ) (p : Graph) (lo hi : ℕ) : Type 0 where
+  pub nodes : p .nodes ≡ n
+  pub room : Done n 0 n b₀ b (λ v. min (getD b₀ (n + v) 0) (stored (round p (held (half n 0 b₀)) v)))
+  pub low : lo ≤ n
+  pub high : hi ≤ n
+  pub hyper-of : {x : Hyper} → x ∈ p .hypers → (x ∈ items (hyperLayout s n) h graphHeader) × (lo ≤ x .source) × (x .source < hi)
+  pub cover-of : {x : Cover} → x ∈ p .covers → (x ∈ items (coverLayout s n) c middle) × (lo ≤ x .source) × (x .source < hi)
+
+-- a part that has what p has, and the records of a chain
+pub record Further (s : List ℕ) (n h c middle : ℕ) (links spots : List ℕ) (head : ℕ) (b₀ b : List ℕ) (p : Graph) (lo hi : ℕ) : Type 0 where
+  pub part : Graph
+  pub taken : Taken s n h c middle b₀ b part lo hi
+  pub keeps : (at : ℕ) → Has s n middle p at → Has s n middle part at
+  pub has : (q : ℕ) → Reached links q head → Has s n middle part (getD spots q 0)
+
+-- a part that has the records of the chains of the changed nodes
+pub record TakenAll (s : List ℕ) (n h c middle many : ℕ) (changed heads links spots b₀ b : List ℕ) (lo hi : ℕ) : Type 0 where
+  pub part : Graph
+  pub taken : Taken s n h c middle b₀ b part lo hi
+  pub has : (k : ℕ) → k < many → (q : ℕ) → Reached links q (getD heads (getD changed k 0) 0) → Has s n middle part (getD spots q 0)

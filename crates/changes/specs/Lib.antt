@@ -1,0 +1,2 @@
+-- Definitions: what is listed.
+pub mod Listed

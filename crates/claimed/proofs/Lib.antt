@@ -1,0 +1,3 @@
+-- Laws of what is claimed.
+--     Targets    targets that are judged one by one
+pub mod Targets

@@ -1,0 +1,2 @@
+-- Definitions: what was found of an edge.
+pub mod Found

@@ -1,0 +1,3 @@
+-- Definitions: what is entered, and the entry of what a call returned.
+pub mod Entries
+pub mod Returned

@@ -1,0 +1,2 @@
+-- Definitions: the lines, and what writing them answers and leaves.
+pub mod Lines

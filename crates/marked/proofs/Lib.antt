@@ -1,0 +1,3 @@
+-- Laws of marked records.
+--     Marked     what is marked is enough for the next round
+pub mod Marked

@@ -1,0 +1,2 @@
+-- Definitions: how ranks are given.
+pub mod Ranking

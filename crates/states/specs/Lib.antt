@@ -1,0 +1,2 @@
+-- Definitions: the promise.
+pub mod Promise
