@@ -5,11 +5,9 @@ use mathlib.Core.Bool.{true}
 use mathlib.Core.Path.{_≡_, refl}
 use native.Mathlib.Omega.{arith}
 use lib.ListN.{length}
-use lib.Dec.{ltb}
-use borrow.Author.Tests.{ltb-true}
 use Rattle.lists.specs.Lists.{_∈_}
 use Rattle.lists.proofs.Making.{∈-keep}
-use Rattle.lists.proofs.Tests.{by-test, clash}
+use Rattle.lists.proofs.Tests.{clash}
 use Rattle.value.specs.declared.Bound.{Bound}
 use Rattle.model.specs.Model.{Model}
 use Rattle.syntax.specs.declared.Quantifier.{Quantifier}
@@ -36,5 +34,4 @@ few-narrow M rows {row} few small m a l =
 
     until-few : (q : Quantifier) (l r : ℕ) (b : Bound) → true ≡ true → Within (Until q l r b) → length (out M a) < 65535
     until-few Some l r b e p = omega (arith, p .hypers, few)
-    until-few Every l r b e p =
-        by-test (ltb (length (out M a)) 1) (λ t. omega (arith, ltb-true)) (λ t. let q = rw t at p in omega (arith, q .most, small))
+    until-few Every l r b e p = omega (arith, p .most, small)

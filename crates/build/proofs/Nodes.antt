@@ -1,6 +1,7 @@
 -- The edges of a node of an accepted model, from its state's transitions, and what a builder of them may rely on. Assumes nothing.
 use Prim.Native.Nat.{ℕ, zero, suc, _+_, _*_, _<_, _≤_}
 use mathlib.Core.List.{List, [], _∷_, _++_, map, map-map}
+use mathlib.Core.Bool.{Bool, true, false, Bool·beq}
 use mathlib.Core.Path.{_≡_, refl, ap, _∙_}
 use native.Mathlib.Nat.{mul-le-mul-left, mul-suc}
 use native.Mathlib.Numerals.{add-one}
@@ -9,28 +10,31 @@ use lib.ListN.{length}
 use lib.Dec.{eqb}
 use Rattle.lists.specs.Lists.{_∈_}
 use Rattle.lists.specs.Making.{keep, span}
-use Rattle.lists.proofs.Making.{∈-keep}
+use Rattle.lists.proofs.Making.{∈-keep, span-empty}
 use Rattle.value.specs.declared.Bound.{Bound}
 use Rattle.syntax.specs.declared.Action.{Action}
 use Rattle.wire.specs.Laid.{Laid}
 use Rattle.wire.specs.Write.{writeAll}
 use Rattle.wire.proofs.Laid.{nothing, said}
 use Rattle.graph.specs.Write.{writeHyper}
-use Rattle.model.specs.Model.{Model}
+use Rattle.model.specs.Model.{Model, holds}
 use Rattle.syntax.specs.Format.{formulaHeader, rowWidth, placeOf}
 use Rattle.syntax.specs.declared.Quantifier.{Quantifier}
 use Rattle.syntax.specs.declared.Quantifier.the-variants.{Some, Every}
 use Rattle.syntax.specs.declared.Row.{Row}
-use Rattle.syntax.specs.declared.Row.the-variants.{Next, Until}
+use Rattle.syntax.specs.declared.Row.the-variants.{Next}
 use Rattle.syntax.specs.Layouts.{rowAt, rowLayout}
 use Rattle.syntax.specs.Rows.{operands}
 use Rattle.syntax.specs.WellFormed.{RowAt}
 use Rattle.reduction.specs.Built.{to, endOf, hyper, out, looksAt, near, rowEdges, ifAny, stepEdges, layout}
 use Rattle.transitions.specs.Held.{transitionsFrom, heldModel, heldRows, HoldsModel, HoldsRows, Own, Reads}
+use Rattle.transitions.specs.Looked.{leafEdges}
+use Rattle.build.specs.Leaf.{leafRow}
 use Rattle.records.specs.Bytes.{hypersBytes, nextEdges, helperList, rowBytes, rowsBytes, RowFits}
 use Rattle.wire.proofs.Written.{writeAll-append}
 use Rattle.wire.proofs.Written.{span-written}
 use Rattle.wire.proofs.Stride.{items-get}
+use Rattle.wire.proofs.Spans.{SpanLeft, span-begun}
 
 -- the nodes of an earlier place stand before those of a later one
 pub place-fits : (n r l : ℕ) → n * r + n ≤ 4096 → l < r → n * l + n ≤ 4096
@@ -79,13 +83,14 @@ module _ (p : ℕ) {m : List ℕ} {n t a first many : ℕ} (o : Own m n t a firs
     shift-fits = fits;
   }
 
--- ---- rows one after another
+-- a proposition and its negation, from whether the one holds
+pub leaf-are : (M : Model) (is : Bool) (i a : ℕ) (b : Bool) → b ≡ holds M i a → rowEdges M (leafRow is i) a ≡ leafEdges (Bool·beq b is)
+leaf-are M true i a true e = rw (← e)
+leaf-are M true i a false e = rw (← e)
+leaf-are M false i a true e = rw (← e)
+leaf-are M false i a false e = rw (← e)
 
--- nothing of each is nothing
-span-empty : (a n : ℕ) → span {B = ℕ} (λ c. []) a n ≡ []
-unfolding span
-span-empty a zero = refl
-span-empty a (suc n) = span-empty (suc a) n
+-- ---- rows one after another
 
 module _ (M : Model) where
   -- a row's nodes, state by state
@@ -93,12 +98,11 @@ module _ (M : Model) where
   unfolding rowBytes
   row-spans r row = span-written writeHyper (λ a. map (hyper (a + M .states * r)) (rowEdges M row a)) 0 (M .states)
 
-  -- an until's have no hyperedge
-  pub until-laid : (r : ℕ) (row : Row) {q : Quantifier} {l k : ℕ} {c : Bound} → row ≡ Until q l k c → {b : List ℕ} {at : ℕ}
-      → at + length (rowBytes M r row) ≤ length b → Laid b at (rowBytes M r row) b at
+  -- and of a row that has none
+  pub row-none : (r : ℕ) (row : Row) → ((a : ℕ) → rowEdges M row a ≡ []) → {b : List ℕ} {at : ℕ} → at + length (rowBytes M r row) ≤ length b → Laid b at (rowBytes M r row) b at
   unfolding writeAll
-  until-laid r row e {b} {at} h =
-      let none : rowBytes M r row ≡ [] = row-spans r row ∙ rw e (span-empty 0 (M .states)) in
+  row-none r row each {b} {at} h =
+      let none : rowBytes M r row ≡ [] = row-spans r row ∙ span-empty _ (λ a. ap (hypersBytes (a + M .states * r)) (each a)) 0 (M .states) in
       said (nothing b at (omega arith)) none refl refl
 
   -- a row more
@@ -109,6 +113,16 @@ module _ (M : Model) where
   pub rows-none : (r : ℕ) → rowsBytes M r [] ≡ []
   unfolding rowsBytes layout writeAll
   rows-none r = refl
+
+-- a loop over the states that writes a row's hyperedges: what is left of them
+abbrev pub RowLeft : (m : List ℕ) (n p t r : ℕ) → Row → (b : List ℕ) (at : ℕ) → (b′ : List ℕ) (next a : ℕ) → Type 0
+RowLeft m n p t r row b at b′ next a =
+    let M = heldModel m n p t in
+    SpanLeft (λ c. hypersBytes (c + n * r) (rowEdges M row c)) n b at (rowBytes M r row) b′ next a
+
+pub row-begun : (m : List ℕ) (n p t r : ℕ) (row : Row) (b : List ℕ) (at : ℕ) → at + length (rowBytes (heldModel m n p t) r row) ≤ length b → RowLeft m n p t r row b at b at 0
+unfolding heldModel
+row-begun m n p t r row b at h = span-begun _ _ _ _ (row-spans (heldModel m n p t) r row) h
 
 -- ---- the rows of an accepted formula
 

@@ -5,55 +5,148 @@ ghost use lib.ListN.{length};
 ghost use Rattle.wire.specs.Laid.{laid, Laid};
 ghost use Rattle.graph.specs.Format.{graphHeader};
 ghost use Rattle.graph.specs.Write.{writeHeader, writeGraph};
+ghost use Rattle.syntax.specs.declared.Row.the-variants.{True, And, Or, Next};
 ghost use Rattle.reduction.specs.Built as built;
-ghost use Rattle.transitions.specs.Held.{transitionsFrom, heldModel, heldRows, HoldsModel, HoldsRows, Starts, Own, Reads};
+ghost use Rattle.transitions.specs.Held.{transitionsFrom, heldModel, heldRows, HoldsModel, HoldsRows, Starts, Reads};
 ghost use Rattle.records.specs.Bytes.{hypersBytes, helperList, rowBytes, rowsBytes, helperBytes, helpersBytes, coverBytes, coversOf, RowFits, Narrow, HelpersFit};
 ghost use Rattle.build.specs.Built.{Writable};
+ghost use Rattle.build.specs.Leaf.{leafRow};
+use syntax::Action;
 use syntax::Quantifier;
 use syntax::Row;
 use value::Bound;
 use wire::Width;
 
-// The hyperedges of the node of state a and the row at place r; the state's transitions are so many from one on.
-fn put_row(
+// The hyperedges of true's nodes, over all states.
+fn put_true_states(room: &mut [u8], at: usize, m: &[u8], n: u32, p: u32, t: u32, r: u32) -> usize
+    requires { ⌜ RowFits n r True ⌝ }
+    requires { ⌜ at + length (rowBytes (heldModel (now m) n p t) r True) ≤ length (now room) ⌝ }
+    ensures { λ e. ⌜ Laid (now (room .entry)) at (rowBytes (heldModel (now (m .entry)) n p t) r True) (now (room .exit)) e ⌝ }
+{
+    let mut next = at;
+    let mut a: u32 = 0;
+    while a < n {
+        next = records::put_head(room, next, a + n * r, 0);
+        a += 1;
+    }
+    next
+}
+
+// Of the nodes of a proposition, or of its negation.
+fn put_leaf_states(
     room: &mut [u8],
     at: usize,
     m: &[u8],
     n: u32,
     p: u32,
     t: u32,
-    a: u32,
     r: u32,
-    first: u32,
-    many: u32,
-    row: Row,
+    i: u32,
+    is: bool,
 ) -> usize
     requires { ⌜ HoldsModel (now m) n p t ⌝ }
-    requires { ⌜ Own (now m) n t a first many ⌝ }
-    requires { ⌜ RowFits n r row ⌝ }
-    requires { ⌜ at + length (hypersBytes (a + n * r) (built.rowEdges (heldModel (now m) n p t) row a)) ≤ length (now room) ⌝ }
-    ensures { λ e. ⌜ Laid (now (room .entry)) at (hypersBytes (a + n * r) (built.rowEdges (heldModel (now (m .entry)) n p t) row a))
-        (now (room .exit)) e ⌝ }
+    requires { ⌜ RowFits n r (leafRow is i) ⌝ }
+    requires { ⌜ at + length (rowBytes (heldModel (now m) n p t) r (leafRow is i)) ≤ length (now room) ⌝ }
+    ensures { λ e. ⌜ Laid (now (room .entry)) at (rowBytes (heldModel (now (m .entry)) n p t) r (leafRow is i)) (now (room .exit)) e ⌝ }
 {
-    let v = a + n * r;
-    match row {
-        Row::True => records::put_head(room, at, v, 0),
-        Row::False => at,
-        Row::Proposition(i) => records::put_leaf(room, at, v, transitions::holds(m, n, p, t, a, i)),
-        Row::Negation(i) => records::put_leaf(room, at, v, !transitions::holds(m, n, p, t, a, i)),
-        Row::And(l, k) => records::put_pair(room, at, v, a + n * l, 0, a + n * k),
-        Row::Or(l, k) => {
-            let second = records::put_single(room, at, v, a + n * l);
-            records::put_single(room, second, v, a + n * k)
-        }
-        Row::Next(q, i, l, b) => {
-            records::put_next(room, at, m, n, v, first, many, q, i, b, n * l)
-        }
-        Row::Until(_, _, _, _) => at,
+    let mut next = at;
+    let mut a: u32 = 0;
+    while a < n {
+        let here = transitions::holds(m, n, p, t, a, i) == is;
+        next = records::put_leaf(room, next, a + n * r, here);
+        a += 1;
     }
+    next
 }
 
-// The hyperedges of a row's nodes, over all states; an until's have none.
+// Of the nodes of an and.
+fn put_and_states(
+    room: &mut [u8],
+    at: usize,
+    m: &[u8],
+    n: u32,
+    p: u32,
+    t: u32,
+    r: u32,
+    l: u32,
+    k: u32,
+) -> usize
+    requires { ⌜ RowFits n r (And l k) ⌝ }
+    requires { ⌜ at + length (rowBytes (heldModel (now m) n p t) r (And l k)) ≤ length (now room) ⌝ }
+    ensures { λ e. ⌜ Laid (now (room .entry)) at (rowBytes (heldModel (now (m .entry)) n p t) r (And l k)) (now (room .exit)) e ⌝ }
+{
+    let mut next = at;
+    let mut a: u32 = 0;
+    while a < n {
+        next = records::put_pair(room, next, a + n * r, a + n * l, 0, a + n * k);
+        a += 1;
+    }
+    next
+}
+
+// Of the nodes of an or.
+fn put_or_states(
+    room: &mut [u8],
+    at: usize,
+    m: &[u8],
+    n: u32,
+    p: u32,
+    t: u32,
+    r: u32,
+    l: u32,
+    k: u32,
+) -> usize
+    requires { ⌜ RowFits n r (Or l k) ⌝ }
+    requires { ⌜ at + length (rowBytes (heldModel (now m) n p t) r (Or l k)) ≤ length (now room) ⌝ }
+    ensures { λ e. ⌜ Laid (now (room .entry)) at (rowBytes (heldModel (now (m .entry)) n p t) r (Or l k)) (now (room .exit)) e ⌝ }
+{
+    let mut next = at;
+    let mut a: u32 = 0;
+    while a < n {
+        let v = a + n * r;
+        let second = records::put_single(room, next, v, a + n * l);
+        next = records::put_single(room, second, v, a + n * k);
+        a += 1;
+    }
+    next
+}
+
+// Of the nodes of an EX or AX.
+fn put_next_states(
+    room: &mut [u8],
+    at: usize,
+    m: &[u8],
+    n: u32,
+    p: u32,
+    t: u32,
+    table: &[u32],
+    r: u32,
+    q: Quantifier,
+    action: Action,
+    l: u32,
+    bound: Bound,
+) -> usize
+    requires { ⌜ HoldsModel (now m) n p t ⌝ }
+    requires { ⌜ (n < length (now table)) × Starts (now m) n t (now table) ⌝ }
+    requires { ⌜ RowFits n r (Next q action l bound) ⌝ }
+    requires { ⌜ at + length (rowBytes (heldModel (now m) n p t) r (Next q action l bound)) ≤ length (now room) ⌝ }
+    ensures { λ e. ⌜ Laid (now (room .entry)) at (rowBytes (heldModel (now (m .entry)) n p t) r (Next q action l bound)) (now (room .exit)) e ⌝ }
+{
+    let shift = n * l;
+    let mut next = at;
+    let mut a: u32 = 0;
+    while a < n {
+        let i = a as usize;
+        let first = table[i];
+        let many = table[i + 1] - first;
+        let v = a + n * r;
+        next = records::put_next(room, next, m, n, v, first, many, q, action, bound, shift);
+        a += 1;
+    }
+    next
+}
+
+// The hyperedges of a row's nodes, over all states; an until's have none. Which kind of row it is, is asked once.
 fn put_row_states(
     room: &mut [u8],
     at: usize,
@@ -71,19 +164,16 @@ fn put_row_states(
     requires { ⌜ at + length (rowBytes (heldModel (now m) n p t) r row) ≤ length (now room) ⌝ }
     ensures { λ e. ⌜ Laid (now (room .entry)) at (rowBytes (heldModel (now (m .entry)) n p t) r row) (now (room .exit)) e ⌝ }
 {
-    if let Row::Until(_, _, _, _) = row {
-        return at;
+    match row {
+        Row::True => put_true_states(room, at, m, n, p, t, r),
+        Row::False => at,
+        Row::Proposition(i) => put_leaf_states(room, at, m, n, p, t, r, i, true),
+        Row::Negation(i) => put_leaf_states(room, at, m, n, p, t, r, i, false),
+        Row::And(l, k) => put_and_states(room, at, m, n, p, t, r, l, k),
+        Row::Or(l, k) => put_or_states(room, at, m, n, p, t, r, l, k),
+        Row::Next(q, i, l, b) => put_next_states(room, at, m, n, p, t, table, r, q, i, l, b),
+        Row::Until(_, _, _, _) => at,
     }
-    let mut next = at;
-    let mut a: u32 = 0;
-    while a < n {
-        let i = a as usize;
-        let first = table[i];
-        let many = table[i + 1] - first;
-        next = put_row(room, next, m, n, p, t, a, r, first, many, row);
-        a += 1;
-    }
-    next
 }
 
 // The hyperedges of all rows' nodes.

@@ -5,26 +5,29 @@ use mathlib.Core.Logic.{_⊎_, inl, inr}
 use mathlib.Core.Path.{_≡_, refl, sym, ap, subst, _∙_}
 use lib.ListN.{getD}
 use native.Mathlib.Decide.{ℕ-discrete}
-use native.Mathlib.Numerals.{add-one}
 use native.Mathlib.Omega.{arith}
 use Rattle.lists.specs.Lists.{_∈_}
-use Rattle.value.specs.Stored.{stored}
 use Rattle.wire.specs.Layout.{items, end}
 use Rattle.wire.proofs.Stride.{end-wide}
 use Rattle.wire.proofs.Parts.{∈-items}
-use Rattle.rules.specs.Graph.{Hyper, Cover, Target}
+use Rattle.value.proofs.Stored.{⊑-stored}
+use Rattle.rules.specs.Graph.{Graph, Hyper, Cover, Target, Closed}
 use Rattle.rules.specs.Rounds.{rounds}
-use Rattle.rules.proofs.Skip.{Part, IdleHyper, IdleCover, stayed-hyper, stayed-cover, untouched}
+use Rattle.rules.proofs.Order.{rounds-fall}
+use Rattle.rules.proofs.Skip.{Part, IdleHyper, IdleCover, stayed-hyper, stayed-cover}
 use Rattle.graph.specs.Format.{graphHeader}
 use Rattle.graph.specs.Layouts.{hyperLayout, coverLayout, decoded}
-use Rattle.halves.specs.Room.{Beside}
 use Rattle.links.specs.Links.{Finds, Reached, hyperAt, coverAt, Index}
-use Rattle.changes.specs.Listed.{Listed}
+use Rattle.changes.specs.Listed.{Fallen, Listed}
 use Rattle.chains.specs.Taken.{Has, TakenAll}
 use Rattle.links.proofs.Linking.{hyper-far}
 use Rattle.graph.specs.Ready.{Ready}
 use Rattle.turns.specs.Turns.{AtRound}
 use Rattle.turns.proofs.Loop.{same-stays}
+
+-- no number of the next round is above that of this one
+pub round-fallen : (g : Graph) → Closed g → {budget i : ℕ} {b₀ b : List ℕ} → AtRound g budget i b₀ b → Fallen (g .nodes) b
+round-fallen g closed {budget} {i} w v l = omega (arith, w .this v l, w .next v l, ⊑-stored (rounds g (suc i) v) (rounds g i v) (rounds-fall g closed i v l))
 
 -- all targets stayed, or one of them changed
 targets-stay : (n : ℕ) (b : List ℕ) (ts : List Target)
@@ -44,8 +47,8 @@ targets-stay n b (u ∷ ts) = go (ℕ-discrete (getD b (u .node) 0) (getD b (n +
         each t (inr m) = all t m
 
 -- a turn has at hand: the graph is ready, its places are linked, the changed nodes are listed, and their records are taken in
-module _ {s : List ℕ} {n h c middle many : ℕ} {changed heads links spots b b₁ b₂ : List ℕ} {lo hi : ℕ} (ready : Ready s n h c) (behind : middle ≡ end (hyperLayout s n) h graphHeader)
-    (index : Index s n h c middle heads links spots) (listed : Listed n n b b₁ changed many) (all : TakenAll s n h c middle many changed heads links spots b₁ b₂ lo hi)
+module _ {s : List ℕ} {n h c middle from many : ℕ} {changed heads links spots b b₁ b₂ : List ℕ} (ready : Ready s n h c) (behind : middle ≡ end (hyperLayout s n) h graphHeader)
+    (index : Index s n h c middle heads links spots) (listed : Listed n n from many b changed) (all : TakenAll s n h c middle from many changed heads links spots b₁ b₂)
     {budget i : ℕ} {b₀ : List ℕ} (w : AtRound (decoded s n h c) budget i b₀ b) where
   -- the part has every record that has a changed node as a target
   has-changed : (v : ℕ) → v < n → ¬ (getD b v 0 ≡ getD b (n + v) 0) → (at : ℕ) → Finds heads links spots v at → Has s n middle (all .part) at
@@ -92,25 +95,8 @@ module _ {s : List ℕ} {n h c middle many : ℕ} {changed heads links spots b b
   unfolding decoded
   taken-part = record {
     nodes = all .taken .nodes;
-    hyper-of = λ m. all .taken .hyper-of m .0;
-    cover-of = λ {c = x} m. subst (λ (p : ℕ). x ∈ items (coverLayout s n) c p) behind (all .taken .cover-of m .0);
+    hyper-of = all .taken .hyper-of;
+    cover-of = λ {c = x} m. subst (λ (p : ℕ). x ∈ items (coverLayout s n) c p) behind (all .taken .cover-of m);
     hyper-in = λ m. hyper-in-part m (∈-items (hyperLayout s n) h graphHeader m);
     cover-in = λ {c = x} m. let m′ = subst (λ (p : ℕ). x ∈ items (coverLayout s n) c p) (sym behind) m in cover-in-part m′ (∈-items (coverLayout s n) c middle m′);
   }
-
-  -- a node of which no record is taken in stays in the next round too
-  pub taken-beside : AtRound (decoded s n h c) budget (i + 1) b₀ b₂ → Beside n lo hi b₂
-  unfolding decoded
-  taken-beside w′ = record {
-    before = λ v l named. still v named (λ o. omega (arith, o .0));
-    behind = λ v l named. still v named (λ o. omega (arith, o .1));
-  }
-    where
-      still : (v : ℕ) → v < n → ¬ ((lo ≤ v) × (v < hi)) → getD b₂ v 0 ≡ getD b₂ (n + v) 0
-      still v named out =
-          let w″ : AtRound (decoded s n h c) budget (suc i) b₀ b₂ = rw (add-one i) at w′ in
-          w″ .this v named
-          ∙ ap stored (untouched (decoded s n h c) (all .part) (ready .closed) (suc i) taken-part v named
-          (λ x m e. let r = all .taken .hyper-of m in out (omega (arith, r .1), omega (arith, r .2)))
-          (λ x m e. let r = all .taken .cover-of m in out (omega (arith, r .1), omega (arith, r .2))))
-          ∙ sym (w″ .next v named)

@@ -31,24 +31,22 @@ pub record Has (s : List ℕ) (n middle : ℕ) (p : Graph) (at : ℕ) : Type 0 w
   pub hyper : at < middle → hyperLayout s n .item at ∈ p .hypers
   pub cover : middle ≤ at → coverLayout s n .item at ∈ p .covers
 
--- the second half has the least of what it had and the round of a part of the graph, all of whose sources are from lo to before hi
-pub record Taken (s : List ℕ) (n h c middle : ℕ) (b₀ b : List ℕ) (p : Graph) (lo hi : ℕ) : Type 0 where
+-- the second half has the least of what it had and the round of a part of the graph
+pub record Taken (s : List ℕ) (n h c middle : ℕ) (b₀ b : List ℕ) (p : Graph) : Type 0 where
   pub nodes : p .nodes ≡ n
   pub room : Done n 0 n b₀ b (λ v. min (getD b₀ (n + v) 0) (stored (round p (held (half n 0 b₀)) v)))
-  pub low : lo ≤ n
-  pub high : hi ≤ n
-  pub hyper-of : {x : Hyper} → x ∈ p .hypers → (x ∈ items (hyperLayout s n) h graphHeader) × (lo ≤ x .source) × (x .source < hi)
-  pub cover-of : {x : Cover} → x ∈ p .covers → (x ∈ items (coverLayout s n) c middle) × (lo ≤ x .source) × (x .source < hi)
+  pub hyper-of : {x : Hyper} → x ∈ p .hypers → x ∈ items (hyperLayout s n) h graphHeader
+  pub cover-of : {x : Cover} → x ∈ p .covers → x ∈ items (coverLayout s n) c middle
 
 -- a part that has what p has, and the records of a chain
-pub record Further (s : List ℕ) (n h c middle : ℕ) (links spots : List ℕ) (head : ℕ) (b₀ b : List ℕ) (p : Graph) (lo hi : ℕ) : Type 0 where
+pub record Further (s : List ℕ) (n h c middle : ℕ) (links spots : List ℕ) (head : ℕ) (b₀ b : List ℕ) (p : Graph) : Type 0 where
   pub part : Graph
-  pub taken : Taken s n h c middle b₀ b part lo hi
+  pub taken : Taken s n h c middle b₀ b part
   pub keeps : (at : ℕ) → Has s n middle p at → Has s n middle part at
   pub has : (q : ℕ) → Reached links q head → Has s n middle part (getD spots q 0)
 
--- a part that has the records of the chains of the changed nodes
-pub record TakenAll (s : List ℕ) (n h c middle many : ℕ) (changed heads links spots b₀ b : List ℕ) (lo hi : ℕ) : Type 0 where
+-- a part that has the records of the chains of the nodes that are listed
+pub record TakenAll (s : List ℕ) (n h c middle from many : ℕ) (changed heads links spots b₀ b : List ℕ) : Type 0 where
   pub part : Graph
-  pub taken : Taken s n h c middle b₀ b part lo hi
-  pub has : (k : ℕ) → k < many → (q : ℕ) → Reached links q (getD heads (getD changed k 0) 0) → Has s n middle part (getD spots q 0)
+  pub taken : Taken s n h c middle b₀ b part
+  pub has : (k : ℕ) → k < many → (q : ℕ) → Reached links q (getD heads (getD changed (from + k) 0) 0) → Has s n middle part (getD spots q 0)

@@ -1,3 +1,3 @@
 -- Laws of what changed.
---     Listing    the first half is brought up to the second, and the nodes that changed are listed
+--     Listing    the nodes that changed, one more of a pass or of a record; the first half is brought up at them
 pub mod Listing

@@ -1,6 +1,5 @@
 -- What a scan of all edges says of the claims: they are accepted, or not. Assumes nothing.
 use Prim.Native.Nat.{ℕ, _+_, _-_, _*_, _≤_, _<_}
-use native.Mathlib.Nat.{le-refl}
 use native.Mathlib.Omega.{arith}
 use mathlib.Core.Bool.{true}
 use mathlib.Core.List.{List}
@@ -10,7 +9,8 @@ use lib.ListN.{getD, replicate}
 use Rattle.lists.specs.Lists.{_∈_}
 use Rattle.value.specs.Value.{Value, fin, inf, finite, _≼_, _⊑_}
 use Rattle.value.specs.Stored.{stored, infinite}
-use Rattle.value.proofs.Values.{≼-fin, ≼-inf, ≼-plus, plus-≼, ≼-finite, fin-⊑-fin, ≤-of-⊑, inf-⊑-fin}
+use Rattle.value.proofs.Values.{≼-fin, ≼-inf, ≼-plus, plus-≼, ≼-finite, fin-⊑-fin}
+use Rattle.value.proofs.Stored.{⊑-stored}
 use Rattle.wire.specs.Bytes.{Bytes, number}
 use Rattle.wire.specs.Layout.{end}
 use Rattle.wire.proofs.Bytes.{number-below}
@@ -25,17 +25,10 @@ use Rattle.support.specs.Claims.{Support, by-hyper, by-cover, Accepts}
 use Rattle.support.specs.Backing.{HyperFair, HyperBacks, CoverFair, CoverBacks}
 use Rattle.claims.specs.Scans.{Marked}
 use Rattle.claimed.specs.Targets.{AllBacked}
-use Rattle.support.proofs.Zeros.{zeros-at}
+use Rattle.lists.proofs.Zeros.{zeros-at}
 use Rattle.support.proofs.Edgewise.{edgewise-accepted, accepted-edgewise, supported-bound}
 
--- the order of values and that of their stored numbers, where none is cut off
-⊑-stored : (a b : Value) → a ⊑ b → stored a ≤ stored b
-unfolding stored
-⊑-stored (fin a) (fin b) h = omega (arith, ≤-of-⊑ h)
-⊑-stored (fin a) inf h = omega arith
-⊑-stored inf (fin b) h = inf-⊑-fin h
-⊑-stored inf inf h = le-refl infinite
-
+-- and that of stored numbers is the order of values, where none is cut off
 stored-⊑ : (a b : Value) {m : ℕ} → stored a ≤ stored b → b ≼ m → m < infinite → a ⊑ b
 unfolding stored
 stored-⊑ (fin a) (fin b) h p l = let q = ≼-fin p in fin-⊑-fin (omega arith)

@@ -24,7 +24,7 @@ use Rattle.rules.proofs.Cycles.{still-or-cycle}
 use Rattle.rules.proofs.Walks.{layered-free}
 use Rattle.graph.specs.Layouts.{targetLayout}
 use Rattle.cycles.specs.Labels.{label, Within, Deepest, HyperFalls, CoverFalls, Deeper, Pass}
-use Rattle.support.proofs.Zeros.{zeros-at}
+use Rattle.lists.proofs.Zeros.{zeros-at}
 
 -- the targets of a sound hyperedge are nodes
 pub target-named : (s : List ℕ) (n k at : ℕ) → Sound (targetLayout s n) k at → (t : Target) → t ∈ items (targetLayout s n) k at → t .node < n

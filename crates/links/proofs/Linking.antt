@@ -2,12 +2,13 @@
 use Prim.Native.Nat.{ℕ, zero, suc, _+_, _-_, _*_, _<_, _≤_}
 use mathlib.Core.List.{List, [], List·Memᴰ·not-nil, List·Memᴰ·cases-cons}
 use mathlib.Core.Logic.{_⊎_, inl, inr}
-use mathlib.Core.Path.{_≡_, sym, ap, subst, _∙_}
-use lib.ListN.{length, getD, set, length-set, replicate, length-replicate, getD-replicate, List·getD-eq-default}
+use mathlib.Core.Path.{_≡_, refl, sym, ap, subst, _∙_}
+use lib.ListN.{length, getD, set, length-set, replicate, length-replicate}
 use lib.Seq.{getD-set-same, getD-set-other}
 use native.Mathlib.Decide.{ℕ-discrete, decLt}
 use native.Mathlib.Omega.{arith}
 use Rattle.lists.specs.Lists.{_∈_}
+use Rattle.lists.proofs.Zeros.{zeros-at}
 use Rattle.wire.specs.Bytes.{number}
 use Rattle.wire.specs.Layout.{items, end}
 use Rattle.wire.proofs.Layouts.{items-more}
@@ -15,7 +16,7 @@ use Rattle.wire.proofs.Parts.{end-add}
 use Rattle.rules.specs.Graph.{Target}
 use Rattle.graph.specs.Format.{graphHeader, hyperWidth, targetWidth}
 use Rattle.graph.specs.Layouts.{targetLayout, hyperLayout}
-use Rattle.links.specs.Links.{Reached, here, further, Finds, RecordAt, hyper, cover, hyperAt, targetsAt, coverAt, targetOf, Linked, Index}
+use Rattle.links.specs.Links.{Reached, here, further, Finds, RecordAt, hyper, cover, hyperAt, targetsAt, coverAt, targetOf, Long, Linked, Index}
 
 -- a number of a list in which one was set, at any place
 set-at : (P : ℕ → Type 0) (l : List ℕ) (u k v : ℕ) → u < length l → (v ≡ u → P k) → (¬ (v ≡ u) → P (getD l v 0)) → P (getD (set l u k) v 0)
@@ -25,12 +26,41 @@ set-at P l u k v h at-it beside = go (ℕ-discrete v u)
     go (yes e) = rw (e, getD-set-same l u k 0 h) (at-it e)
     go (no e) = rw (getD-set-other l u v k 0 e) (beside e)
 
-zeros-at : (v : ℕ) → _≡_ {A = ℕ} (getD (replicate 4096 0) v 0) 0
-zeros-at v = go (decLt v 4096)
-  where
-    go : Dec (v < 4096) → _≡_ {A = ℕ} (getD (replicate 4096 0) v 0) 0
-    go (yes l) = getD-replicate {A = ℕ} 4096 v 0 0 l
-    go (no l) = List·getD-eq-default (replicate 4096 0) 0 {n = v} (omega (arith, length-replicate {A = ℕ} 4096 0))
+-- lists of zeros, and lists in which a number is set, are as long
+pub long-zeros : (n most : ℕ) → n ≤ most → most ≤ 65535 → Long n (replicate most 0) (replicate most 0) (replicate most 0)
+long-zeros n most l h =
+    let e = length-replicate {A = ℕ} most 0 in
+    record { nodes = omega arith; same = refl; short = omega arith }
+
+long-set : {n : ℕ} {heads links spots : List ℕ} → Long n heads links spots → (v a q b e : ℕ) → Long n (set heads v a) (set links q b) (set spots q e)
+long-set {n} {heads} {links} {spots} d v a q b e = record {
+  nodes = omega (arith, length-set heads v a, d .nodes);
+  same = omega (arith, length-set spots q e, length-set links q b, d .same);
+  short = omega (arith, length-set links q b, d .short);
+}
+
+-- lists that are as long as others
+pub record Kept (heads₀ links₀ spots₀ heads links spots : List ℕ) : Type 0 where
+  pub heads-long : length heads ≡ length heads₀
+  pub links-long : length links ≡ length links₀
+  pub spots-long : length spots ≡ length spots₀
+
+pub kept-none : {heads links spots : List ℕ} → Kept heads links spots heads links spots
+kept-none = record { heads-long = refl; links-long = refl; spots-long = refl }
+
+pub kept-long : {n : ℕ} {heads₀ links₀ spots₀ heads links spots : List ℕ} → Kept heads₀ links₀ spots₀ heads links spots → Long n heads₀ links₀ spots₀ → Long n heads links spots
+kept-long k d = record { nodes = omega (arith, k .heads-long, d .nodes); same = k .spots-long ∙ d .same ∙ sym (k .links-long); short = omega (arith, k .links-long, d .short) }
+
+pub kept-on : {heads₀ links₀ spots₀ heads links spots heads′ links′ spots′ : List ℕ} → Kept heads₀ links₀ spots₀ heads links spots
+    → length heads′ ≡ length heads → length links′ ≡ length links → length spots′ ≡ length spots → Kept heads₀ links₀ spots₀ heads′ links′ spots′
+kept-on k x y z = record { heads-long = x ∙ k .heads-long; links-long = y ∙ k .links-long; spots-long = z ∙ k .spots-long }
+
+pub kept-set : {heads₀ links₀ spots₀ heads links spots : List ℕ} → Kept heads₀ links₀ spots₀ heads links spots → (v a q b e : ℕ) → Kept heads₀ links₀ spots₀ (set heads v a) (set links q b) (set spots q e)
+kept-set {heads = heads} {links = links} {spots = spots} k v a q b e = record {
+  heads-long = length-set heads v a ∙ k .heads-long;
+  links-long = length-set links q b ∙ k .links-long;
+  spots-long = length-set spots q e ∙ k .spots-long;
+}
 
 -- a chain stays below its head
 pub reached-below : {links : List ℕ} {q head : ℕ} → ((p : ℕ) → getD links p 0 ≤ p) → Reached links q head → q < head
@@ -57,9 +87,9 @@ reached-set {links} {q} falls place k l (further other e r) =
 
 -- one place more for node v: its link is the node's head, and it is the node's head
 module _ {s : List ℕ} {n middle h c places : ℕ} {rest : List Target} {heads links spots : List ℕ} (d : Linked s n middle h rest c places heads links spots)
-    (room : places < 4096) (v : ℕ) (named : v < 4096) (at : ℕ) where
+    (room : places < length links) (v : ℕ) (named : v < n) (at : ℕ) where
   new-head : getD (set heads v (places + 1)) v 0 ≡ places + 1
-  new-head = getD-set-same heads v (places + 1) 0 (omega (arith, d .heads-long))
+  new-head = getD-set-same heads v (places + 1) 0 (omega (arith, d .long .nodes))
 
   -- what was found still is
   found-still : {u p : ℕ} → Finds heads links spots u p → Finds (set heads v (places + 1)) (set links places (getD heads v 0)) (set spots places at) u p
@@ -76,47 +106,43 @@ module _ {s : List ℕ} {n middle h c places : ℕ} {rest : List Target} {heads 
       go : Dec (u ≡ v) → Reached (set links places (getD heads v 0)) (f .place) (getD heads u 0) → Reached (set links places (getD heads v 0)) (f .place) (getD (set heads v (places + 1)) u 0)
       go (yes e) old =
           let is : getD (set heads v (places + 1)) u 0 ≡ places + 1 = rw e new-head in
-          let link : getD (set links places (getD heads v 0)) places 0 ≡ getD heads u 0 = rw e (getD-set-same links places (getD heads v 0) 0 (omega (arith, d .links-long))) in
+          let link : getD (set links places (getD heads v 0)) places 0 ≡ getD heads u 0 = rw e (getD-set-same links places (getD heads v 0) 0 room) in
           further places is (rw link old)
       go (no e) old = rw (getD-set-other heads v u (places + 1) 0 e) old
 
   -- and so is the new one
   found-new : Finds (set heads v (places + 1)) (set links places (getD heads v 0)) (set spots places at) v at
-  found-new = record { place = places; reached = here new-head; stands = getD-set-same spots places at 0 (omega (arith, d .spots-long)) }
+  found-new = record { place = places; reached = here new-head; stands = getD-set-same spots places at 0 (omega (arith, d .long .same)) }
 
   within-more : (u : ℕ) → getD (set heads v (places + 1)) u 0 ≤ places + 1
-  within-more u = set-at (λ k. k ≤ places + 1) heads v (places + 1) u (omega (arith, d .heads-long)) (λ e. omega arith) (λ e. omega (arith, d .within u))
+  within-more u = set-at (λ k. k ≤ places + 1) heads v (places + 1) u (omega (arith, d .long .nodes)) (λ e. omega arith) (λ e. omega (arith, d .within u))
 
   falls-more : (q : ℕ) → getD (set links places (getD heads v 0)) q 0 ≤ q
-  falls-more q = set-at (λ k. k ≤ q) links places (getD heads v 0) q (omega (arith, d .links-long)) (λ e. omega (arith, d .within v)) (λ e. d .falls q)
+  falls-more q = set-at (λ k. k ≤ q) links places (getD heads v 0) q room (λ e. omega (arith, d .within v)) (λ e. d .falls q)
 
   records-more : {h′ c′ : ℕ} → h ≤ h′ → c ≤ c′ → RecordAt s n h′ c′ middle at → (q : ℕ) → q < places + 1 → RecordAt s n h′ c′ middle (getD (set spots places at) q 0)
-  records-more {h′} {c′} hs cs new q l = set-at (λ k. RecordAt s n h′ c′ middle k) spots places at q (omega (arith, d .spots-long)) (λ e. new) (λ e. wider (d .records q (omega arith)))
+  records-more {h′} {c′} hs cs new q l = set-at (λ k. RecordAt s n h′ c′ middle k) spots places at q (omega (arith, d .long .same)) (λ e. new) (λ e. wider (d .records q (omega arith)))
     where
       wider : {p : ℕ} → RecordAt s n h c middle p → RecordAt s n h′ c′ middle p
       wider (hyper j l e) = hyper j (omega arith) e
       wider (cover j l e) = cover j (omega arith) e
 
 -- nothing is linked
-pub linked-none : (s : List ℕ) (n middle : ℕ) → Linked s n middle 0 [] 0 0 (replicate 4096 0) (replicate 4096 0) (replicate 4096 0)
-linked-none s n middle = record {
-  heads-long = length-replicate {A = ℕ} 4096 0;
-  links-long = length-replicate {A = ℕ} 4096 0;
-  spots-long = length-replicate {A = ℕ} 4096 0;
-  within = λ v. omega (arith, zeros-at v);
-  falls = λ q. omega (arith, zeros-at q);
-  records = λ q l. absurd (omega arith);
-  hypers = λ j t l. absurd (omega arith);
-  covers = λ j l. absurd (omega arith);
+pub linked-none : (s : List ℕ) (n middle most : ℕ) → n ≤ most → most ≤ 65535 → Linked s n middle 0 [] 0 0 (replicate most 0) (replicate most 0) (replicate most 0)
+linked-none s n middle most l h = record {
+  long = long-zeros n most l h;
+  within = λ v. omega (arith, zeros-at most v);
+  falls = λ q. omega (arith, zeros-at most q);
+  records = λ q k. absurd (omega arith);
+  hypers = λ j t k. absurd (omega arith);
+  covers = λ j k. absurd (omega arith);
 }
 
 -- the targets of one hyperedge more are left to link
 module _ {s : List ℕ} {n middle j places : ℕ} {heads links spots : List ℕ} (d : Linked s n middle j [] 0 places heads links spots) where
   pub linked-open : (ts : List Target) → targetsAt s n j ≡ ts → Linked s n middle (j + 1) ts 0 places heads links spots
   linked-open ts e = record {
-    heads-long = d .heads-long;
-    links-long = d .links-long;
-    spots-long = d .spots-long;
+    long = d .long;
     within = d .within;
     falls = d .falls;
     records = λ q l. wider (d .records q l);
@@ -143,12 +169,10 @@ module _ {s : List ℕ} {n middle h places : ℕ} {heads links spots : List ℕ}
   linked-end e = subst (λ (k : ℕ). Linked s n middle h (items (targetLayout s n) k q) 0 places heads links spots) e d
 
   -- the next of them is linked
-  pub linked-turn : (j : ℕ) → h ≡ j + 1 → 0 < i → places < 4096 → (v : ℕ) → v ≡ targetLayout s n .item q .node → v < 4096 → (at : ℕ) → at ≡ hyperAt s n j
+  pub linked-turn : (j : ℕ) → h ≡ j + 1 → 0 < i → places < length links → (v : ℕ) → v ≡ targetLayout s n .item q .node → v < n → (at : ℕ) → at ≡ hyperAt s n j
       → Linked s n middle h (items (targetLayout s n) (i - 1) (q + targetWidth)) 0 (places + 1) (set heads v (places + 1)) (set links places (getD heads v 0)) (set spots places at)
   linked-turn j last some room v is named at there = record {
-    heads-long = length-set heads v (places + 1) ∙ d .heads-long;
-    links-long = length-set links places (getD heads v 0) ∙ d .links-long;
-    spots-long = length-set spots places at ∙ d .spots-long;
+    long = long-set (d .long) v (places + 1) places (getD heads v 0) at;
     within = within-more d room v named at;
     falls = falls-more d room v named at;
     records = records-more d room v named at (omega arith) (omega arith) (hyper j (omega arith) there);
@@ -175,12 +199,10 @@ module _ {s : List ℕ} {n middle h places : ℕ} {heads links spots : List ℕ}
 
 -- one cover edge more is linked
 module _ {s : List ℕ} {n middle h j places : ℕ} {heads links spots : List ℕ} (d : Linked s n middle h [] j places heads links spots) where
-  pub linked-cover : places < 4096 → (v : ℕ) → v ≡ targetOf s n middle j → v < 4096 → (at : ℕ) → at ≡ coverAt s n middle j
+  pub linked-cover : places < length links → (v : ℕ) → v ≡ targetOf s n middle j → v < n → (at : ℕ) → at ≡ coverAt s n middle j
       → Linked s n middle h [] (j + 1) (places + 1) (set heads v (places + 1)) (set links places (getD heads v 0)) (set spots places at)
   linked-cover room v is named at there = record {
-    heads-long = length-set heads v (places + 1) ∙ d .heads-long;
-    links-long = length-set links places (getD heads v 0) ∙ d .links-long;
-    spots-long = length-set spots places at ∙ d .spots-long;
+    long = long-set (d .long) v (places + 1) places (getD heads v 0) at;
     within = within-more d room v named at;
     falls = falls-more d room v named at;
     records = records-more d room v named at (omega arith) (omega arith) (cover j (omega arith) there);
@@ -200,8 +222,9 @@ module _ {s : List ℕ} {n middle h j places : ℕ} {heads links spots : List �
           rw (same, sym is, sym there) (found-new d room v named at)
 
   -- all are linked
-  pub linked-all : places ≤ 4096 → Index s n h j middle heads links spots
+  pub linked-all : places ≤ length links → Index s n h j middle heads links spots
   linked-all few = record {
+    long = d .long;
     within = λ v. omega (arith, d .within v);
     falls = d .falls;
     records = λ v q r. d .records q (omega (arith, reached-below (d .falls) r, d .within v));

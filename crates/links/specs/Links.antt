@@ -11,11 +11,17 @@ use Rattle.rules.specs.Graph.{Target}
 use Rattle.graph.specs.Format.{graphHeader, hyperWidth, targetWidth, coverTargetAt, coverWidth}
 use Rattle.graph.specs.Layouts.{hyperLayout, coverLayout}
 
--- a graph whose nodes, places and positions can be numbered
-pub record Fits (n h c middle : ℕ) : Type 0 where
-  pub nodes : n ≤ 4096
+-- a graph whose nodes, places and positions can be numbered, in lists that are so long
+pub record Fits (n h c middle most : ℕ) : Type 0 where
+  pub nodes : n ≤ most
   pub positions : middle + c * coverWidth ≤ 65535
-  pub places : middle + c * targetWidth ≤ graphHeader + h * hyperWidth + 4096 * targetWidth
+  pub places : middle + c * targetWidth ≤ graphHeader + h * hyperWidth + most * targetWidth
+
+-- the lists: a head for each node; places, of which a number of 16 bits tells each
+pub record Long (n : ℕ) (heads links spots : List ℕ) : Type 0 where
+  pub nodes : n ≤ length heads
+  pub same : length spots ≡ length links
+  pub short : length links ≤ 65535
 
 -- place q is on the chain that starts at a head: 0 is none, and k + 1 is place k, whose link leads on
 pub data Reached (links : List ℕ) (q : ℕ) : ℕ → Type 0 where
@@ -48,9 +54,7 @@ targetOf s n middle j = number 2 s (coverAt s n middle j + coverTargetAt)
 
 -- so many places are linked: the targets of h hyperedges, but for those left of the last of them, and c cover edges
 pub record Linked (s : List ℕ) (n middle h : ℕ) (rest : List Target) (c places : ℕ) (heads links spots : List ℕ) : Type 0 where
-  pub heads-long : length heads ≡ 4096
-  pub links-long : length links ≡ 4096
-  pub spots-long : length spots ≡ 4096
+  pub long : Long n heads links spots
   pub within : (v : ℕ) → getD heads v 0 ≤ places
   pub falls : (q : ℕ) → getD links q 0 ≤ q
   pub records : (q : ℕ) → q < places → RecordAt s n h c middle (getD spots q 0)
@@ -59,7 +63,8 @@ pub record Linked (s : List ℕ) (n middle h : ℕ) (rest : List Target) (c plac
 
 -- all are linked: what a chain leads to is a record, and the chain of a node leads to every record that has the node as a target
 pub record Index (s : List ℕ) (n h c middle : ℕ) (heads links spots : List ℕ) : Type 0 where
-  pub within : (v : ℕ) → getD heads v 0 ≤ 4096
+  pub long : Long n heads links spots
+  pub within : (v : ℕ) → getD heads v 0 ≤ length links
   pub falls : (q : ℕ) → getD links q 0 ≤ q
   pub records : (v q : ℕ) → Reached links q (getD heads v 0) → RecordAt s n h c middle (getD spots q 0)
   pub hypers : (j : ℕ) (t : Target) → j < h → t ∈ targetsAt s n j → Finds heads links spots (t .node) (hyperAt s n j)

@@ -7,14 +7,15 @@ ghost use lib.ListN.{length};
 ghost use Rattle.wire.specs.Layout.{items, end, Sound};
 ghost use Rattle.graph.specs.Format.{graphHeader, hyperWidth, targetWidth, coverWidth};
 ghost use Rattle.graph.specs.Layouts.{targetLayout, hyperLayout, coverLayout, Scannable};
-ghost use Rattle.links.specs.Links.{Fits, Linked, Index};
+ghost use Rattle.links.specs.Links.{Fits, Long, Linked, Index};
 use wire::Width;
 
-// Whether a graph is small enough: its nodes, its targets and cover edges, and the positions of its records.
-pub fn fit(n: usize, h: u32, c: u32, middle: usize) -> bool
-    ensures { λ r. ⌜ (r ≡ true → Fits n h c middle) ⌝ }
+// Whether a graph is small enough for lists of a length: its nodes, its targets and cover edges, and the positions of its records.
+pub fn fit(n: usize, h: u32, c: u32, middle: usize, most: u16) -> bool
+    ensures { λ r. ⌜ (r ≡ true → Fits n h c middle most) ⌝ }
 {
-    if 4096 < n {
+    let places = most as usize;
+    if places < n {
         return false;
     }
     if 65535 < middle {
@@ -26,23 +27,25 @@ pub fn fit(n: usize, h: u32, c: u32, middle: usize) -> bool
         return false;
     }
     let hypers = (h as usize) * graph::HYPER;
-    middle + covers * graph::TARGET <= graph::HEADER + hypers + 4096 * graph::TARGET
+    middle + covers * graph::TARGET <= graph::HEADER + hypers + places * graph::TARGET
 }
 
-// Links the k targets of the hyperedge at position p, from a place on, and gives the place behind them.
+// Links the k targets of the hyperedge at position p, from a place on, and gives the place behind them. All of them are nodes: the test
+// of it never fails, but where it stands the compiler reads a node as one number, and not as two bytes.
 fn link(
     s: &[u8],
     n: usize,
     p: usize,
     k: u32,
     place: usize,
-    heads: &mut [u16; 4096],
-    links: &mut [u16; 4096],
-    spots: &mut [u16; 4096],
+    heads: &mut [u16],
+    links: &mut [u16],
+    spots: &mut [u16],
 ) -> usize
     requires { ⌜ Sound (targetLayout (now s) n) k (p + hyperWidth) ⌝ }
     requires { ⌜ p + hyperWidth ≤ length (now s) ⌝ }
-    requires { ⌜ (n ≤ 4096) × (p ≤ 65535) × (place + k ≤ 4096) ⌝ }
+    requires { ⌜ Long n (now heads) (now links) (now spots) ⌝ }
+    requires { ⌜ (p ≤ 65535) × (place + k ≤ length (now links)) ⌝ }
     ensures { λ r. ⌜ r ≡ place + k ⌝ }
     ensures { λ _. ⌜ ((middle j : ℕ) → p ≡ end (hyperLayout (now (s .entry)) n) j graphHeader
         → Linked (now (s .entry)) n middle (j + 1) (items (targetLayout (now (s .entry)) n) k (p + hyperWidth)) 0 place (now (heads .entry)) (now (links .entry)) (now (spots .entry))
@@ -53,6 +56,9 @@ fn link(
     let mut at = place;
     while 0 < i {
         let v = wire::number_at(s, q + graph::NODE_AT, Width::Two) as usize;
+        if n <= v {
+            return at;
+        }
         let head = heads[v];
         links[at] = head;
         spots[at] = p as u16;
@@ -64,19 +70,20 @@ fn link(
     at
 }
 
-// Links the targets of h hyperedges, which end at `middle`, and gives how many they are.
+// Links the targets of h hyperedges, which end at `middle`, and gives how many they are. Where a count is the one before it the next
+// position need not wait for it.
 fn link_hypers(
     s: &[u8],
     n: usize,
     h: u32,
     middle: usize,
-    heads: &mut [u16; 4096],
-    links: &mut [u16; 4096],
-    spots: &mut [u16; 4096],
+    heads: &mut [u16],
+    links: &mut [u16],
+    spots: &mut [u16],
 ) -> usize
     requires { ⌜ Sound (hyperLayout (now s) n) h graphHeader ⌝ }
     requires { ⌜ middle ≡ end (hyperLayout (now s) n) h graphHeader ⌝ }
-    requires { ⌜ (n ≤ 4096) × (middle ≤ 65535) × (middle ≤ graphHeader + h * hyperWidth + 4096 * targetWidth) ⌝ }
+    requires { ⌜ (middle ≤ 65535) × (middle ≤ graphHeader + h * hyperWidth + length (now links) * targetWidth) ⌝ }
     requires { ⌜ Linked (now s) n middle 0 [] 0 0 (now heads) (now links) (now spots) ⌝ }
     ensures { λ r. ⌜ middle ≡ graphHeader + h * hyperWidth + r * targetWidth ⌝ }
     ensures { λ r. ⌜ Linked (now (s .entry)) n middle h [] 0 r (now (heads .exit)) (now (links .exit)) (now (spots .exit)) ⌝ }
@@ -84,11 +91,20 @@ fn link_hypers(
     let mut j: u32 = 0;
     let mut p: usize = graph::HEADER;
     let mut place: usize = 0;
+    let mut last: u32 = 0;
+    let mut stride: usize = graph::HYPER;
     while j < h {
         let count = wire::number_at(s, p + graph::TARGET_COUNT_AT, Width::Two);
-        place = link(s, n, p, count, place, heads, links, spots);
-        p += graph::HYPER + (count as usize) * graph::TARGET;
         j += 1;
+        if count == last {
+            place = link(s, n, p, last, place, heads, links, spots);
+            p += stride;
+        } else {
+            place = link(s, n, p, count, place, heads, links, spots);
+            last = count;
+            stride = graph::HYPER + (count as usize) * graph::TARGET;
+            p += stride;
+        }
     }
     place
 }
@@ -101,12 +117,12 @@ fn link_covers(
     c: u32,
     middle: usize,
     place: usize,
-    heads: &mut [u16; 4096],
-    links: &mut [u16; 4096],
-    spots: &mut [u16; 4096],
+    heads: &mut [u16],
+    links: &mut [u16],
+    spots: &mut [u16],
 )
     requires { ⌜ Sound (coverLayout (now s) n) c middle ⌝ }
-    requires { ⌜ (n ≤ 4096) × (middle + c * coverWidth ≤ 65535) × (place + c ≤ 4096) ⌝ }
+    requires { ⌜ (middle + c * coverWidth ≤ 65535) × (place + c ≤ length (now links)) ⌝ }
     requires { ⌜ Linked (now s) n middle h [] 0 place (now heads) (now links) (now spots) ⌝ }
     ensures { λ _. ⌜ Index (now (s .entry)) n h c middle (now (heads .exit)) (now (links .exit)) (now (spots .exit)) ⌝ }
 {
@@ -132,13 +148,13 @@ pub fn link_all(
     h: u32,
     c: u32,
     middle: usize,
-    heads: &mut [u16; 4096],
-    links: &mut [u16; 4096],
-    spots: &mut [u16; 4096],
+    heads: &mut [u16],
+    links: &mut [u16],
+    spots: &mut [u16],
 )
     requires { ⌜ Scannable (now s) n h c ⌝ }
     requires { ⌜ middle ≡ end (hyperLayout (now s) n) h graphHeader ⌝ }
-    requires { ⌜ Fits n h c middle ⌝ }
+    requires { ⌜ Fits n h c middle (length (now links)) ⌝ }
     requires { ⌜ Linked (now s) n middle 0 [] 0 0 (now heads) (now links) (now spots) ⌝ }
     ensures { λ _. ⌜ Index (now (s .entry)) n h c middle (now (heads .exit)) (now (links .exit)) (now (spots .exit)) ⌝ }
 {

@@ -6,6 +6,7 @@
 --     Places     elements by their places
 --     Each       what holds of each element
 --     Order      numbers that rise between two ends
+--     Zeros      a list of zeros has zero everywhere
 pub mod Tests
 pub mod Lists
 pub mod Making
@@ -13,3 +14,4 @@ pub mod Kept
 pub mod Places
 pub mod Each
 pub mod Order
+pub mod Zeros

@@ -30,7 +30,7 @@ pub fn run(s: &[u8], n: usize, h: u32, c: u32, budget: u32, room: &mut [u64]) ->
     if halves::same(n, 0, n, room) {
         return Outcome::Settled(1);
     }
-    if links::fit(n, h, c, middle) {
+    if links::fit(n, h, c, middle, 4096) {
         return chained::run_linked(s, n, h, c, middle, budget, room);
     }
     marked::run_on(s, n, h, c, middle, budget, room)

@@ -25,7 +25,6 @@ use Rattle.sizing.specs.declared.Size.{Size}
 use Rattle.sizing.specs.Size.{noSize, addSize, sizeOf, stateEdges, rowsEdges, nextSize, stepSize, helperSize}
 use Rattle.transitions.specs.Looked.{leafEdges}
 use Rattle.transitions.proofs.Accepted.{own, out-length, near-length}
-use Rattle.lists.proofs.Making.{span-more}
 use Rattle.sizing.proofs.Untils.{other-row, by-row}
 
 -- ---- sums of sizes
@@ -97,16 +96,7 @@ pub size-alike : (f : ℕ → List (List Target)) (z : Size) → ((a : ℕ) → 
 size-alike f z h zero some p q l = absurd (omega arith)
 size-alike f z h (suc n) some p q l = same p q l ∙ sym (size-same f z h 0 n)
 
--- a turn of a loop over a span: what is summed, and what is left, make the whole
-pub size-turn : (f : ℕ → List (List Target)) (a n : ℕ) (sum one : Size) {w : Size} → addSize sum (sizeOf (span f a (n - a))) ≡ w → a < n → sizeOf (f a) ≡ one
-    → addSize (addSize sum one) (sizeOf (span f (a + 1) (n - (a + 1)))) ≡ w
-size-turn f a n sum one whole h is =
-    let rest = sizeOf (span f (a + 1) (n - (a + 1))) in
-    let more : sizeOf (span f a (n - a)) ≡ addSize one rest =
-    ap sizeOf (span-more f n a h) ∙ size-append (f a) (span f (a + 1) (n - (a + 1))) ∙ ap (λ (z : Size). addSize z rest) is in
-    add-assoc sum one rest ∙ ap (addSize sum) (sym more) ∙ whole
-
--- and of a loop over rows
+-- a turn of a loop over rows
 pub rows-turn : (M : Model) (row : Row) (rows : List Row) (sum one : Size) {w : Size} → addSize sum (sizeOf (rowsEdges M (row ∷ rows))) ≡ w
     → sizeOf (span (stateEdges M row) 0 (M .states)) ≡ one → addSize (addSize sum one) (sizeOf (rowsEdges M rows)) ≡ w
 unfolding rowsEdges
@@ -136,7 +126,7 @@ helper-size M row h a = by-row (λ row. sizeOf (helperEdges M row h a) ≡ helpe
 
     until : (q : Quantifier) (l r : ℕ) (b : Bound) → sizeOf (helperEdges M (Until q l r b) h a) ≡ stepSize q n
     until Some l r b =
-        let most : max 1 (cond (ltb n 1) 0 2) ≡ cond (ltb n 1) 1 2 = by-test (ltb n 1) (λ e. rw e) (λ e. rw e) in
+        let most : max 1 (cond (ltb n 1) 0 2) ≡ 1 + min n 1 = by-test (ltb n 1) (λ e. rw e (omega (arith, ltb-true))) (λ e. rw e (omega (arith, ltb-false))) in
         ap (addSize (record { hypers = 1; targets = 1; most = 1 })) (size-map _ 2 (λ t. refl) (out M a)) ∙ same refl (omega arith) most
     until Every l r b = every (out M a)
       where
@@ -145,7 +135,7 @@ helper-size M row h a = by-row (λ row. sizeOf (helperEdges M row h a) ≡ helpe
         every [] = refl
         every (t ∷ ts) =
             let k = length-map (t ∷ ts) (λ (t : Target). to (t .weight) (t .node + M .states * h)) in
-            rw (le-ltb (length (t ∷ ts)) 1 (omega arith)) (same refl (omega arith) (omega arith))
+            same (omega arith) (omega arith) (omega arith)
 
 -- both together, from the two
 pub state-size : (M : Model) (row : Row) (a : ℕ) {many : ℕ} {own helper : Size} → length (out M a) ≡ many → own ≡ sizeOf (rowEdges M row a) → helper ≡ helperSize row many
@@ -197,7 +187,7 @@ module _ (M : Model) (few : length (M .transitions) ≤ 65535) where
 
   step-small : (q : Quantifier) (a : ℕ) → Small 131071 (stepSize q (length (out M a)))
   step-small Some a = omega (arith, out-few a)
-  step-small Every a = by-test (ltb (length (out M a)) 1) (λ e. rw e (omega arith)) (λ e. rw e (omega (arith, out-few a)))
+  step-small Every a = omega (arith, out-few a)
 
   helper-small : (row : Row) (a : ℕ) → Small 131071 (helperSize row (length (out M a)))
   helper-small row a =
@@ -208,7 +198,7 @@ module _ (M : Model) (few : length (M .transitions) ≤ 65535) where
 
   -- with at most 256 states
   module _ (states : M .states ≤ 256) where
-    pub states-small : (row : Row) → Small 67108864 (sizeOf (span (stateEdges M row) 0 (M .states)))
+    states-small : (row : Row) → Small 67108864 (sizeOf (span (stateEdges M row) 0 (M .states)))
     states-small row = let h = small-span (stateEdges M row) 262144 (state-small row) 0 (M .states) in omega arith
 
     pub rows-small : (rows : List Row) → Small (length rows * 67108864) (sizeOf (rowsEdges M rows))

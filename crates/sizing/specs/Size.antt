@@ -1,9 +1,9 @@
 -- How much room the hyperedges of a graph take: how many, how many targets in all, and in the one with the most.
-use Prim.Native.Nat.{ℕ, _+_, _*_, min, max}
+use Prim.Native.Nat.{ℕ, zero, suc, _+_, _*_, min, max}
 use mathlib.Core.List.{List, [], _∷_, _++_}
-use mathlib.Core.Bool.{Bool, cond, _&&_}
+use mathlib.Core.Bool.{Bool, _&&_}
 use lib.ListN.{length}
-use lib.Dec.{ltb, leb}
+use lib.Dec.{leb}
 use Rattle.lists.specs.Making.{span}
 use Rattle.rules.specs.Graph.{Target}
 use Rattle.model.specs.Model.{Model}
@@ -20,6 +20,15 @@ noSize = record { hypers = 0; targets = 0; most = 0 }
 -- the size of two lists of hyperedges together
 abbrev pub addSize : Size → Size → Size
 addSize x y = record { hypers = x .hypers + y .hypers; targets = x .targets + y .targets; most = max (x .most) (y .most) }
+
+-- of so many hyperedges without targets
+abbrev pub bareSize : ℕ → Size
+bareSize k = record { hypers = k; targets = 0; most = 0 }
+
+-- n sizes together, those of the numbers from a on
+unfoldable pub sizes : (ℕ → Size) → (a n : ℕ) → Size
+sizes z a zero = noSize
+sizes z a (suc n) = addSize (z a) (sizes z (suc a) n)
 
 -- of the target lists of hyperedges
 unfoldable pub sizeOf : List (List Target) → Size
@@ -40,8 +49,8 @@ nextSize Some near = record { hypers = near; targets = near; most = min near 1 }
 nextSize Every near = record { hypers = 1; targets = near; most = near }
 
 abbrev pub stepSize : Quantifier → ℕ → Size
-stepSize Some many = record { hypers = 1 + many; targets = 1 + 2 * many; most = cond (ltb many 1) 1 2 }
-stepSize Every many = cond (ltb many 1) (record { hypers = 1; targets = 1; most = 1 }) (record { hypers = 2; targets = 2 + many; most = 1 + many })
+stepSize Some many = record { hypers = 1 + many; targets = 1 + 2 * many; most = 1 + min many 1 }
+stepSize Every many = record { hypers = 1 + min many 1; targets = 1 + min many 1 + many; most = 1 + many }
 
 -- of a row's helper, which only an until has
 abbrev pub helperSize : Row → ℕ → Size

@@ -1,16 +1,20 @@
 // How much room the graph takes, before anything is written.
 ghost use mathlib.Core.Bool.{true, not};
 ghost use mathlib.Core.Path.{_≡_};
-ghost use Prim.Native.Nat.{_+_, _≤_, _<_};
+ghost use Prim.Native.Nat.{_+_, _≤_, _<_, min, max};
 ghost use lib.ListN.{length};
 ghost use Rattle.lists.specs.Making.{span};
 ghost use Rattle.graph.specs.Format.{graphLength};
+ghost use Rattle.model.specs.Model as model;
+ghost use Rattle.syntax.specs.declared.Quantifier.the-variants.{Some, Every};
 ghost use Rattle.reduction.specs.Built as built;
-ghost use Rattle.transitions.specs.Held.{heldModel, heldRows, HoldsModel, HoldsRows, Starts, Own};
-ghost use Rattle.sizing.specs.Size.{inLimits, addSize, sizeOf, stateEdges, rowsEdges, nextSize, helperSize};
+ghost use Rattle.transitions.specs.Held.{heldModel, heldRows, HoldsModel, HoldsRows, Starts};
+ghost use Rattle.sizing.specs.Size.{inLimits, addSize, bareSize, sizeOf, sizes, stateEdges, rowsEdges, nextSize, stepSize};
 ghost use Rattle.transitions.specs.Looked.{leafEdges};
+use syntax::Action;
 use syntax::Quantifier;
 use syntax::Row;
+use value::Bound;
 
 // How many hyperedges, how many targets in all, and in the one with the most.
 pub struct Size {
@@ -44,121 +48,132 @@ impl Size {
     }
 }
 
-// The size of the hyperedges of a row's node; the state's transitions are so many from one on.
-fn row_size(m: &[u8], n: u32, p: u32, t: u32, a: u32, first: u32, many: u32, row: Row) -> Size
+// In how many states a proposition holds.
+fn count_held(m: &[u8], n: u32, p: u32, t: u32, i: u32) -> u64
     requires { ⌜ HoldsModel (now m) n p t ⌝ }
-    requires { ⌜ Own (now m) n t a first many ⌝ }
-    ensures { λ r. ⌜ r ≡ sizeOf (built.rowEdges (heldModel (now (m .entry)) n p t) row a) ⌝ }
+    ensures { λ r. ⌜ (r ≤ n) × (bareSize r ≡ sizes (λ a. sizeOf (leafEdges (model.holds (heldModel (now (m .entry)) n p t) i a))) 0 n) ⌝ }
 {
-    match row {
-        Row::True => Size {
-            hypers: 1,
-            targets: 0,
-            most: 0,
-        },
-        Row::False => Size::NONE,
-        Row::Proposition(i) => leaf_size(transitions::holds(m, n, p, t, a, i)),
-        Row::Negation(i) => leaf_size(!transitions::holds(m, n, p, t, a, i)),
-        Row::And(_, _) => Size {
-            hypers: 1,
-            targets: 2,
-            most: 2,
-        },
-        Row::Or(_, _) => Size {
-            hypers: 2,
-            targets: 2,
-            most: 1,
-        },
-        Row::Next(q, k, _, b) => next_size(q, transitions::near_count(m, n, first, many, k, b)),
-        Row::Until(_, _, _, _) => Size::NONE,
+    let mut held: u64 = 0;
+    let mut a: u32 = 0;
+    while a < n {
+        let here = transitions::holds(m, n, p, t, a, i);
+        held += here as u64;
+        a += 1;
+    }
+    held
+}
+
+// The size of so many hyperedges without targets.
+fn bare(hypers: u64) -> Size
+    ensures { λ r. ⌜ r ≡ bareSize hypers ⌝ }
+{
+    Size {
+        hypers: hypers,
+        targets: 0,
+        most: 0,
     }
 }
 
-// One hyperedge without targets, or none.
-fn leaf_size(one: bool) -> Size
-    ensures { λ r. ⌜ r ≡ sizeOf (leafEdges one) ⌝ }
+// The larger of two numbers.
+fn larger(x: u64, y: u64) -> u64
+    ensures { λ r. ⌜ r ≡ max x y ⌝ }
 {
-    if one {
-        Size {
-            hypers: 1,
-            targets: 0,
-            most: 0,
-        }
-    } else {
-        Size::NONE
+    if x < y {
+        return y;
+    }
+    x
+}
+
+// One of any, and none of none.
+fn any_of(x: u64) -> u64
+    ensures { λ r. ⌜ r ≡ min x 1 ⌝ }
+{
+    if x < 1 {
+        return 0;
+    }
+    1
+}
+
+// EX has a hyperedge for each transition that it looks at: those of all states are those of the model.
+fn some_next(m: &[u8], n: u32, p: u32, t: u32, action: Action, bound: Bound) -> Size
+    requires { ⌜ HoldsModel (now m) n p t ⌝ }
+    ensures { λ r. ⌜ r ≡ sizes (λ a. nextSize Some (length (built.near (heldModel (now (m .entry)) n p t) action bound a))) 0 n ⌝ }
+{
+    let near = transitions::near_count(m, n, 0, t, action, bound);
+    Size {
+        hypers: near,
+        targets: near,
+        most: any_of(near),
     }
 }
 
-// EX has a hyperedge for each transition, AX one with all.
-fn next_size(q: Quantifier, near: u64) -> Size
-    ensures { λ r. ⌜ r ≡ nextSize q near ⌝ }
-{
-    match q {
-        Quantifier::Some => Size {
-            hypers: near,
-            targets: near,
-            most: if near < 1 { 0 } else { 1 },
-        },
-        Quantifier::Every => Size {
-            hypers: 1,
-            targets: near,
-            most: near,
-        },
-    }
-}
-
-// The size of the hyperedges of a row's helper node, where it has one.
-fn helper_size(row: Row, many: u64) -> Size
-    requires { ⌜ many ≤ 65535 ⌝ }
-    ensures { λ r. ⌜ r ≡ helperSize row many ⌝ }
-{
-    let Row::Until(q, _, _, _) = row else {
-        return Size::NONE;
-    };
-    match q {
-        Quantifier::Some => Size {
-            hypers: 1 + many,
-            targets: 1 + 2 * many,
-            most: if many < 1 { 1 } else { 2 },
-        },
-        Quantifier::Every => {
-            if many < 1 {
-                return Size {
-                    hypers: 1,
-                    targets: 1,
-                    most: 1,
-                };
-            }
-            Size {
-                hypers: 2,
-                targets: 2 + many,
-                most: 1 + many,
-            }
-        }
-    }
-}
-
-// The size of the hyperedges of a row's nodes and helpers, over all states.
-fn states_size(m: &[u8], n: u32, p: u32, t: u32, table: &[u32], row: Row) -> Size
+// AX has a hyperedge in each state, with all transitions that it looks at.
+fn every_next(m: &[u8], n: u32, p: u32, t: u32, table: &[u32], action: Action, bound: Bound) -> Size
     requires { ⌜ HoldsModel (now m) n p t ⌝ }
     requires { ⌜ (n < length (now table)) × Starts (now m) n t (now table) ⌝ }
-    ensures { λ r. ⌜ r ≡ sizeOf (span (stateEdges (heldModel (now (m .entry)) n p t) row) 0 n) ⌝ }
+    ensures { λ r. ⌜ r ≡ sizes (λ a. nextSize Every (length (built.near (heldModel (now (m .entry)) n p t) action bound a))) 0 n ⌝ }
 {
-    let mut sum = Size::NONE;
+    let mut targets: u64 = 0;
+    let mut most: u64 = 0;
     let mut a: u32 = 0;
     while a < n {
         let i = a as usize;
         let first = table[i];
         let many = table[i + 1] - first;
-        let own = row_size(m, n, p, t, a, first, many, row);
-        let helper = helper_size(row, many as u64);
-        sum = sum.plus(own).plus(helper);
+        let near = transitions::near_count(m, n, first, many, action, bound);
+        targets += near;
+        most = larger(most, near);
         a += 1;
     }
-    sum
+    Size {
+        hypers: n as u64,
+        targets: targets,
+        most: most,
+    }
 }
 
-// The same, with no walk over the states where they are all alike.
+// E until has a hyperedge in each state, and one for each transition: those of all states are those of the model.
+fn some_until(m: &[u8], n: u32, p: u32, t: u32) -> Size
+    requires { ⌜ HoldsModel (now m) n p t ⌝ }
+    ensures { λ r. ⌜ r ≡ sizes (λ a. stepSize Some (length (built.out (heldModel (now (m .entry)) n p t) a))) 0 n ⌝ }
+{
+    let all = n as u64;
+    let many = t as u64;
+    Size {
+        hypers: all + many,
+        targets: all + 2 * many,
+        most: 1 + any_of(many),
+    }
+}
+
+// A until has a hyperedge in each state, and one more where there are transitions, with all of them.
+fn every_until(m: &[u8], n: u32, p: u32, t: u32, table: &[u32]) -> Size
+    requires { ⌜ HoldsModel (now m) n p t ⌝ }
+    requires { ⌜ (n < length (now table)) × Starts (now m) n t (now table) ⌝ }
+    ensures { λ r. ⌜ r ≡ sizes (λ a. stepSize Every (length (built.out (heldModel (now (m .entry)) n p t) a))) 0 n ⌝ }
+{
+    let mut hypers: u64 = 0;
+    let mut targets: u64 = 0;
+    let mut most: u64 = 0;
+    let mut a: u32 = 0;
+    while a < n {
+        let i = a as usize;
+        let first = table[i];
+        let many = (table[i + 1] - first) as u64;
+        let own = 1 + any_of(many);
+        hypers += own;
+        targets += own + many;
+        most = larger(most, 1 + many);
+        a += 1;
+    }
+    Size {
+        hypers: hypers,
+        targets: targets,
+        most: most,
+    }
+}
+
+// The size of the hyperedges of a row's nodes and helpers, over all states.
 fn row_total(m: &[u8], n: u32, p: u32, t: u32, table: &[u32], row: Row) -> Size
     requires { ⌜ HoldsModel (now m) n p t ⌝ }
     requires { ⌜ (n < length (now table)) × Starts (now m) n t (now table) ⌝ }
@@ -167,12 +182,10 @@ fn row_total(m: &[u8], n: u32, p: u32, t: u32, table: &[u32], row: Row) -> Size
     let all = n as u64;
     let twice = all * 2;
     match row {
-        Row::True => Size {
-            hypers: all,
-            targets: 0,
-            most: 0,
-        },
+        Row::True => bare(all),
         Row::False => Size::NONE,
+        Row::Proposition(i) => bare(count_held(m, n, p, t, i)),
+        Row::Negation(i) => bare(all - count_held(m, n, p, t, i)),
         Row::And(_, _) => Size {
             hypers: all,
             targets: twice,
@@ -183,7 +196,14 @@ fn row_total(m: &[u8], n: u32, p: u32, t: u32, table: &[u32], row: Row) -> Size
             targets: twice,
             most: 1,
         },
-        _ => states_size(m, n, p, t, table, row),
+        Row::Next(q, k, _, b) => match q {
+            Quantifier::Some => some_next(m, n, p, t, k, b),
+            Quantifier::Every => every_next(m, n, p, t, table, k, b),
+        },
+        Row::Until(q, _, _, _) => match q {
+            Quantifier::Some => some_until(m, n, p, t),
+            Quantifier::Every => every_until(m, n, p, t, table),
+        },
     }
 }
 

@@ -3,9 +3,7 @@
 --     Edgewise   claims checked edge by edge; how large a supported claim can be
 --     Judging    what the numbers that were read say of an edge
 --     Passing    a walk over the records of a message
---     Zeros      a room that is all 0 at first
 pub mod Accepted
 pub mod Edgewise
 pub mod Judging
 pub mod Passing
-pub mod Zeros

@@ -60,13 +60,26 @@ fn pass_many(m: &[u8], n: u32, p: u32, t: u32, a: u32, first: u32) -> u32
     i
 }
 
+// The same where states have many transitions; where they have few, asking would cost more than it passes.
+fn pass_some(m: &[u8], n: u32, p: u32, t: u32, a: u32, first: u32, dense: bool) -> u32
+    requires { ⌜ HoldsModel (now m) n p t ⌝ }
+    requires { ⌜ (first ≤ t) × RiseFrom a (transitionsFrom (now m) n first (t - first)) ⌝ }
+    ensures { λ r. ⌜ (first ≤ r) × (r ≤ t) × (r + leading a (transitionsFrom (now (m .entry)) n r (t - r))
+        ≡ first + leading a (transitionsFrom (now (m .entry)) n first (t - first))) ⌝ }
+{
+    if dense {
+        return pass_many(m, n, p, t, a, first);
+    }
+    first
+}
+
 // The first transition from this one on that doesn't leave state a.
-fn past_state(m: &[u8], n: u32, p: u32, t: u32, a: u32, first: u32) -> u32
+fn past_state(m: &[u8], n: u32, p: u32, t: u32, a: u32, first: u32, dense: bool) -> u32
     requires { ⌜ HoldsModel (now m) n p t ⌝ }
     requires { ⌜ (first ≤ t) × RiseFrom a (transitionsFrom (now m) n first (t - first)) ⌝ }
     ensures { λ r. ⌜ (first ≤ r) × (r ≤ t) × (r ≡ first + leading a (transitionsFrom (now (m .entry)) n first (t - first))) ⌝ }
 {
-    let mut i = pass_many(m, n, p, t, a, first);
+    let mut i = pass_some(m, n, p, t, a, first, dense);
     while i < t {
         let at = transition_at(n, i);
         let from = wire::number_at(m, at, Width::Two);
@@ -83,11 +96,12 @@ pub fn starts(m: &[u8], n: u32, p: u32, t: u32) -> [u32; 257]
     requires { ⌜ HoldsModel (now m) n p t ⌝ }
     ensures { λ r. ⌜ (257 ≡ length r) × Starts (now (m .entry)) n t r ⌝ }
 {
+    let dense = 8 * n < t;
     let mut table = [0u32; 257];
     let mut first: u32 = 0;
     let mut a: u32 = 0;
     while a < n {
-        first = past_state(m, n, p, t, a, first);
+        first = past_state(m, n, p, t, a, first, dense);
         a += 1;
         let i = a as usize;
         table[i] = first;

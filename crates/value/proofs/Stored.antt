@@ -2,11 +2,13 @@
 use mathlib.Core.Path.{_≡_, refl}
 use Prim.Native.Nat.{ℕ, _+_, _-_, _≤_, _<_, min, max}
 use native.Mathlib.Decide.{ℕ-discrete}
+use native.Mathlib.Nat.{le-refl}
 use native.Mathlib.Omega.{arith}
 use lib.Dec.{leb}
 use borrow.Author.Tests.{eq-eqb, ne-eqb, lt-leb, le-leb}
-use Rattle.value.specs.Value.{Value, fin, inf, plus, greatest, least, atMost, finite}
+use Rattle.value.specs.Value.{Value, fin, inf, plus, greatest, least, atMost, finite, _⊑_}
 use Rattle.value.specs.Stored.{infinite, meaning, stored}
+use Rattle.value.proofs.Values.{≤-of-⊑, inf-⊑-fin}
 
 pub meaning-infinite : {k : ℕ} → k ≡ infinite → meaning k ≡ inf
 unfolding meaning
@@ -75,3 +77,11 @@ within-number k b h = by-meaning k (λ p e. rw (e, lt-leb k b (omega arith))) (�
 
 pub within-finite : (k : ℕ) → k ≤ infinite → leb k (infinite - 1) ≡ finite (meaning k)
 within-finite k h = by-meaning k (λ p e. rw (e, lt-leb k (infinite - 1) (omega arith))) (λ p e. rw (e, le-leb k (infinite - 1) (omega arith)))
+
+-- the order of values is that of their stored numbers
+pub ⊑-stored : (a b : Value) → a ⊑ b → stored a ≤ stored b
+unfolding stored
+⊑-stored (fin a) (fin b) h = omega (arith, ≤-of-⊑ h)
+⊑-stored (fin a) inf h = omega arith
+⊑-stored inf (fin b) h = inf-⊑-fin h
+⊑-stored inf inf h = le-refl infinite

@@ -80,6 +80,26 @@ pub put-last : (b : List ℕ) (at k n : ℕ) → 0 < k → at + k ≤ length b �
 put-last b at zero n p h = absurd (not-suc-le-zero p)
 put-last b at (suc k) n p h = simp sub-one (sym (put-suc b at k n h))
 
+-- one byte, two and four, the last first
+pub put-one : (b : List ℕ) (at n : ℕ) → at + 1 ≤ length b → set b at (n % 256) ≡ put b at 1 n
+put-one b at n h =
+    let one : put (set b (at + 0) (n % 256)) at 0 (n / 256) ≡ put b at 1 n = put-last b at 1 n (omega arith) h in
+    sym (put-none (set b at (n % 256)) at (n / 256)) ∙ (rw add-zero at one)
+
+pub put-two : (b : List ℕ) (at n : ℕ) → at + 2 ≤ length b → set (set b (at + 1) (n % 256)) at (n / 256 % 256) ≡ put b at 2 n
+put-two b at n h =
+    let long = length-set b (at + 1) (n % 256) in
+    put-one (set b (at + 1) (n % 256)) at (n / 256) (omega (arith, long)) ∙ put-last b at 2 n (omega arith) h
+
+pub put-four : (b : List ℕ) (at n : ℕ) → at + 4 ≤ length b
+    → set (set (set (set b (at + 3) (n % 256)) (at + 2) (n / 256 % 256)) (at + 1) (n / 256 / 256 % 256)) at (n / 256 / 256 / 256 % 256) ≡ put b at 4 n
+put-four b at n h =
+    let c = set b (at + 3) (n % 256) in
+    let d = set c (at + 2) (n / 256 % 256) in
+    let first = length-set b (at + 3) (n % 256) in
+    let second = length-set c (at + 2) (n / 256 % 256) in
+    put-two d at (n / 256 / 256) (omega (arith, first, second)) ∙ put-last c at 3 (n / 256) (omega arith) (omega (arith, first)) ∙ put-last b at 4 n (omega arith) h
+
 -- parts of bytes are bytes
 pub front-bytes : (k : ℕ) (s : List ℕ) → Bytes s → Bytes (take k s)
 front-bytes k s bytes i = by-test (ltb i k)

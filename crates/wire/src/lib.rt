@@ -142,17 +142,41 @@ pub fn read(s: &[u8], at: usize, width: Width) -> Field
     Field::Number(number_at(s, at, width))
 }
 
+// Stores the 2 bytes of a number where they fit: of the number with its bytes swapped the compiler makes one store.
+fn store_two(b: &mut [u8], at: usize, v: u32)
+    requires { ⌜ at + 2 ≤ length (now b) ⌝ }
+    ensures { λ _. ⌜ now (b .exit) ≡ put (now (b .entry)) at 2 v ⌝ }
+{
+    let swapped = v % 256 * 256 + v / 256 % 256;
+    b[at + 1] = (swapped / 256) as u8;
+    b[at] = (swapped % 256) as u8;
+}
+
+// Stores the 4 bytes of a number where they fit, likewise.
+fn store_four(b: &mut [u8], at: usize, v: u32)
+    requires { ⌜ at + 4 ≤ length (now b) ⌝ }
+    ensures { λ _. ⌜ now (b .exit) ≡ put (now (b .entry)) at 4 v ⌝ }
+{
+    let front = v % 256 * 256 + v / 256 % 256;
+    let back = v / 256 / 256 % 256 * 256 + v / 256 / 256 / 256 % 256;
+    let swapped = front * 65536 + back;
+    b[at + 3] = (swapped / 16777216) as u8;
+    b[at + 2] = (swapped / 65536 % 256) as u8;
+    b[at + 1] = (swapped / 256 % 256) as u8;
+    b[at] = (swapped % 256) as u8;
+}
+
 // Stores a number's bytes where they fit.
 pub fn store(b: &mut [u8], at: usize, width: Width, v: u32)
     requires { ⌜ at + widthOf width ≤ length (now b) ⌝ }
     ensures { λ _. ⌜ now (b .exit) ≡ put (now (b .entry)) at (widthOf width) v ⌝ }
 {
-    let mut i = width.bytes();
-    let mut rest = v;
-    while 0 < i {
-        i -= 1;
-        b[at + i] = (rest % 256) as u8;
-        rest /= 256;
+    match width {
+        Width::One => {
+            b[at] = (v % 256) as u8;
+        }
+        Width::Two => store_two(b, at, v),
+        Width::Four => store_four(b, at, v),
     }
 }
 

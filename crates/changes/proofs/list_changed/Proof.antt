@@ -1,77 +1,92 @@
--- `changes::list_changed` meets its contract: those below v are brought up and listed.
+-- `changes::list_changed` meets its contract: those below v that changed are listed.
 use Prim.Native.Nat.{_+_, _-_, _≤_, _<_}
-use borrow.Author.Tests.{not-false}
+use mathlib.Core.Path.{_≡_, refl, _∙_}
+use denote.Ref.{now}
 use native.Mathlib.Omega.{arith}
-use lib.ListN.{length}
+use lib.ListN.{length, length-set}
 use Rattle.changes.specs.Listed.{Listed}
-use Rattle.changes.proofs.Listing.{listed-begin, listed-rest, listed-alike}
+use Rattle.changes.proofs.Listing.{listed-none, listed-few, listed-same, listed-more}
 use Rattle.changes.proofs.list_changed.Statement.{statement}
 use Rattle.changes.proofs.list_changed.Tie as tie
 
 abbrev Inv-loop : tie.InvT-loop
-Inv-loop n lo hi changed₀ room₀ k₀ v₀ changed room k v = (v ≤ n) × Listed n v room₀ room changed k
+Inv-loop n changed₀ room k₀ v₀ changed k v = (v ≤ n) × Listed n v 0 k room changed × (length changed ≡ length changed₀)
 
 abbrev μ-loop : tie.MeasureT-loop
-μ-loop n lo hi changed₀ room₀ k₀ v₀ changed room k v = hi - v
+μ-loop n changed₀ room k₀ v₀ changed k v = n - v
 
--- the call, from a turn; the block, from behind its list
-abbrev start : tie.At-loop Inv-loop μ-loop → tie.Start Inv-loop μ-loop
+-- the call, from the loop's test
+abbrev start : tie.In-loop Inv-loop μ-loop → tie.Start Inv-loop μ-loop
 start c = c .before .before
 
-abbrev after-block : tie.After-slice-known2 Inv-loop μ-loop → tie.After-block Inv-loop μ-loop
-after-block c = c .before .before .before .before .before .before .before .before
-
 loop-holds : tie.Need-loop-holds Inv-loop μ-loop
-loop-holds c = let p = c .before .pre .1 in (p .0 .0, listed-begin (p .1 .0) (p .0 .0) (p .1 .1))
+loop-holds c = (omega arith, listed-none (omega (arith, c .pre .1 .0 .0)) (c .pre .1 .1), refl)
 
--- the room is as long as it was
-long : (c : tie.At-loop Inv-loop μ-loop) → start c .args .n + start c .args .n ≤ length (c .loop .room)
-long c = rw (c .loop .inv .1 .raised .same-length) (start c .pre .0)
+-- the node is below n, the room long enough, and so is the list
+below : (c : tie.In-loop Inv-loop μ-loop) → let a = start c .args in let l = c .before .loop in
+    (l .v < a .n) × (a .n ≤ 65535) × (a .n + a .n ≤ length (now (a .room))) × (l .k ≤ l .v) × (a .n ≤ length (l .changed))
+below c =
+    let a = start c .pre in
+    let l = c .before .loop .inv in
+    (c .loop-test .taken, a .1 .0 .1, a .0, listed-few (l .1), omega (arith, l .1 .long))
 
-sub-block : tie.Need-sub-block Inv-loop μ-loop
-sub-block c = omega arith
+add-other : tie.Need-add-other Inv-loop μ-loop
+add-other c = omega (arith, below c)
 
-block-requires : tie.Need-block-requires Inv-loop μ-loop
-block-requires c κs = tt
+mul-value : tie.Need-mul-value Inv-loop μ-loop
+mul-value c = omega (arith, below c)
+
+shared-slice-read-value : tie.Need-shared-slice-read-value Inv-loop μ-loop
+shared-slice-read-value c = omega (arith, below (c .before))
+
+mul-old : tie.Need-mul-old Inv-loop μ-loop
+mul-old c = omega (arith, below (c .before))
+
+shared-slice-read-old : tie.Need-shared-slice-read-old Inv-loop μ-loop
+shared-slice-read-old c = omega (arith, below (c .before .before))
 
 add-v : tie.Need-add-v Inv-loop μ-loop
-add-v c = omega (arith, c .block .ensures)
+add-v c = omega (arith, below (c .before .before))
 
--- a block is not empty, and ends within
-stops : (c : tie.After-block Inv-loop μ-loop) → let l = c .before .before .loop in let a = start (c .before .before) .args in
-    (l .v < l .v + c .block .result) × (l .v + c .block .result ≤ a .hi) × (a .hi ≤ a .n)
-stops c = (omega (arith, c .block .ensures), omega (arith, c .block .ensures), start (c .before .before) .pre .1 .0 .1)
+cast-changed : tie.Need-cast-changed Inv-loop μ-loop
+cast-changed c = omega (arith, below (c .before .before .before))
 
-alike-requires : tie.Need-alike-requires Inv-loop μ-loop
-alike-requires c κs = (omega (arith, stops (c .before)), long (c .before .before .before))
+mul-changed : tie.Need-mul-changed Inv-loop μ-loop
+mul-changed c = omega (arith, below (c .before .before .before))
 
-list-block-requires : tie.Need-list-block-requires Inv-loop μ-loop
-list-block-requires c κs =
-    let b = c .before .before .before .before .before in
-    let t = b .before .before in
-    (long t, (omega arith, omega (arith, stops b), start t .pre .1 .0 .2, t .loop .inv .1 .few))
+slice-write-changed : tie.Need-slice-write-changed Inv-loop μ-loop
+slice-write-changed c = omega (arith, below (c .before .before .before))
+
+add-k : tie.Need-add-k Inv-loop μ-loop
+add-k c = omega (arith, below (c .before .before .before))
 
 loop-less : tie.Need-loop-less Inv-loop μ-loop
-loop-less c = let b = after-block c in omega (arith, stops b)
+loop-less c = omega (arith, c .before .before .before .loop-test .taken)
 
 loop-again : tie.Need-loop-again Inv-loop μ-loop
 loop-again c =
-    let b = after-block c in
-    (omega (arith, stops b), c .before .before .list-block .ensures _ (start (b .before .before) .pre .0) (b .before .before .loop .inv .1))
+    let t = c .before .before .before in
+    let l = t .before .loop in
+    let z : 0 + l .k ≡ l .k = omega arith in
+    (omega (arith, t .loop-test .taken), rw z at (listed-more (l .inv .1) (t .loop-test .taken) (λ q. omega (arith, c .if1 .taken)) (omega (arith, below t))), length-set (l .changed) _ _ ∙ l .inv .2)
 
 loop-less-2 : tie.Need-loop-less-2 Inv-loop μ-loop
-loop-less-2 c = omega (arith, stops (c .before .before .before))
+loop-less-2 c = omega (arith, c .before .before .before .loop-test .taken)
 
 loop-again-2 : tie.Need-loop-again-2 Inv-loop μ-loop
 loop-again-2 c =
-    let b = c .before .before .before in
-    (omega (arith, stops b), listed-alike (b .before .before .loop .inv .1) _ (c .before .alike .ensures .0 (not-false _ (c .if1 .left))))
+    let t = c .before .before .before in
+    let l = t .before .loop in
+    (omega (arith, t .loop-test .taken), listed-same (l .inv .1) (omega (arith, c .if1 .left)), l .inv .2)
 
 same-length : tie.Need-same-length Inv-loop μ-loop
-same-length c = c .before .loop .inv .1 .raised .same-length
+same-length c = c .before .loop .inv .2
 
 returns : tie.Need-returns Inv-loop μ-loop
-returns c = listed-rest (omega arith) (c .before .loop .inv .0) (start (c .before) .pre .1 .1 .1) (c .before .loop .inv .1)
+returns c =
+    let l = c .before .loop in
+    let e : l .v ≡ c .before .before .args .n = omega (arith, l .inv .0) in
+    rw e at (l .inv .1)
 
 pub list-changed-spec : {M : Type 1} → statement M
 list-changed-spec =
@@ -80,11 +95,16 @@ list-changed-spec =
     Inv-loop
     μ-loop
     loop-holds
-    sub-block
-    block-requires
+    add-other
+    mul-value
+    shared-slice-read-value
+    mul-old
+    shared-slice-read-old
     add-v
-    alike-requires
-    list-block-requires
+    cast-changed
+    mul-changed
+    slice-write-changed
+    add-k
     loop-less
     loop-again
     loop-less-2

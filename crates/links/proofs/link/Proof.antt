@@ -1,22 +1,23 @@
 -- `links::link` meets its contract: the targets at q are left to link.
-use Prim.Native.Nat.{ℕ, _+_, _<_}
+use Prim.Native.Nat.{ℕ, _+_, _<_, _≤_}
 use mathlib.Core.List.{[]}
 use mathlib.Core.Path.{_≡_, refl, subst}
 use denote.Ref.{now}
+use lib.ListN.{length}
 use native.Mathlib.Omega.{arith}
 use borrow.Author.Needs.{needs}
 use Rattle.wire.specs.Layout.{items, end, Sound}
 use Rattle.wire.proofs.Layouts.{sound-more}
 use Rattle.graph.specs.Format.{graphHeader, hyperWidth}
 use Rattle.graph.specs.Layouts.{targetLayout, hyperLayout, TargetOk}
-use Rattle.links.specs.Links.{Linked}
-use Rattle.links.proofs.Linking.{linked-end, linked-turn}
+use Rattle.links.specs.Links.{Long, Linked}
+use Rattle.links.proofs.Linking.{Kept, kept-none, kept-long, kept-set, linked-end, linked-turn}
 use Rattle.links.proofs.link.Statement.{statement}
 use Rattle.links.proofs.link.Tie as tie
 
 abbrev Inv-loop : tie.InvT-loop
 Inv-loop s n p k place heads₀ links₀ spots₀ i₀ q₀ at₀ heads links spots i q at =
-    Sound (targetLayout s n) i q × (at + i ≡ place + k)
+    Sound (targetLayout s n) i q × (at + i ≡ place + k) × Kept heads₀ links₀ spots₀ heads links spots
     × ((middle j : ℕ) → p ≡ end (hyperLayout s n) j graphHeader
     → Linked s n middle (j + 1) (items (targetLayout s n) k (p + hyperWidth)) 0 place heads₀ links₀ spots₀
     → Linked s n middle (j + 1) (items (targetLayout s n) i q) 0 at heads links spots)
@@ -26,23 +27,29 @@ abbrev μ-loop : tie.MeasureT-loop
 
 -- the call, from the loop's test
 abbrev start : tie.In-loop Inv-loop μ-loop → tie.Start Inv-loop μ-loop
-start c = c .before .before .before
+start c = c .before .before .before .before .before .before
 
 add-q : tie.Need-add-q Inv-loop μ-loop
-add-q c = omega (arith, c .before .pre .1 .0)
+add-q c = omega (arith, c .before .before .before .before .pre .1 .0)
 
 loop-holds : tie.Need-loop-holds Inv-loop μ-loop
-loop-holds c = (c .before .pre .0, omega arith, λ middle j e d. d)
+loop-holds c = (c .before .before .before .before .pre .0, omega arith, kept-none, λ middle j e d. d)
 
 -- the next target is sound, and there is a place for it
 here : (c : tie.In-loop Inv-loop μ-loop) → TargetOk (now (start c .args .s)) (start c .args .n) (c .before .loop .q)
 here c = sound-more _ (c .loop-test .taken) (c .before .loop .inv .0) .0
 
-free : (c : tie.In-loop Inv-loop μ-loop) → c .before .loop .at < 4096
-free c = omega (arith, c .loop-test .taken, c .before .loop .inv .1, start c .pre .1 .1 .2)
+long : (c : tie.In-loop Inv-loop μ-loop) → let l = c .before .loop in Long (start c .args .n) (l .heads) (l .links) (l .spots)
+long c = kept-long (c .before .loop .inv .2) (start c .pre .1 .1 .0)
 
-named : (c : tie.After-number-at Inv-loop μ-loop) → c .number-at .result < 4096
-named c = omega (arith, c .number-at .ensures, here (c .before) .named, start (c .before) .pre .1 .1 .0)
+free : (c : tie.In-loop Inv-loop μ-loop) → (c .before .loop .at < length (c .before .loop .links)) × (length (c .before .loop .links) ≤ 65535)
+free c = (omega (arith, c .loop-test .taken, c .before .loop .inv .1, start c .pre .1 .1 .1 .1, c .before .loop .inv .2 .links-long), long c .short)
+
+named : (c : tie.After-number-at Inv-loop μ-loop) → c .number-at .result < start (c .before) .args .n
+named c = omega (arith, c .number-at .ensures, here (c .before) .named)
+
+in-heads : (c : tie.After-number-at Inv-loop μ-loop) → c .number-at .result < length (c .before .before .loop .heads)
+in-heads c = omega (arith, named c, long (c .before) .nodes)
 
 add-number-at : tie.Need-add-number-at Inv-loop μ-loop
 add-number-at c = omega (arith, here c .inside)
@@ -53,41 +60,54 @@ number-at-requires c κs = omega (arith, here c .inside)
 cast-v : tie.Need-cast-v Inv-loop μ-loop
 cast-v c = search needs
 
-mul-head : tie.Need-mul-head Inv-loop μ-loop
-mul-head c = omega (arith, named c)
+-- every target is a node
+same-length : tie.Need-same-length Inv-loop μ-loop
+same-length c = c .before .before .before .loop .inv .2 .heads-long
 
-element-copy-out-head : tie.Need-element-copy-out-head Inv-loop μ-loop
-element-copy-out-head c = omega (arith, named c)
+same-length-2 : tie.Need-same-length-2 Inv-loop μ-loop
+same-length-2 c = c .before .before .before .loop .inv .2 .links-long
+
+same-length-3 : tie.Need-same-length-3 Inv-loop μ-loop
+same-length-3 c = c .before .before .before .loop .inv .2 .spots-long
+
+returns : tie.Need-returns Inv-loop μ-loop
+returns c = absurd (omega (arith, c .if1 .taken, c .before .number-at .ensures, here (c .before .before) .named))
+
+mul-head : tie.Need-mul-head Inv-loop μ-loop
+mul-head c = omega (arith, in-heads (c .before))
+
+slice-read-head : tie.Need-slice-read-head Inv-loop μ-loop
+slice-read-head c = omega (arith, in-heads (c .before .before))
 
 mul-links : tie.Need-mul-links Inv-loop μ-loop
-mul-links c = omega (arith, free (c .before .before))
+mul-links c = omega (arith, free (c .before .before .before))
 
-element-write-links : tie.Need-element-write-links Inv-loop μ-loop
-element-write-links c = omega (arith, free (c .before .before))
+slice-write-links : tie.Need-slice-write-links Inv-loop μ-loop
+slice-write-links c = omega (arith, free (c .before .before .before))
 
 cast-spots : tie.Need-cast-spots Inv-loop μ-loop
-cast-spots c = omega (arith, start (c .before .before) .pre .1 .1 .1)
+cast-spots c = omega (arith, start (c .before .before .before) .pre .1 .1 .1 .0)
 
 mul-spots : tie.Need-mul-spots Inv-loop μ-loop
-mul-spots c = omega (arith, free (c .before .before))
+mul-spots c = omega (arith, free (c .before .before .before))
 
-element-write-spots : tie.Need-element-write-spots Inv-loop μ-loop
-element-write-spots c = omega (arith, free (c .before .before))
+slice-write-spots : tie.Need-slice-write-spots Inv-loop μ-loop
+slice-write-spots c = let t = c .before .before .before in omega (arith, free t, long t .same)
 
 add-at : tie.Need-add-at Inv-loop μ-loop
-add-at c = omega (arith, free (c .before .before))
+add-at c = omega (arith, free (c .before .before .before))
 
 cast-heads : tie.Need-cast-heads Inv-loop μ-loop
-cast-heads c = omega (arith, free (c .before .before))
+cast-heads c = omega (arith, free (c .before .before .before))
 
 mul-heads : tie.Need-mul-heads Inv-loop μ-loop
-mul-heads c = omega (arith, named (c .before))
+mul-heads c = omega (arith, in-heads (c .before .before))
 
-element-write-heads : tie.Need-element-write-heads Inv-loop μ-loop
-element-write-heads c = omega (arith, named (c .before))
+slice-write-heads : tie.Need-slice-write-heads Inv-loop μ-loop
+slice-write-heads c = omega (arith, in-heads (c .before .before))
 
 add-q-2 : tie.Need-add-q-2 Inv-loop μ-loop
-add-q-2 c = omega (arith, here (c .before .before) .inside)
+add-q-2 c = omega (arith, here (c .before .before .before) .inside)
 
 sub-i : tie.Need-sub-i Inv-loop μ-loop
 sub-i c = omega arith
@@ -97,20 +117,30 @@ loop-less c = omega arith
 
 loop-again : tie.Need-loop-again Inv-loop μ-loop
 loop-again c =
-    let t = c .before .before in
+    let t = c .before .before .before in
     let l = t .before .loop in (
       sound-more _ (t .loop-test .taken) (l .inv .0) .1,
       omega (arith, t .loop-test .taken, l .inv .1),
-      λ middle j e d. linked-turn _ _ (l .inv .2 middle j e d) j refl (t .loop-test .taken) (free t) _ (c .before .number-at .ensures) (named (c .before)) _ e,
+      kept-set (l .inv .2) _ _ _ _ _,
+      λ middle j e d. linked-turn _ _ (l .inv .3 middle j e d) j refl (t .loop-test .taken) (free t .0) _ (c .before .before .number-at .ensures) (named (c .before .before)) _ e,
     )
 
-returns : tie.Need-returns Inv-loop μ-loop
-returns c =
+same-length-4 : tie.Need-same-length-4 Inv-loop μ-loop
+same-length-4 c = c .before .loop .inv .2 .heads-long
+
+same-length-5 : tie.Need-same-length-5 Inv-loop μ-loop
+same-length-5 c = c .before .loop .inv .2 .links-long
+
+same-length-6 : tie.Need-same-length-6 Inv-loop μ-loop
+same-length-6 c = c .before .loop .inv .2 .spots-long
+
+returns-2 : tie.Need-returns-2 Inv-loop μ-loop
+returns-2 c =
     let l = c .before .loop in
-    let a = c .before .before .before .args in
+    let a = c .before .before .before .before .before .before .args in
     let all : l .at ≡ a .place + a .k = omega (arith, l .inv .1) in (
       all,
-      λ middle j e d. subst (λ (places : ℕ). Linked (now (a .s)) (a .n) middle (j + 1) [] 0 places (l .heads) (l .links) (l .spots)) all (linked-end _ _ (l .inv .2 middle j e d) (omega arith)),
+      λ middle j e d. subst (λ (places : ℕ). Linked (now (a .s)) (a .n) middle (j + 1) [] 0 places (l .heads) (l .links) (l .spots)) all (linked-end _ _ (l .inv .3 middle j e d) (omega arith)),
     )
 
 pub link-spec : {M : Type 1} → statement M
@@ -124,19 +154,26 @@ link-spec =
     add-number-at
     number-at-requires
     cast-v
+    same-length
+    same-length-2
+    same-length-3
+    returns
     mul-head
-    element-copy-out-head
+    slice-read-head
     mul-links
-    element-write-links
+    slice-write-links
     cast-spots
     mul-spots
-    element-write-spots
+    slice-write-spots
     add-at
     cast-heads
     mul-heads
-    element-write-heads
+    slice-write-heads
     add-q-2
     sub-i
     loop-less
     loop-again
-    returns)
+    same-length-4
+    same-length-5
+    same-length-6
+    returns-2)

@@ -2,6 +2,7 @@
 use mathlib.Core.Path.{sym, subst}
 use denote.Ref.{now}
 use native.Mathlib.Omega.{arith}
+use borrow.Author.Needs.{needs}
 use Rattle.wire.specs.Layout.{Sound}
 use Rattle.graph.specs.Layouts.{coverLayout}
 use Rattle.links.proofs.link_all.Statement.{statement}
@@ -9,20 +10,30 @@ use Rattle.links.proofs.link_all.Tie as tie
 
 link-hypers-requires : tie.Need-link-hypers-requires
 link-hypers-requires c κs =
-    let a = c .before .before .before .before in
+    let a = c .before .before .before .before .before .before .before in
     let fits = a .pre .1 .1 .0 in
-    (a .pre .0 .hypers, (a .pre .1 .0, ((fits .nodes, omega (arith, fits .positions), omega (arith, fits .places)), a .pre .1 .1 .1)))
+    (a .pre .0 .hypers, (a .pre .1 .0, ((omega (arith, fits .positions), omega (arith, fits .places)), a .pre .1 .1 .1)))
 
 link-covers-requires : tie.Need-link-covers-requires
 link-covers-requires c κs =
-    let k = c .before .before .before in
-    let a = k .before .before .before .before .before in
+    let k = c .before .before .before .before .before .before .before .before .before in
+    let a = k .before .before .before .before .before .before .before .before in
     let fits = a .pre .1 .1 .0 in
+    let linked = k .link-hypers .ensures .1 in
     let covers = subst (Sound (coverLayout (now (a .args .s)) (a .args .n)) (a .args .c)) (sym (a .pre .1 .0)) (a .pre .0 .covers) in
-    (covers, ((fits .nodes, fits .positions, omega (arith, fits .places, k .link-hypers .ensures .0)), k .link-hypers .ensures .1))
+    (covers, ((fits .positions, omega (arith, fits .places, k .link-hypers .ensures .0, k .link-hypers .kept .1 .1 .1 .1 .1 .0)), linked))
+
+same-length : tie.Need-same-length
+same-length c = search needs
+
+same-length-2 : tie.Need-same-length-2
+same-length-2 c = search needs
+
+same-length-3 : tie.Need-same-length-3
+same-length-3 c = search needs
 
 returns : tie.Need-returns
-returns c = c .link-covers .ensures
+returns c = c .before .before .before .before .before .before .link-covers .ensures
 
 pub link-all-spec : {M : Type 1} → statement M
-link-all-spec = tie.close (tie.spec link-hypers-requires link-covers-requires returns)
+link-all-spec = tie.close (tie.spec link-hypers-requires link-covers-requires same-length same-length-2 same-length-3 returns)

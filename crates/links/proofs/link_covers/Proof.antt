@@ -3,6 +3,7 @@ use Prim.Native.Nat.{ℕ, _+_, _-_, _<_, _≤_}
 use mathlib.Core.List.{[]}
 use mathlib.Core.Path.{_≡_, refl, sym, ap, subst, _∙_}
 use denote.Ref.{now}
+use lib.ListN.{length}
 use native.Mathlib.Omega.{arith}
 use borrow.Author.Needs.{needs}
 use Rattle.wire.specs.Bytes.{number}
@@ -12,23 +13,24 @@ use Rattle.wire.proofs.Parts.{end-next, sound-at}
 use Rattle.graph.specs.Format.{coverTargetAt, coverWidth}
 use Rattle.graph.specs.Layouts.{coverLayout, CoverOk}
 use Rattle.links.specs.Links.{coverAt, Linked}
-use Rattle.links.proofs.Linking.{linked-cover, linked-all}
+use Rattle.links.proofs.Linking.{Kept, kept-none, kept-set, linked-cover, linked-all}
 use Rattle.links.proofs.link_covers.Statement.{statement}
 use Rattle.links.proofs.link_covers.Tie as tie
 
 abbrev Inv-loop : tie.InvT-loop
 Inv-loop s n h c middle place heads₀ links₀ spots₀ j₀ p₀ at₀ heads links spots j p at =
     (j ≤ c) × (at ≡ place + j) × (p ≡ coverAt s n middle j) × Linked s n middle h [] j at heads links spots
+    × Kept heads₀ links₀ spots₀ heads links spots
 
 abbrev μ-loop : tie.MeasureT-loop
 μ-loop s n h c middle place heads₀ links₀ spots₀ j₀ p₀ at₀ heads links spots j p at = c - j
 
 -- the call, from the loop's test
 abbrev start : tie.In-loop Inv-loop μ-loop → tie.Start Inv-loop μ-loop
-start c = c .before .before .before
+start c = c .before .before .before .before .before .before
 
 loop-holds : tie.Need-loop-holds Inv-loop μ-loop
-loop-holds c = (omega arith, omega arith, sym (end-none _ 0 _ refl), c .before .pre .1 .1)
+loop-holds c = (omega arith, omega arith, sym (end-none _ 0 _ refl), c .before .before .before .before .pre .1 .1, kept-none)
 
 -- the next cover edge is sound, and there is a place for it
 here : (c : tie.In-loop Inv-loop μ-loop) → CoverOk (now (start c .args .s)) (start c .args .n) (c .before .loop .p)
@@ -36,17 +38,22 @@ here c =
     let a = start c .args in
     subst (CoverOk (now (a .s)) (a .n)) (sym (c .before .loop .inv .2)) (sound-at (coverLayout (now (a .s)) (a .n)) (c .before .loop .j) (c .loop-test .taken) (start c .pre .0))
 
-free : (c : tie.In-loop Inv-loop μ-loop) → c .before .loop .at < 4096
-free c = omega (arith, c .loop-test .taken, c .before .loop .inv .1, start c .pre .1 .0 .2)
+free : (c : tie.In-loop Inv-loop μ-loop) → (c .before .loop .at < length (c .before .loop .links)) × (length (c .before .loop .links) ≤ 65535)
+free c =
+    let l = c .before .loop in
+    (omega (arith, c .loop-test .taken, l .inv .1, start c .pre .1 .0 .1, l .inv .4 .links-long), l .inv .3 .long .short)
 
 low : (c : tie.In-loop Inv-loop μ-loop) → c .before .loop .p + coverWidth ≤ 65535
 low c =
     let a = start c .args in
     let l = c .before .loop in
-    omega (arith, l .inv .2, end-wide (coverLayout (now (a .s)) (a .n)) 8 (λ at. refl) (l .j) (a .middle), c .loop-test .taken, start c .pre .1 .0 .1)
+    omega (arith, l .inv .2, end-wide (coverLayout (now (a .s)) (a .n)) 8 (λ at. refl) (l .j) (a .middle), c .loop-test .taken, start c .pre .1 .0 .0)
 
-named : (c : tie.After-number-at Inv-loop μ-loop) → c .number-at .result < 4096
-named c = omega (arith, c .number-at .ensures, here (c .before) .target-named, start (c .before) .pre .1 .0 .0)
+named : (c : tie.After-number-at Inv-loop μ-loop) → c .number-at .result < start (c .before) .args .n
+named c = omega (arith, c .number-at .ensures, here (c .before) .target-named)
+
+in-heads : (c : tie.After-number-at Inv-loop μ-loop) → c .number-at .result < length (c .before .before .loop .heads)
+in-heads c = omega (arith, named c, c .before .before .loop .inv .3 .long .nodes)
 
 add-number-at : tie.Need-add-number-at Inv-loop μ-loop
 add-number-at c = omega (arith, here c .inside)
@@ -58,16 +65,16 @@ cast-target : tie.Need-cast-target Inv-loop μ-loop
 cast-target c = search needs
 
 mul-head : tie.Need-mul-head Inv-loop μ-loop
-mul-head c = omega (arith, named c)
+mul-head c = omega (arith, in-heads c)
 
-element-copy-out-head : tie.Need-element-copy-out-head Inv-loop μ-loop
-element-copy-out-head c = omega (arith, named c)
+slice-read-head : tie.Need-slice-read-head Inv-loop μ-loop
+slice-read-head c = omega (arith, in-heads (c .before))
 
 mul-links : tie.Need-mul-links Inv-loop μ-loop
 mul-links c = omega (arith, free (c .before .before))
 
-element-write-links : tie.Need-element-write-links Inv-loop μ-loop
-element-write-links c = omega (arith, free (c .before .before))
+slice-write-links : tie.Need-slice-write-links Inv-loop μ-loop
+slice-write-links c = omega (arith, free (c .before .before))
 
 cast-spots : tie.Need-cast-spots Inv-loop μ-loop
 cast-spots c = omega (arith, low (c .before .before))
@@ -75,8 +82,8 @@ cast-spots c = omega (arith, low (c .before .before))
 mul-spots : tie.Need-mul-spots Inv-loop μ-loop
 mul-spots c = omega (arith, free (c .before .before))
 
-element-write-spots : tie.Need-element-write-spots Inv-loop μ-loop
-element-write-spots c = omega (arith, free (c .before .before))
+slice-write-spots : tie.Need-slice-write-spots Inv-loop μ-loop
+slice-write-spots c = let t = c .before .before in omega (arith, free t, t .before .loop .inv .3 .long .same)
 
 add-at : tie.Need-add-at Inv-loop μ-loop
 add-at c = omega (arith, free (c .before .before))
@@ -85,10 +92,10 @@ cast-heads : tie.Need-cast-heads Inv-loop μ-loop
 cast-heads c = omega (arith, free (c .before .before))
 
 mul-heads : tie.Need-mul-heads Inv-loop μ-loop
-mul-heads c = omega (arith, named (c .before))
+mul-heads c = omega (arith, in-heads (c .before))
 
-element-write-heads : tie.Need-element-write-heads Inv-loop μ-loop
-element-write-heads c = omega (arith, named (c .before))
+slice-write-heads : tie.Need-slice-write-heads Inv-loop μ-loop
+slice-write-heads c = omega (arith, in-heads (c .before))
 
 add-p : tie.Need-add-p Inv-loop μ-loop
 add-p c = omega (arith, low (c .before .before))
@@ -108,15 +115,25 @@ loop-again c =
       omega (arith, t .loop-test .taken),
       omega (arith, l .inv .1),
       ap (L .next) (l .inv .2) ∙ sym (end-next L (l .j) (a .middle)),
-      linked-cover (l .inv .3) (free t) _ (c .before .number-at .ensures ∙ ap (λ (p : ℕ). number 2 (now (a .s)) (p + coverTargetAt)) (l .inv .2)) (named (c .before)) _ (l .inv .2),
+      linked-cover (l .inv .3) (free t .0) _ (c .before .number-at .ensures ∙ ap (λ (p : ℕ). number 2 (now (a .s)) (p + coverTargetAt)) (l .inv .2)) (named (c .before)) _ (l .inv .2),
+      kept-set (l .inv .4) _ _ _ _ _,
     )
+
+same-length : tie.Need-same-length Inv-loop μ-loop
+same-length c = c .before .loop .inv .4 .heads-long
+
+same-length-2 : tie.Need-same-length-2 Inv-loop μ-loop
+same-length-2 c = c .before .loop .inv .4 .links-long
+
+same-length-3 : tie.Need-same-length-3 Inv-loop μ-loop
+same-length-3 c = c .before .loop .inv .4 .spots-long
 
 returns : tie.Need-returns Inv-loop μ-loop
 returns c =
     let l = c .before .loop in
-    let a = c .before .before .before in
+    let a = c .before .before .before .before .before .before in
     let all : l .j ≡ a .args .c = omega (arith, l .inv .0) in
-    rw all at (linked-all (l .inv .3) (omega (arith, l .inv .1, l .inv .0, a .pre .1 .0 .2)))
+    rw all at (linked-all (l .inv .3) (omega (arith, l .inv .1, l .inv .0, a .pre .1 .0 .1, l .inv .4 .links-long)))
 
 pub link-covers-spec : {M : Type 1} → statement M
 link-covers-spec =
@@ -129,18 +146,21 @@ link-covers-spec =
     number-at-requires
     cast-target
     mul-head
-    element-copy-out-head
+    slice-read-head
     mul-links
-    element-write-links
+    slice-write-links
     cast-spots
     mul-spots
-    element-write-spots
+    slice-write-spots
     add-at
     cast-heads
     mul-heads
-    element-write-heads
+    slice-write-heads
     add-p
     add-j
     loop-less
     loop-again
+    same-length
+    same-length-2
+    same-length-3
     returns)

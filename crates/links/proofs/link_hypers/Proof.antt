@@ -6,32 +6,43 @@ use denote.Ref.{now}
 use native.Mathlib.Omega.{arith}
 use borrow.Author.Needs.{needs}
 use Rattle.wire.specs.Bytes.{number}
-use Rattle.wire.specs.Layout.{items}
+use lib.ListN.{length}
+use Rattle.wire.specs.Layout.{items, Sound}
 use Rattle.wire.proofs.Layouts.{end-none}
 use Rattle.wire.proofs.Parts.{end-next, sound-at}
 use Rattle.graph.specs.Format.{graphHeader, targetCountAt, hyperWidth, targetWidth}
 use Rattle.graph.specs.Layouts.{targetLayout, hyperLayout, HyperOk}
-use Rattle.links.specs.Links.{hyperAt, Linked}
-use Rattle.links.proofs.Linking.{linked-open, hyper-far}
+use Rattle.links.specs.Links.{hyperAt, Long, Linked}
+use Rattle.links.proofs.Linking.{Kept, kept-none, kept-on, linked-open, hyper-far}
 use Rattle.links.proofs.link_hypers.Statement.{statement}
 use Rattle.links.proofs.link_hypers.Tie as tie
 
 abbrev Inv-loop : tie.InvT-loop
-Inv-loop s n h middle heads₀ links₀ spots₀ j₀ p₀ place₀ heads links spots j p place =
+Inv-loop s n h middle heads₀ links₀ spots₀ j₀ p₀ place₀ last₀ stride₀ heads links spots j p place last stride =
     (j ≤ h) × (p ≡ hyperAt s n j) × (p ≡ graphHeader + j * hyperWidth + place * targetWidth) × Linked s n middle j [] 0 place heads links spots
+    × (stride ≡ hyperWidth + last * targetWidth) × Kept heads₀ links₀ spots₀ heads links spots
 
 abbrev μ-loop : tie.MeasureT-loop
-μ-loop s n h middle heads₀ links₀ spots₀ j₀ p₀ place₀ heads links spots j p place = h - j
+μ-loop s n h middle heads₀ links₀ spots₀ j₀ p₀ place₀ last₀ stride₀ heads links spots j p place last stride = h - j
 
--- the call, from the loop's test; the loop's test, from behind the call
+-- the call, from the loop's test; the link, and the count, from behind either arm
 abbrev start : tie.In-loop Inv-loop μ-loop → tie.Start Inv-loop μ-loop
-start c = c .before .before .before
+start c = c .before .before .before .before .before .before
 
-abbrev counted : tie.After-link Inv-loop μ-loop → tie.After-number-at Inv-loop μ-loop
-counted c = c .before .before .before .before
+abbrev same : tie.After-link Inv-loop μ-loop → tie.After-number-at Inv-loop μ-loop
+same c = c .before .before .before .before .before
+
+abbrev called : tie.After-slice-known6 Inv-loop μ-loop → tie.After-link Inv-loop μ-loop
+called c = c .before .before .before .before .before .before
+
+abbrev called2 : tie.After-slice-known9 Inv-loop μ-loop → tie.After-link2 Inv-loop μ-loop
+called2 c = c .before .before .before .before .before .before
+
+abbrev other : tie.After-link2 Inv-loop μ-loop → tie.After-number-at Inv-loop μ-loop
+other c = c .before .before .before .before .before
 
 loop-holds : tie.Need-loop-holds Inv-loop μ-loop
-loop-holds c = (omega arith, sym (end-none _ 0 graphHeader refl), omega arith, c .before .pre .1 .1 .1)
+loop-holds c = (omega arith, sym (end-none _ 0 graphHeader refl), omega arith, c .before .before .before .before .pre .1 .1 .1, refl, kept-none)
 
 -- the next hyperedge is sound
 here : (c : tie.In-loop Inv-loop μ-loop) → HyperOk (now (start c .args .s)) (start c .args .n) (c .before .loop .p)
@@ -61,51 +72,100 @@ add-number-at c = omega (arith, here c .inside)
 number-at-requires : tie.Need-number-at-requires Inv-loop μ-loop
 number-at-requires c κs = omega (arith, here c .inside)
 
-link-requires : tie.Need-link-requires Inv-loop μ-loop
-link-requires c κs =
-    let m = c .before .before .before in
-    let t = m .before in
+add-j : tie.Need-add-j Inv-loop μ-loop
+add-j c = omega (arith, c .before .loop-test .taken, start (c .before) .fits .h)
+
+-- what is asked for the targets of the next hyperedge, and what stands behind it, by its count
+asked : (t : tie.In-loop Inv-loop μ-loop) {k : ℕ} → let a = start t .args in let l = t .before .loop in k ≡ number 2 (now (a .s)) (l .p + targetCountAt)
+    → Sound (targetLayout (now (a .s)) (a .n)) k (l .p + hyperWidth) × ((l .p + hyperWidth ≤ length (now (a .s))) × (Long (a .n) (l .heads) (l .links) (l .spots) × ((l .p ≤ 65535) × (l .place + k ≤ length (l .links)))))
+asked t is =
     let a = start t in
-    let fits = far t in
-    let is = m .number-at .ensures in
-    (rw is (here t .sound), (here t .inside, (a .pre .1 .1 .0 .0, omega (arith, fits, a .pre .1 .1 .0 .1), omega (arith, fits, is, t .before .loop .inv .2, t .loop-test .taken, a .pre .1 .1 .0 .2))))
+    let l = t .before .loop .inv in
+    (rw is (here t .sound), (omega (arith, here t .inside), (l .3 .long, (omega (arith, far t, a .pre .1 .1 .0 .0), omega (arith, far t, is, l .2, l .5 .links-long, t .loop-test .taken, a .pre .1 .1 .0 .1)))))
 
-cast-p : tie.Need-cast-p Inv-loop μ-loop
-cast-p c = search needs
+opened : (t : tie.In-loop Inv-loop μ-loop) {k : ℕ} → let a = start t .args in let l = t .before .loop in k ≡ number 2 (now (a .s)) (l .p + targetCountAt)
+    → Linked (now (a .s)) (a .n) (a .middle) (l .j + 1) (items (targetLayout (now (a .s)) (a .n)) k (l .p + hyperWidth)) 0 (l .place) (l .heads) (l .links) (l .spots)
+opened t is =
+    let a = start t .args in
+    let l = t .before .loop in
+    linked-open (l .inv .3) _ (ap (λ (q : ℕ). hyperLayout (now (a .s)) (a .n) .item q .targets) (sym (l .inv .1)) ∙ ap (λ (k : ℕ). items (targetLayout (now (a .s)) (a .n)) k (l .p + hyperWidth)) (sym is))
 
-mul-p : tie.Need-mul-p Inv-loop μ-loop
-mul-p c = omega arith
+-- the count is the one before it
+is-last : (c : tie.Then1 Inv-loop μ-loop) → let a = start (c .before .before) .args in let l = c .before .before .before .loop in l .last ≡ number 2 (now (a .s)) (l .p + targetCountAt)
+is-last c = sym (c .if1 .taken) ∙ c .before .number-at .ensures
+
+link-requires : tie.Need-link-requires Inv-loop μ-loop
+link-requires c κs = let f = c .before .before .before in asked (f .before .before) (is-last f)
 
 add-p : tie.Need-add-p Inv-loop μ-loop
-add-p c = omega arith
-
-add-p-2 : tie.Need-add-p-2 Inv-loop μ-loop
-add-p-2 c = omega (arith, here (counted c .before) .inside)
-
-add-j : tie.Need-add-j Inv-loop μ-loop
-add-j c = omega arith
+add-p c =
+    let k = called c in
+    let t = same k .before in
+    omega (arith, far t, is-last (k .before .before .before .before), t .before .loop .inv .4, start t .pre .1 .1 .0 .0)
 
 loop-less : tie.Need-loop-less Inv-loop μ-loop
-loop-less c = omega (arith, counted c .before .loop-test .taken)
+loop-less c = omega (arith, same (called c) .before .loop-test .taken)
 
 loop-again : tie.Need-loop-again Inv-loop μ-loop
 loop-again c =
-    let m = counted c in
-    let t = m .before in
-    let a = start t .args in
+    let k = called c in
+    let t = same k .before in
     let l = t .before .loop in
-    let is = m .number-at .ensures in
-    let targets = ap (λ (q : ℕ). hyperLayout (now (a .s)) (a .n) .item q .targets) (sym (l .inv .1)) ∙ ap (λ (k : ℕ). items (targetLayout (now (a .s)) (a .n)) k (l .p + hyperWidth)) (sym is) in (
+    let is = is-last (k .before .before .before .before) in
+    let stride = l .inv .4 in (
+      omega (arith, t .loop-test .taken),
+      omega (arith, next t, is, stride),
+      omega (arith, l .inv .2, k .link .ensures .0, stride),
+      rw (k .link .ensures .0) (k .link .ensures .1 (start t .args .middle) (l .j) (l .inv .1) (opened t is)),
+      stride,
+      kept-on (l .inv .5) (k .link .kept .1 .1 .1 .1 .1 .0) (k .link .kept .1 .1 .1 .1 .1 .1 .0) (k .link .kept .1 .1 .1 .1 .1 .1 .1 .0),
+    )
+
+link-requires-2 : tie.Need-link-requires-2 Inv-loop μ-loop
+link-requires-2 c κs = let m = c .before .before .before .before in asked (m .before) (m .number-at .ensures)
+
+cast-stride : tie.Need-cast-stride Inv-loop μ-loop
+cast-stride c = search needs
+
+mul-stride : tie.Need-mul-stride Inv-loop μ-loop
+mul-stride c = omega arith
+
+add-stride : tie.Need-add-stride Inv-loop μ-loop
+add-stride c = omega arith
+
+add-p-2 : tie.Need-add-p-2 Inv-loop μ-loop
+add-p-2 c = omega (arith, here (other (called2 c) .before) .inside)
+
+loop-less-2 : tie.Need-loop-less-2 Inv-loop μ-loop
+loop-less-2 c = omega (arith, other (called2 c) .before .loop-test .taken)
+
+loop-again-2 : tie.Need-loop-again-2 Inv-loop μ-loop
+loop-again-2 c =
+    let k = called2 c in
+    let t = other k .before in
+    let l = t .before .loop in
+    let is = other k .number-at .ensures in (
       omega (arith, t .loop-test .taken),
       omega (arith, next t, is),
-      omega (arith, l .inv .2, c .link .ensures .0),
-      rw (c .link .ensures .0) (c .link .ensures .1 (a .middle) (l .j) (l .inv .1) (linked-open (l .inv .3) _ targets)),
+      omega (arith, l .inv .2, k .link2 .ensures .0),
+      rw (k .link2 .ensures .0) (k .link2 .ensures .1 (start t .args .middle) (l .j) (l .inv .1) (opened t is)),
+      refl,
+      kept-on (l .inv .5) (k .link2 .kept .1 .1 .1 .1 .1 .0) (k .link2 .kept .1 .1 .1 .1 .1 .1 .0) (k .link2 .kept .1 .1 .1 .1 .1 .1 .1 .0),
     )
+
+same-length : tie.Need-same-length Inv-loop μ-loop
+same-length c = c .before .loop .inv .5 .heads-long
+
+same-length-2 : tie.Need-same-length-2 Inv-loop μ-loop
+same-length-2 c = c .before .loop .inv .5 .links-long
+
+same-length-3 : tie.Need-same-length-3 Inv-loop μ-loop
+same-length-3 c = c .before .loop .inv .5 .spots-long
 
 returns : tie.Need-returns Inv-loop μ-loop
 returns c =
     let l = c .before .loop in
-    let a = c .before .before .before in
+    let a = c .before .before .before .before .before .before in
     let all : l .j ≡ a .args .h = omega (arith, l .inv .0) in
     (a .pre .1 .0 ∙ ap (hyperAt (now (a .args .s)) (a .args .n)) (sym all) ∙ sym (l .inv .1) ∙ (rw all at (l .inv .2)), rw all at (l .inv .3))
 
@@ -118,12 +178,19 @@ link-hypers-spec =
     loop-holds
     add-number-at
     number-at-requires
-    link-requires
-    cast-p
-    mul-p
-    add-p
-    add-p-2
     add-j
+    link-requires
+    add-p
     loop-less
     loop-again
+    link-requires-2
+    cast-stride
+    mul-stride
+    add-stride
+    add-p-2
+    loop-less-2
+    loop-again-2
+    same-length
+    same-length-2
+    same-length-3
     returns)

@@ -11,21 +11,21 @@ use Rattle.transitions.proofs.past_state.Statement.{statement}
 use Rattle.transitions.proofs.past_state.Tie as tie
 
 abbrev Inv-loop : tie.InvT-loop
-Inv-loop m n p t a first i₀ i =
+Inv-loop m n p t a first dense i₀ i =
     (first ≤ i) × (i ≤ t) × (i + leading a (transitionsFrom m n i (t - i)) ≡ first + leading a (transitionsFrom m n first (t - first)))
 
 abbrev μ-loop : tie.MeasureT-loop
-μ-loop m n p t a first i₀ i = t - i
+μ-loop m n p t a first dense i₀ i = t - i
 
 -- the places that the facts below look back to
 abbrev start : tie.After-transition-at Inv-loop μ-loop → tie.Start Inv-loop μ-loop
 start c = c .before .before .before .before .before
 
-pass-many-requires : tie.Need-pass-many-requires Inv-loop μ-loop
-pass-many-requires c κs = (c .before .pre .0, c .before .pre .1)
+pass-some-requires : tie.Need-pass-some-requires Inv-loop μ-loop
+pass-some-requires c κs = (c .before .pre .0, c .before .pre .1)
 
 loop-holds : tie.Need-loop-holds Inv-loop μ-loop
-loop-holds c = let r = c .pass-many .ensures in (r .0, r .1, r .2)
+loop-holds c = let r = c .pass-some .ensures in (r .0, r .1, r .2)
 
 transition-at-requires : tie.Need-transition-at-requires Inv-loop μ-loop
 transition-at-requires c κs = tt
@@ -74,7 +74,7 @@ past-state-spec =
     (tie.spec
     Inv-loop
     μ-loop
-    pass-many-requires
+    pass-some-requires
     loop-holds
     transition-at-requires
     number-at-requires

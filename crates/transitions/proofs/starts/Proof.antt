@@ -10,10 +10,13 @@ use Rattle.transitions.proofs.starts.Statement.{statement}
 use Rattle.transitions.proofs.starts.Tie as tie
 
 abbrev Inv-loop : tie.InvT-loop
-Inv-loop m n p t table₀ first₀ a₀ table first a = (257 ≡ length table) × (a ≤ n) × (first ≤ t) × Found m n t a first table
+Inv-loop m n p t dense table₀ first₀ a₀ table first a = (257 ≡ length table) × (a ≤ n) × (first ≤ t) × Found m n t a first table
 
 abbrev μ-loop : tie.MeasureT-loop
-μ-loop m n p t table₀ first₀ a₀ table first a = n - a
+μ-loop m n p t dense table₀ first₀ a₀ table first a = n - a
+
+mul-dense : tie.Need-mul-dense Inv-loop μ-loop
+mul-dense c = omega (arith, states-few (c .before .pre))
 
 loop-holds : tie.Need-loop-holds Inv-loop μ-loop
 loop-holds c = (refl, omega arith, omega arith, found-none _ _ _ _ refl (rising (c .before .pre)))
@@ -59,6 +62,7 @@ starts-spec =
     (tie.spec
     Inv-loop
     μ-loop
+    mul-dense
     loop-holds
     past-state-requires
     add-a

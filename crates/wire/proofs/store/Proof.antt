@@ -1,72 +1,66 @@
--- `wire::store` meets its contract: storing the i bytes of `rest` that are left makes the whole.
-use Prim.Native.Nat.{_≤_, ℕ}
-use mathlib.Core.Path.{_≡_, refl, sym, ap, _∙_}
+-- `wire::store` meets its contract, by the width.
 use denote.Ref.{now}
 use native.Mathlib.Omega.{arith}
-use lib.ListN.{length, length-set}
 use borrow.Author.Needs.{needs}
-use Rattle.wire.specs.Bytes.{put}
-use Rattle.wire.proofs.Bytes.{put-none, put-last}
+use Rattle.wire.proofs.Bytes.{put-one}
 use Rattle.wire.proofs.store.Statement.{statement}
 use Rattle.wire.proofs.store.Tie as tie
 
-abbrev Inv-loop : tie.InvT-loop
-Inv-loop b₀ at v k rest₀ b i rest = (i ≤ k) × (length b ≡ length b₀) × (put b at i rest ≡ put b₀ at k v)
+enum-told : tie.Need-enum-told
+enum-told c = search needs
 
-abbrev μ-loop : tie.MeasureT-loop
-μ-loop b₀ at v k rest₀ b i rest = i
+cast-b : tie.Need-cast-b
+cast-b c = search needs
 
-bytes-requires : tie.Need-bytes-requires Inv-loop μ-loop
-bytes-requires c κs = tt
+slice-write-b : tie.Need-slice-write-b
+slice-write-b c = let fits = rw (c .enum-told .given .1) at (c .before .before .before .pre) in omega (arith, fits)
 
-loop-holds : tie.Need-loop-holds Inv-loop μ-loop
-loop-holds c = (search needs, refl, refl)
+enum-told-2 : tie.Need-enum-told-2
+enum-told-2 c = search needs
 
-sub-i : tie.Need-sub-i Inv-loop μ-loop
-sub-i c = omega arith
+store-two-requires : tie.Need-store-two-requires
+store-two-requires c κs = rw (c .before .enum-told2 .given .1) at (c .before .before .before .before .pre)
 
-cast-b : tie.Need-cast-b Inv-loop μ-loop
-cast-b c = omega arith
+enum-told-3 : tie.Need-enum-told-3
+enum-told-3 c = search needs
 
-add-b : tie.Need-add-b Inv-loop μ-loop
-add-b c = omega arith
+store-four-requires : tie.Need-store-four-requires
+store-four-requires c κs = rw (c .before .enum-told3 .given .1) at (c .before .before .before .before .pre)
 
-slice-write-b : tie.Need-slice-write-b Inv-loop μ-loop
-slice-write-b c = omega arith
+same-length : tie.Need-same-length
+same-length c = search needs
 
-loop-less : tie.Need-loop-less Inv-loop μ-loop
-loop-less c = omega arith
-
-loop-again : tie.Need-loop-again Inv-loop μ-loop
-loop-again c =
-    let a = c .before .before .before .before .args in
-    let l = c .before .loop in
-    (omega arith, simp length-set (l .inv .1), put-last (l .b) (a .at) (l .i) (l .rest) (omega arith) (omega arith) ∙ l .inv .2)
-
-same-length : tie.Need-same-length Inv-loop μ-loop
-same-length c = c .before .loop .inv .1
-
-returns : tie.Need-returns Inv-loop μ-loop
+returns : tie.Need-returns
 returns c =
-    let a = c .before .before .before .before .args in
-    let l = c .before .loop in
-    let end : l .i ≡ 0 = omega arith in
-    sym (put-none (l .b) (a .at) (l .rest)) ∙ ap (λ (i : ℕ). put (l .b) (a .at) i (l .rest)) (sym end) ∙ l .inv .2
-    ∙ ap (λ (k : ℕ). put (now (a .b)) (a .at) k (a .v)) (c .before .before .bytes .ensures)
+    let s = c .before .before .before in
+    rw (c .enum-told .given .1) (put-one (now (s .args .b)) (s .args .at) (s .args .v) (rw (c .enum-told .given .1) at (s .pre)))
+
+same-length-2 : tie.Need-same-length-2
+same-length-2 c = search needs
+
+returns-2 : tie.Need-returns-2
+returns-2 c = let put = c .before .before in rw (put .before .before .enum-told2 .given .1) (put .store-two .ensures)
+
+same-length-3 : tie.Need-same-length-3
+same-length-3 c = search needs
+
+returns-3 : tie.Need-returns-3
+returns-3 c = let put = c .before .before in rw (put .before .before .enum-told3 .given .1) (put .store-four .ensures)
 
 pub store-spec : {M : Type 1} → statement M
 store-spec =
     tie.close
     (tie.spec
-    Inv-loop
-    μ-loop
-    bytes-requires
-    loop-holds
-    sub-i
+    enum-told
     cast-b
-    add-b
     slice-write-b
-    loop-less
-    loop-again
+    enum-told-2
+    store-two-requires
+    enum-told-3
+    store-four-requires
     same-length
-    returns)
+    returns
+    same-length-2
+    returns-2
+    same-length-3
+    returns-3)

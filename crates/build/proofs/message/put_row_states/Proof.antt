@@ -1,123 +1,153 @@
--- `message::put_row_states` meets its contract: the hyperedges of the states left make the whole.
-use Prim.Native.Nat.{_+_, _*_, _-_}
-use mathlib.Core.Path.{refl}
+-- `message::put_row_states` meets its contract: each kind of row has its own, and false and until have no hyperedge.
+use mathlib.Core.Path.{ap}
 use denote.Ref.{now}
-use native.Mathlib.Numerals.{add-one}
-use native.Mathlib.Omega.{arith}
-use lib.ListN.{getD}
 use borrow.Author.Needs.{needs}
+use Rattle.model.specs.Model.{Model}
+use Rattle.syntax.specs.declared.Row.{Row}
 use Rattle.reduction.specs.Built.{rowEdges}
-use Rattle.transitions.specs.Held.{heldModel, Own}
-use Rattle.records.specs.Bytes.{hypersBytes, rowBytes}
-use Rattle.transitions.proofs.Accepted.{states-few}
-use Rattle.transitions.proofs.Ranges.{starts-own}
-use Rattle.build.proofs.Nodes.{row-spans, until-laid}
-use Rattle.wire.proofs.Spans.{SpanLeft, span-begun, span-done, span-fits, span-then}
+use Rattle.transitions.specs.Held.{heldModel}
+use Rattle.build.proofs.Nodes.{row-none}
 use Rattle.build.proofs.message.put_row_states.Statement.{statement}
 use Rattle.build.proofs.message.put_row_states.Tie as tie
 
-abbrev Inv-loop : tie.InvT-loop
-Inv-loop room₀ at m n p t table r row next₀ a₀ room next a =
-    let M = heldModel m n p t in
-    SpanLeft (λ c. hypersBytes (c + n * r) (rowEdges M row c)) n room₀ at (rowBytes M r row) room next a
+abbrev held : tie.Start → Model
+held s = heldModel (now (s .args .m)) (s .args .n) (s .args .p) (s .args .t)
 
-abbrev μ-loop : tie.MeasureT-loop
-μ-loop room₀ at m n p t table r row next₀ a₀ room next a = n - a
-
--- the places that the facts below look back to
-abbrev start : tie.After-shared-slice-known2 Inv-loop μ-loop → tie.Start Inv-loop μ-loop
-start c = c .before .before .before
-
--- the state's transitions are those between its entry and the next
-own : (c : tie.In-loop Inv-loop μ-loop) →
-    let a = start (c .before .before .before) .args in
-    let table = now (a .table) in
-    let i = c .before .loop .a in
-    Own (now (a .m)) (a .n) (a .t) i (getD table i 0) (getD table (i + 1) 0 - getD table i 0)
-own c = starts-own (start (c .before .before .before) .pre .1 .0 .1) (c .before .loop .a) (c .loop-test .taken)
-
-enum-told : tie.Need-enum-told Inv-loop μ-loop
+enum-told : tie.Need-enum-told
 enum-told c = search needs
 
-returns : tie.Need-returns Inv-loop μ-loop
-returns c =
-    let s = start (c .before .before) in
-    let M = heldModel (now (s .args .m)) (s .args .n) (s .args .p) (s .args .t) in
-    until-laid M (s .args .r) (s .args .row) (c .enum-told .given .1) (s .pre .1 .1 .1)
+put-true-states-requires : tie.Need-put-true-states-requires
+put-true-states-requires c κs =
+    let told = c .before .enum-told .given .1 in
+    let s = c .before .before .before .before .before .before in
+    (rw told at (s .pre .1 .1 .0), rw told at (s .pre .1 .1 .1))
 
-loop-holds : tie.Need-loop-holds Inv-loop μ-loop
-unfolding heldModel
-loop-holds c =
-    let s = c .before .before .before .before in
-    let M = heldModel (now (s .args .m)) (s .args .n) (s .args .p) (s .args .t) in
-    span-begun _ _ _ _ (row-spans M (s .args .r) (s .args .row)) (s .pre .1 .1 .1)
+enum-told-2 : tie.Need-enum-told-2
+enum-told-2 c = search needs
 
-cast-i : tie.Need-cast-i Inv-loop μ-loop
-cast-i c = search needs
+enum-known-row : tie.Need-enum-known-row
+enum-known-row c = search needs
 
-mul-first : tie.Need-mul-first Inv-loop μ-loop
-mul-first c = omega (arith, states-few (start (c .before .before .before) .pre .0))
+put-leaf-states-requires : tie.Need-put-leaf-states-requires
+put-leaf-states-requires c κs =
+    let told = c .before .before .row .given .1 in
+    let s = c .before .before .before .before .before .before .before in
+    (s .pre .0, (rw told at (s .pre .1 .1 .0), rw told at (s .pre .1 .1 .1)))
 
-shared-slice-read-first : tie.Need-shared-slice-read-first Inv-loop μ-loop
-shared-slice-read-first c = omega arith
+enum-known-row-2 : tie.Need-enum-known-row-2
+enum-known-row-2 c = search needs
 
-add-many : tie.Need-add-many Inv-loop μ-loop
-add-many c = omega arith
+put-leaf-states-requires-2 : tie.Need-put-leaf-states-requires-2
+put-leaf-states-requires-2 c κs =
+    let told = c .before .before .row2 .given .1 in
+    let s = c .before .before .before .before .before .before .before in
+    (s .pre .0, (rw told at (s .pre .1 .1 .0), rw told at (s .pre .1 .1 .1)))
 
-mul-many : tie.Need-mul-many Inv-loop μ-loop
-mul-many c = omega (arith, states-few (start (c .before .before .before .before) .pre .0))
+enum-known-row-3 : tie.Need-enum-known-row-3
+enum-known-row-3 c = search needs
 
-shared-slice-read-many : tie.Need-shared-slice-read-many Inv-loop μ-loop
-shared-slice-read-many c = omega arith
+put-and-states-requires : tie.Need-put-and-states-requires
+put-and-states-requires c κs =
+    let told = c .before .before .row3 .given .1 in
+    let s = c .before .before .before .before .before .before .before in
+    (rw told at (s .pre .1 .1 .0), rw told at (s .pre .1 .1 .1))
 
-sub-many : tie.Need-sub-many Inv-loop μ-loop
-sub-many c =
-    let turn = c .before .before in
-    rw add-one (start (turn .before .before .before) .pre .1 .0 .1 .rising (turn .before .loop .a) (turn .loop-test .taken))
+enum-known-row-4 : tie.Need-enum-known-row-4
+enum-known-row-4 c = search needs
 
-put-row-requires : tie.Need-put-row-requires Inv-loop μ-loop
-put-row-requires c κs =
-    let turn = c .before .before .before in
-    let s = start (turn .before .before .before) in
-    (s .pre .0, (own turn, (s .pre .1 .1 .0, span-fits (turn .before .loop .inv) (turn .loop-test .taken) refl)))
+put-or-states-requires : tie.Need-put-or-states-requires
+put-or-states-requires c κs =
+    let told = c .before .before .row4 .given .1 in
+    let s = c .before .before .before .before .before .before .before in
+    (rw told at (s .pre .1 .1 .0), rw told at (s .pre .1 .1 .1))
 
-add-a : tie.Need-add-a Inv-loop μ-loop
-add-a c = omega arith
+enum-known-row-5 : tie.Need-enum-known-row-5
+enum-known-row-5 c = search needs
 
-loop-less : tie.Need-loop-less Inv-loop μ-loop
-loop-less c = omega arith
+put-next-states-requires : tie.Need-put-next-states-requires
+put-next-states-requires c κs =
+    let told = c .before .before .row5 .given .1 in
+    let s = c .before .before .before .before .before .before .before in
+    (s .pre .0, (s .pre .1 .0, (rw told at (s .pre .1 .1 .0), rw told at (s .pre .1 .1 .1))))
 
-loop-again : tie.Need-loop-again Inv-loop μ-loop
-loop-again c =
-    let put = c .before .before in
-    let turn = put .before .before .before .before in
-    span-then (turn .before .loop .inv) (turn .loop-test .taken) refl (put .put-row .ensures)
+enum-told-3 : tie.Need-enum-told-3
+enum-told-3 c = search needs
 
-same-length : tie.Need-same-length Inv-loop μ-loop
-same-length c = c .before .loop .inv .left .length-is
+same-length : tie.Need-same-length
+same-length c = search needs
 
-returns-2 : tie.Need-returns-2 Inv-loop μ-loop
-returns-2 c = span-done (c .before .loop .inv) (c .loop-test .left)
+returns : tie.Need-returns
+returns c = let put = c .before .before in rw (put .before .before .enum-told .given .1) (put .put-true-states .ensures)
+
+returns-2 : tie.Need-returns-2
+returns-2 c =
+    let s = c .before .before .before .before .before in
+    row-none (held s) (s .args .r) (s .args .row) (λ a. ap (λ (row : Row). rowEdges (held s) row a) (c .enum-told2 .given .1)) (s .pre .1 .1 .1)
+
+same-length-2 : tie.Need-same-length-2
+same-length-2 c = search needs
+
+returns-3 : tie.Need-returns-3
+returns-3 c = let put = c .before .before in rw (put .before .before .before .row .given .1) (put .put-leaf-states .ensures)
+
+same-length-3 : tie.Need-same-length-3
+same-length-3 c = search needs
+
+returns-4 : tie.Need-returns-4
+returns-4 c = let put = c .before .before in rw (put .before .before .before .row2 .given .1) (put .put-leaf-states2 .ensures)
+
+same-length-4 : tie.Need-same-length-4
+same-length-4 c = search needs
+
+returns-5 : tie.Need-returns-5
+returns-5 c = let put = c .before .before in rw (put .before .before .before .row3 .given .1) (put .put-and-states .ensures)
+
+same-length-5 : tie.Need-same-length-5
+same-length-5 c = search needs
+
+returns-6 : tie.Need-returns-6
+returns-6 c = let put = c .before .before in rw (put .before .before .before .row4 .given .1) (put .put-or-states .ensures)
+
+same-length-6 : tie.Need-same-length-6
+same-length-6 c = search needs
+
+returns-7 : tie.Need-returns-7
+returns-7 c = let put = c .before .before in rw (put .before .before .before .row5 .given .1) (put .put-next-states .ensures)
+
+returns-8 : tie.Need-returns-8
+returns-8 c =
+    let s = c .before .before .before .before .before in
+    row-none (held s) (s .args .r) (s .args .row) (λ a. ap (λ (row : Row). rowEdges (held s) row a) (c .enum-told3 .given .1)) (s .pre .1 .1 .1)
 
 pub put-row-states-spec : {M : Type 1} → statement M
 put-row-states-spec =
     tie.close
     (tie.spec
-    Inv-loop
-    μ-loop
     enum-told
-    returns
-    loop-holds
-    cast-i
-    mul-first
-    shared-slice-read-first
-    add-many
-    mul-many
-    shared-slice-read-many
-    sub-many
-    put-row-requires
-    add-a
-    loop-less
-    loop-again
+    put-true-states-requires
+    enum-told-2
+    enum-known-row
+    put-leaf-states-requires
+    enum-known-row-2
+    put-leaf-states-requires-2
+    enum-known-row-3
+    put-and-states-requires
+    enum-known-row-4
+    put-or-states-requires
+    enum-known-row-5
+    put-next-states-requires
+    enum-told-3
     same-length
-    returns-2)
+    returns
+    returns-2
+    same-length-2
+    returns-3
+    same-length-3
+    returns-4
+    same-length-4
+    returns-5
+    same-length-5
+    returns-6
+    same-length-6
+    returns-7
+    returns-8)
