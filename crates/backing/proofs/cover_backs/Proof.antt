@@ -26,6 +26,13 @@ start c = c .before .before .before
 abbrev source : tie.After-within → tie.After-number-at
 source c = c .before .before .before .before .before
 
+-- where the bound was asked, from where the source's value was read, and from where both ranks were
+abbrev asked : tie.After-value-of2 → tie.After-within
+asked c = c .before .before
+
+abbrev asked-ranked : tie.After-rank-of2 → tie.After-within
+asked-ranked c = asked (c .before .before .before)
+
 -- whether the cover edge holds
 read : (c : tie.After-within) → let a = start (source c) .args in CoverRead (now (a .claims)) (coverLayout (now (a .s)) (a .n) .item (a .at)) (c .within .result)
 read c =
@@ -39,11 +46,11 @@ read c =
     }
 
 -- what its source claims
-claimed : (c : tie.After-value-of2) → let a = start (source (c .before .before)) .args in
+claimed : (c : tie.After-value-of2) → let a = start (source (asked c)) .args in
     (c .value-of2 .result ≡ number longWidth (now (a .claims)) (number 2 (now (a .s)) (a .at) * claimWidth)) × (c .value-of2 .result ≤ infinite)
 claimed c =
-    let a = start (source (c .before .before)) .args in
-    (c .value-of2 .ensures ∙ ap (λ (v : ℕ). number longWidth (now (a .claims)) (v * claimWidth)) (source (c .before .before) .number-at .ensures), omega arith)
+    let a = start (source (asked c)) .args in
+    (c .value-of2 .ensures ∙ ap (λ (v : ℕ). number longWidth (now (a .claims)) (v * claimWidth)) (source (asked c) .number-at .ensures), omega arith)
 
 number-at-requires : tie.Need-number-at-requires
 number-at-requires c κs = search needs
@@ -85,7 +92,7 @@ returns-2 : tie.Need-returns-2
 returns-2 c =
     let v = c .before in
     let some : 0 < v .value-of2 .result = omega (arith, c .if2 .taken) in
-    (λ e. clash e refl, λ e b. cover-breaks (read (v .before .before)) (not-false _ (v .before .if1 .left)) (claimed v .0) (claimed v .1) some (λ h. b .zero))
+    (λ e. clash e refl, λ e b. cover-breaks (read (asked v)) (not-false _ (v .before .if1 .left)) (claimed v .0) (claimed v .1) some (λ h. b .zero))
 
 rank-of-requires : tie.Need-rank-of-requires
 rank-of-requires c κs = search needs
@@ -94,11 +101,11 @@ rank-of-requires-2 : tie.Need-rank-of-requires-2
 rank-of-requires-2 c κs = search needs
 
 -- the ranks of its source and of its target
-rank-is : (c : tie.After-rank-of2) → let a = start (source (c .before .before .before .before .before)) .args in
+rank-is : (c : tie.After-rank-of2) → let a = start (source (asked-ranked c)) .args in
     (c .before .rank-of .result ≡ claimedRank (now (a .claims)) (number 2 (now (a .s)) (a .at)))
     × (c .rank-of2 .result ≡ claimedRank (now (a .claims)) (number 2 (now (a .s)) (a .at + coverTargetAt)))
 rank-is c =
-    let w = c .before .before .before .before .before in
+    let w = asked-ranked c in
     let a = start (source w) .args in (
       c .before .rank-of .ensures ∙ ap (claimedRank (now (a .claims))) (source w .number-at .ensures),
       c .rank-of2 .ensures ∙ ap (claimedRank (now (a .claims))) (w .before .before .number-at3 .ensures),
@@ -111,7 +118,7 @@ returns-3 c =
     let ranks = rank-is c in
     let source = c .before .rank-of .result in
     let target = c .rank-of2 .result in (
-      λ t. cover-backs (read (v .before .before)) (not-false _ (v .before .if1 .left)) (claimed v .0) (claimed v .1) (omega (arith, e .if2 .left)) (omega (arith, ltb-true target source t, ranks .0, ranks .1)),
+      λ t. cover-backs (read (asked v)) (not-false _ (v .before .if1 .left)) (claimed v .0) (claimed v .1) (omega (arith, e .if2 .left)) (omega (arith, ltb-true target source t, ranks .0, ranks .1)),
       λ t b. omega (arith, ltb-false target source t, ranks .0, ranks .1, b .lower),
     )
 

@@ -19,9 +19,16 @@ use Rattle.support.proofs.Judging.{HyperRead, hyper-other, hyper-infinite, hype
 use Rattle.backing.proofs.hyper_backs.Statement.{statement}
 use Rattle.backing.proofs.hyper_backs.Tie as tie
 
--- the call, from where the source's value was read
+-- the call, from where the source's value was read; where the targets were weighed, from behind the first test; and where the source's value
+-- was read, from behind the second
 abbrev start : tie.After-value-of → tie.Start
 start c = c .before .before .before .before
+
+abbrev weighed : tie.Else1 → tie.After-worst
+weighed c = c .before .before
+
+abbrev valued : tie.Else2 → tie.After-value-of
+valued c = weighed (c .before .before) .before
 
 -- the targets are sound
 sound : (c : tie.Start) → Sound (targetLayout (now (c .args .s)) (c .args .n)) (c .args .k) (c .args .at + hyperWidth)
@@ -41,10 +48,10 @@ read c =
     }
 
 -- the source's rank, and what was asked of the targets
-rank-is : (c : tie.After-rank-of) → let a = start (c .before .before .before .before .before .before) .args in
+rank-is : (c : tie.After-rank-of) → let a = start (valued (c .before)) .args in
     c .rank-of .result ≡ claimedRank (now (a .claims)) (number 2 (now (a .s)) (a .at))
 rank-is c =
-    let v = c .before .before .before .before .before .before in
+    let v = valued (c .before) in
     c .rank-of .ensures ∙ ap (claimedRank (now (start v .args .claims))) (v .before .number-at .ensures)
 
 number-at-requires : tie.Need-number-at-requires
@@ -66,13 +73,13 @@ returns : tie.Need-returns
 returns c = (λ e. clash e refl, λ e. hyper-other (read (c .before .before)) (c .if1 .taken))
 
 returns-2 : tie.Need-returns-2
-returns-2 c = (λ e. clash e refl, λ e. hyper-infinite (read (c .before .before .before .before)) (c .if2 .taken))
+returns-2 c = (λ e. clash e refl, λ e. hyper-infinite (read (weighed (c .before .before))) (c .if2 .taken))
 
 rank-of-requires : tie.Need-rank-of-requires
 rank-of-requires c κs = search needs
 
 ranks-below-requires : tie.Need-ranks-below-requires
-ranks-below-requires c κs = let b = start (c .before .before .before .before .before .before) in (sound b, b .pre .1 .1)
+ranks-below-requires c κs = let b = start (valued (c .before)) in (sound b, b .pre .1 .1)
 
 -- all targets of the hyperedge have a rank below its source's, exactly where those that were asked have
 abbrev Lower : tie.Start → ℕ → ℕ → Type 0
@@ -83,8 +90,8 @@ returns-3 c =
     let q = c .before in
     let i = q .before in
     let f = i .before .before in
-    let r = read (f .before .before) in
-    let b = start (f .before .before .before) in (
+    let r = read (weighed f) in
+    let b = start (valued i) in (
       λ e. hyper-backs r (omega (arith, f .if1 .left)) (omega (arith, f .if1 .left)) (i .if2 .left)
           (subst (λ (x : ℕ). Lower b x (number 2 (now (b .args .s)) (b .args .at + 2))) (rank-is q) (subst (Lower b (q .rank-of .result)) (b .pre .1 .0) (c .ranks-below .ensures .0 e))),
       λ e k. c .ranks-below .ensures .1 e

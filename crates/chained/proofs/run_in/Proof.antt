@@ -21,7 +21,8 @@ Inv-loop s n h c middle budget most heads links spots changed₀ room₀ round�
 abbrev μ-loop : tie.MeasureT-loop
 μ-loop s n h c middle budget most heads links spots changed₀ room₀ round₀ from₀ many₀ changed room round from many = budget - round
 
--- places, from the last to the first: the records taken in, the half brought up, the budget that is not spent, the turn, what was linked, the call
+-- places, from the last to the first: the records taken in, the half brought up, the budget that is not spent, the turn; what was linked,
+-- from where the changes are listed, and from the turn; and the call, from where the links are made, and from behind them
 abbrev taken : tie.After-slice-known12 Inv-loop μ-loop → tie.After-take-changed Inv-loop μ-loop
 taken c = c .before .before .before .before
 
@@ -34,11 +35,17 @@ unspent c = c .before .before .before
 abbrev turn : tie.Else2 Inv-loop μ-loop → tie.At-loop Inv-loop μ-loop
 turn c = c .before .before
 
+abbrev joined : tie.After-list-changed-arg2 Inv-loop μ-loop → tie.After-link-all Inv-loop μ-loop
+joined c = c .before .before .before .before .before .before .before .before
+
 abbrev linked : tie.At-loop Inv-loop μ-loop → tie.After-link-all Inv-loop μ-loop
-linked c = c .before .before .before .before .before .before .before .before .before .before .before .before
+linked c = joined (c .before .before .before .before)
+
+abbrev called : tie.After-link-all-arg3 Inv-loop μ-loop → tie.Start Inv-loop μ-loop
+called c = c .before .before .before .before .before .before .before .before .before
 
 abbrev start : tie.After-link-all Inv-loop μ-loop → tie.Start Inv-loop μ-loop
-start c = c .before .before .before .before .before .before .before .before .before .before
+start c = called (c .before)
 
 -- the lists are long enough for the nodes
 enough : (c : tie.Start Inv-loop μ-loop) → (c .args .n ≤ c .args .most) × (c .args .n ≤ 65535) × (c .args .most + c .args .most ≤ length (now (c .args .changed)))
@@ -48,18 +55,18 @@ enough c =
 
 link-all-requires : tie.Need-link-all-requires Inv-loop μ-loop
 link-all-requires c κs =
-    let a = c .before .before .before .before .before .before .before .before .before in
+    let a = called c in
     (a .pre .0 .sound, (a .pre .1 .0, (rw (a .pre .1 .1 .1 .1 .0 .0) (a .pre .1 .1 .0), a .pre .1 .1 .1 .0)))
 
 list-changed-requires : tie.Need-list-changed-requires Inv-loop μ-loop
 unfolding decoded
 list-changed-requires c κs =
-    let a = start (c .before .before .before .before .before .before .before .before) in
+    let a = start (joined c) in
     let long = enough a in
     (a .pre .1 .1 .1 .1 .1 .0, ((omega (arith, long), long .1), round-fallen _ (a .pre .0 .closed) (a .pre .1 .1 .1 .1 .1 .1)))
 
 loop-holds : tie.Need-loop-holds Inv-loop μ-loop
-loop-holds c = (start (c .before .before .before .before .before .before .before .before .before .before .before) .pre .1 .1 .1 .1 .1 .1, c .before .before .list-changed .ensures, inl refl, refl)
+loop-holds c = (start (joined (c .before .before .before)) .pre .1 .1 .1 .1 .1 .1, c .before .before .list-changed .ensures, inl refl, refl)
 
 -- the room is as long as it was
 long : (c : tie.At-loop Inv-loop μ-loop) → start (linked c) .args .n + start (linked c) .args .n ≤ length (c .loop .room)

@@ -7,13 +7,20 @@ use Rattle.links.proofs.Linking.{linked-none}
 use Rattle.chained.proofs.run_linked.Statement.{statement}
 use Rattle.chained.proofs.run_linked.Tie as tie
 
+-- the call, from where it is known whether the graph fits in the smaller room; and that place, from where the larger room is there
+abbrev start : tie.After-fit → tie.Start
+start c = c .before .before .before
+
+abbrev fitted : tie.After-run-in-arg → tie.After-fit
+fitted c = c .before .before .before .before .before .before
+
 fit-requires : tie.Need-fit-requires
 fit-requires c κs = search needs
 
 run-small-requires : tie.Need-run-small-requires
 run-small-requires c κs =
     let t = c .before in
-    let p = t .before .before .before .before .pre in
+    let p = start (t .before) .pre in
     (p .0, (p .1 .0, (t .before .fit .ensures (t .if1 .taken), p .1 .1 .1)))
 
 same-length : tie.Need-same-length
@@ -36,7 +43,7 @@ slice-aggregate-run-in-4 c = search needs
 
 run-in-requires : tie.Need-run-in-requires
 run-in-requires c κs =
-    let p = c .before .before .before .before .before .before .before .before .before .pre in
+    let p = start (fitted c) .pre in
     let fits = p .1 .1 .0 in
     let most = length-replicate {A = ℕ} 4096 0 in
     (p .0, (p .1 .0, (fits, (linked-none _ _ _ 4096 (fits .nodes) (omega arith), ((most, omega (arith, length-replicate {A = ℕ} 8192 0)), p .1 .1 .1)))))

@@ -7,6 +7,10 @@ use Rattle.links.proofs.Linking.{linked-none}
 use Rattle.chained.proofs.run_small.Statement.{statement}
 use Rattle.chained.proofs.run_small.Tie as tie
 
+-- the call, from where the room for the links and the changes is there
+abbrev start : tie.After-run-in-arg → tie.Start
+start c = c .before .before .before .before .before .before .before
+
 slice-aggregate-run-in : tie.Need-slice-aggregate-run-in
 slice-aggregate-run-in c = search needs
 
@@ -21,7 +25,7 @@ slice-aggregate-run-in-4 c = search needs
 
 run-in-requires : tie.Need-run-in-requires
 run-in-requires c κs =
-    let p = c .before .before .before .before .before .before .before .pre in
+    let p = start c .pre in
     let fits = p .1 .1 .0 in
     let most = length-replicate {A = ℕ} 1024 0 in
     (p .0, (p .1 .0, (fits, (linked-none _ _ _ 1024 (fits .nodes) (omega arith), ((most, omega (arith, length-replicate {A = ℕ} 2048 0)), p .1 .1 .1)))))

@@ -18,16 +18,21 @@ Inv-loop s n h c middle heads links spots from many to changed₀ room₀ k₀ i
 abbrev μ-loop : tie.MeasureT-loop
 μ-loop s n h c middle heads links spots from many to changed₀ room₀ k₀ i₀ changed room k i = many - i
 
--- the call, from the loop's test
-abbrev start : tie.In-loop Inv-loop μ-loop → tie.Start Inv-loop μ-loop
-start c = c .before .before .before .before .before .before .before .before
+-- the call, from where the loop begins, and from its test; the loop's test, from behind the chain; and the chain, from where the turn ends
+abbrev begun : tie.After-slice-known2 Inv-loop μ-loop → tie.Start Inv-loop μ-loop
+begun c = c .before .before .before .before .before .before
 
--- the loop's test, from behind the chain
+abbrev start : tie.In-loop Inv-loop μ-loop → tie.Start Inv-loop μ-loop
+start c = begun (c .before .before)
+
 abbrev turn : tie.After-take-linked Inv-loop μ-loop → tie.In-loop Inv-loop μ-loop
 turn c = c .before .before .before .before .before
 
+abbrev taken : tie.After-slice-known5 Inv-loop μ-loop → tie.After-take-linked Inv-loop μ-loop
+taken c = c .before .before .before .before
+
 loop-holds : tie.Need-loop-holds Inv-loop μ-loop
-loop-holds c = let p = c .before .before .before .before .before .before .pre in (omega arith, taken-none (λ v. omega (arith, c .slice-known2 .given v)), listed-level (p .1 .1 .1 .1 .0 .3) (p .1 .1 .1 .1 .1 .1), apart-none)
+loop-holds c = let p = begun c .pre in (omega arith, taken-none (λ v. omega (arith, c .slice-known2 .given v)), listed-level (p .1 .1 .1 .1 .0 .3) (p .1 .1 .1 .1 .1 .1), apart-none)
 
 -- the place is in the one half, and nothing was listed there since; the node is one of n
 inside : (c : tie.In-loop Inv-loop μ-loop) → let a = start c .args in (c .before .loop .i < a .n) × (a .from + a .n ≤ length (c .before .loop .changed))
@@ -72,16 +77,16 @@ take-linked-requires c κs =
     (a .pre .0, (a .pre .1 .0, (rw (l .1 .taken .room .same-length) (a .pre .1 .1 .0), ((index .within _, index .long .same), (index .falls, ((λ q r. index .records _ q r), (p .0, l .2)))))))
 
 add-i : tie.Need-add-i Inv-loop μ-loop
-add-i c = omega (arith, inside (turn (c .before .before .before .before)))
+add-i c = omega (arith, inside (turn (taken c)))
 
 loop-less : tie.Need-loop-less Inv-loop μ-loop
-loop-less c = omega (arith, turn (c .before .before .before .before) .loop-test .taken)
+loop-less c = omega (arith, turn (taken c) .loop-test .taken)
 
 loop-again : tie.Need-loop-again Inv-loop μ-loop
 loop-again c =
-    let t = turn (c .before .before .before .before) in
+    let t = turn (taken c) in
     let l = t .before .loop .inv in
-    let took = c .before .before .before .before .take-linked .ensures in
+    let took = taken c .take-linked .ensures in
     (omega (arith, t .loop-test .taken), taken-more (l .1) (rw (stays t) at (took .1 .1 _ _ (start t .pre .1 .1 .0) (l .1 .taken))), took .0, apart-on (l .3) (took .1 .0))
 
 same-length : tie.Need-same-length Inv-loop μ-loop
@@ -93,7 +98,7 @@ same-length-2 c = c .before .loop .inv .1 .taken .room .same-length
 returns : tie.Need-returns Inv-loop μ-loop
 returns c =
     let l = c .before .loop in
-    let e : l .i ≡ c .before .before .before .before .before .before .before .before .args .many = omega (arith, l .inv .0) in
+    let e : l .i ≡ begun (c .before .before) .args .many = omega (arith, l .inv .0) in
     (l .inv .2, rw e at (l .inv .1))
 
 pub take-changed-spec : {M : Type 1} → statement M

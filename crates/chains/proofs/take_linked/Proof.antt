@@ -25,15 +25,21 @@ Inv-loop s n h c middle head links spots to many changed₀ room₀ k₀ place�
 abbrev μ-loop : tie.MeasureT-loop
 μ-loop s n h c middle head links spots to many changed₀ room₀ k₀ place₀ changed room k place = place
 
--- the call, from the loop's test; the loop's test, from behind the record
+-- the call, from where the loop begins, and from its test; the loop's test, from behind the record; and the record, from where its link is read
+abbrev begun : tie.After-slice-known2 Inv-loop μ-loop → tie.Start Inv-loop μ-loop
+begun c = c .before .before .before .before .before
+
 abbrev start : tie.In-loop Inv-loop μ-loop → tie.Start Inv-loop μ-loop
-start c = c .before .before .before .before .before .before .before
+start c = begun (c .before .before)
 
 abbrev turn : tie.After-take-source Inv-loop μ-loop → tie.In-loop Inv-loop μ-loop
 turn c = c .before .before .before .before .before
 
+abbrev taken : tie.After-slice-known4 Inv-loop μ-loop → tie.After-take-source Inv-loop μ-loop
+taken c = c .before .before .before .before
+
 loop-holds : tie.Need-loop-holds Inv-loop μ-loop
-loop-holds c = let a = c .before .before .before .before .before in (a .pre .1 .1 .1 .0 .0, refl, a .pre .1 .1 .1 .1 .1 .0, (λ b₀ p l d. walking-none d), a .pre .1 .1 .1 .1 .1 .1 .1, apart-none)
+loop-holds c = let a = begun c in (a .pre .1 .1 .1 .0 .0, refl, a .pre .1 .1 .1 .1 .1 .0, (λ b₀ p l d. walking-none d), a .pre .1 .1 .1 .1 .1 .1 .1, apart-none)
 
 -- the next place is one, and a record stands there
 inside : (c : tie.In-loop Inv-loop μ-loop) → let a = start c .args in (c .before .loop .place - 1 < length (now (a .links))) × (c .before .loop .place - 1 < length (now (a .spots)))
@@ -81,20 +87,20 @@ falls : (c : tie.In-loop Inv-loop μ-loop) → getD (now (start c .args .links))
 falls c = start c .pre .1 .1 .1 .1 .0 (c .before .loop .place - 1)
 
 mul-place : tie.Need-mul-place Inv-loop μ-loop
-mul-place c = omega (arith, inside (turn (c .before .before .before .before)))
+mul-place c = omega (arith, inside (turn (taken c)))
 
 shared-slice-read-place : tie.Need-shared-slice-read-place Inv-loop μ-loop
-shared-slice-read-place c = omega (arith, inside (turn (c .before .before .before .before .before)))
+shared-slice-read-place c = omega (arith, inside (turn (taken (c .before))))
 
 cast-place : tie.Need-cast-place Inv-loop μ-loop
-cast-place c = let t = turn (c .before .before .before .before .before) in omega (arith, inside t, falls t)
+cast-place c = let t = turn (taken (c .before)) in omega (arith, inside t, falls t)
 
 loop-less : tie.Need-loop-less Inv-loop μ-loop
-loop-less c = let t = turn (c .before .before .before .before .before) in omega (arith, t .loop-test .taken, falls t)
+loop-less c = let t = turn (taken (c .before)) in omega (arith, t .loop-test .taken, falls t)
 
 loop-again : tie.Need-loop-again Inv-loop μ-loop
 loop-again c =
-    let k = c .before .before .before .before .before in
+    let k = taken (c .before) in
     let t = turn k in
     let a = start t in
     let l = t .before .loop .inv in

@@ -9,9 +9,17 @@ use Rattle.scans.specs.Scan.{forth}
 use Rattle.chains.proofs.take_record.Statement.{statement}
 use Rattle.chains.proofs.take_record.Tie as tie
 
+-- the places that the facts below look back to: the start, seen from where the record is told apart; and that it is a hyperedge, seen from
+-- where that is taken
+abbrev start : tie.After-slice-known → tie.Start
+start c = c .before .before
+
+abbrev hyper : tie.After-take-hyper-arg → tie.Then1
+hyper c = c .before .before
+
 -- a hyperedge stands there
-here : (c : tie.Then1) → let a = c .before .before .before .args in HyperOk (now (a .s)) (a .n) (a .at)
-here c = c .before .before .before .pre .0 .hyper (c .if1 .taken)
+here : (c : tie.Then1) → let a = start (c .before) .args in HyperOk (now (a .s)) (a .n) (a .at)
+here c = start (c .before) .pre .0 .hyper (c .if1 .taken)
 
 add-number-at : tie.Need-add-number-at
 add-number-at c = omega (arith, here c .inside)
@@ -21,12 +29,12 @@ number-at-requires c κs = omega (arith, here c .inside)
 
 take-hyper-requires : tie.Need-take-hyper-requires
 take-hyper-requires c κs =
-    let t = c .before .before in
-    (here t, (c .before .number-at .ensures, (forth refl refl, t .before .before .before .pre .1)))
+    let t = hyper c in
+    (here t, (c .before .number-at .ensures, (forth refl refl, start (t .before) .pre .1)))
 
 take-covers-requires : tie.Need-take-covers-requires
 take-covers-requires c κs =
-    let a = c .before .before .before .before in
+    let a = start (c .before .before) in
     (more (a .pre .0 .cover (omega (arith, c .before .if1 .left))) none, (forth refl refl, a .pre .1))
 
 same-length : tie.Need-same-length
@@ -34,7 +42,7 @@ same-length c = search needs
 
 returns : tie.Need-returns
 returns c =
-    let t = c .before .before .before .before .before in
+    let t = hyper (c .before .before .before) in
     record { hyper = λ l. c .before .before .take-hyper .ensures; cover = λ l. absurd (omega (arith, t .if1 .taken)) }
 
 same-length-2 : tie.Need-same-length-2

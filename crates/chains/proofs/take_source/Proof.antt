@@ -11,14 +11,17 @@ use Rattle.changes.proofs.Listing.{listed-stays, listed-room, listed-source, ap
 use Rattle.chains.proofs.take_source.Statement.{statement}
 use Rattle.chains.proofs.take_source.Tie as tie
 
--- the call, from behind the record
+-- the call, from behind the record; and the record, from where the source's number is looked at, and from where it changes for the first time
 abbrev start : tie.After-take-record → tie.Start
 start c = c .before .before .before .before .before .before
 
--- the source had not changed, and does now: from there to the record, and that there is room in the list
-abbrev took : tie.Else2 → tie.After-take-record
-took c = c .before .before .before .before .before .before
+abbrev taken : tie.After-slice-known5 → tie.After-take-record
+taken c = c .before .before .before
 
+abbrev took : tie.Else2 → tie.After-take-record
+took c = taken (c .before .before .before)
+
+-- the source had not changed, and does now: there is room in the list
 free : (c : tie.Else2) → let a = start (took c) .args in (a .many < a .n) × (a .to + a .n ≤ length (now (a .changed)))
 free c =
     let a = start (took c) in
@@ -51,7 +54,7 @@ same-length c = search needs
 
 returns : tie.Need-returns
 returns c =
-    let k = c .before .before .before .before in
+    let k = taken (c .before) in
     let a = start k in
     let named = a .pre .1 .1 .0 .0 in
     let r = rw (sym (a .pre .1 .1 .0 .1)) at (record-lowers (a .pre .0) (a .pre .1 .0) (k .take-record .ensures)) in
@@ -68,7 +71,7 @@ same-length-2 c = search needs
 
 returns-2 : tie.Need-returns-2
 returns-2 c =
-    let k = c .before .before .before .before .before .before in
+    let k = taken (c .before .before .before) in
     let a = start k in
     let named = a .pre .1 .1 .0 .0 in
     let r = rw (sym (a .pre .1 .1 .0 .1)) at (record-lowers (a .pre .0) (a .pre .1 .0) (k .take-record .ensures)) in

@@ -19,12 +19,19 @@ use Rattle.support.proofs.Judging.{CoverRead, cover-idle, cover-breaks, cover-f
 use Rattle.edges.proofs.cover_judged.Statement.{statement}
 use Rattle.edges.proofs.cover_judged.Tie as tie
 
--- the call, from where the bound was read, and that from where the bound was asked
+-- the call, from where the bound was read, and that from where the bound was asked; and where it was asked, from where the source's value
+-- was read, and from where both ranks were
 abbrev start : tie.After-number-at → tie.Start
 start c = c .before .before .before
 
 abbrev source : tie.After-within → tie.After-number-at
 source c = c .before .before .before
+
+abbrev asked : tie.After-value-of2 → tie.After-within
+asked c = c .before .before
+
+abbrev asked-ranked : tie.After-rank-of2 → tie.After-within
+asked-ranked c = asked (c .before .before .before)
 
 -- whether the cover edge holds
 read : (c : tie.After-within) → let a = start (source c) .args in CoverRead (now (a .claims)) (coverLayout (now (a .s)) (a .n) .item (a .at)) (c .within .result)
@@ -39,11 +46,11 @@ read c =
     }
 
 -- what its source claims
-claimed : (c : tie.After-value-of2) → let a = start (source (c .before .before)) .args in
+claimed : (c : tie.After-value-of2) → let a = start (source (asked c)) .args in
     (c .value-of2 .result ≡ number longWidth (now (a .claims)) (number 2 (now (a .s)) (a .at) * claimWidth)) × (c .value-of2 .result ≤ infinite)
 claimed c =
-    let a = start (source (c .before .before)) .args in
-    (c .value-of2 .ensures ∙ ap (λ (v : ℕ). number longWidth (now (a .claims)) (v * claimWidth)) (start (source (c .before .before)) .pre .1 .0 .0), omega arith)
+    let a = start (source (asked c)) .args in
+    (c .value-of2 .ensures ∙ ap (λ (v : ℕ). number longWidth (now (a .claims)) (v * claimWidth)) (start (source (asked c)) .pre .1 .0 .0), omega arith)
 
 add-number-at : tie.Need-add-number-at
 add-number-at c = search needs
@@ -67,7 +74,7 @@ value-of-requires-2 : tie.Need-value-of-requires-2
 value-of-requires-2 c κs = search needs
 
 returns-2 : tie.Need-returns-2
-returns-2 c = let v = c .before in cover-breaks (read (v .before .before)) (not-false _ (v .before .if1 .left)) (claimed v .0) (claimed v .1) (c .if2 .taken)
+returns-2 c = let v = c .before in cover-breaks (read (asked v)) (not-false _ (v .before .if1 .left)) (claimed v .0) (claimed v .1) (c .if2 .taken)
 
 rank-of-requires : tie.Need-rank-of-requires
 rank-of-requires c κs = search needs
@@ -76,20 +83,20 @@ rank-of-requires-2 : tie.Need-rank-of-requires-2
 rank-of-requires-2 c κs = search needs
 
 -- the ranks of its source and of its target
-rank-is : (c : tie.After-rank-of2) → let a = start (source (c .before .before .before .before .before)) .args in
+rank-is : (c : tie.After-rank-of2) → let a = start (source (asked-ranked c)) .args in
     (c .before .rank-of .result ≡ claimedRank (now (a .claims)) (number 2 (now (a .s)) (a .at)))
     × (c .rank-of2 .result ≡ claimedRank (now (a .claims)) (number 2 (now (a .s)) (a .at + coverTargetAt)))
 rank-is c =
-    let w = c .before .before .before .before .before in
+    let w = asked-ranked c in
     let a = start (source w) .args in (
       c .before .rank-of .ensures ∙ ap (claimedRank (now (a .claims))) (start (source w) .pre .1 .0 .0),
       c .rank-of2 .ensures ∙ ap (claimedRank (now (a .claims))) (start (source w) .pre .1 .0 .1),
     )
 
 -- it is fair
-fair : (c : tie.Else2) → let a = start (source (c .before .before .before)) .args in
+fair : (c : tie.Else2) → let a = start (source (asked (c .before))) .args in
     CoverFair (claimedValue (now (a .claims))) (coverLayout (now (a .s)) (a .n) .item (a .at))
-fair c h = let v = c .before in cover-fair (read (v .before .before)) (not-false _ (v .before .if1 .left)) (claimed v .0) (claimed v .1) (c .if2 .left)
+fair c h = let v = c .before in cover-fair (read (asked v)) (not-false _ (v .before .if1 .left)) (claimed v .0) (claimed v .1) (c .if2 .left)
 
 returns-3 : tie.Need-returns-3
 returns-3 c =
@@ -97,7 +104,7 @@ returns-3 c =
     let v = e .before in
     let ranks = rank-is (c .before) in (
       fair e,
-      cover-backs (read (v .before .before)) (not-false _ (v .before .if1 .left)) (claimed v .0) (claimed v .1) (e .if2 .left) (omega (arith, c .if3 .taken, ranks .0, ranks .1)),
+      cover-backs (read (asked v)) (not-false _ (v .before .if1 .left)) (claimed v .0) (claimed v .1) (e .if2 .left) (omega (arith, c .if3 .taken, ranks .0, ranks .1)),
     )
 
 returns-4 : tie.Need-returns-4

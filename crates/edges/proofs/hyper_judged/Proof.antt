@@ -17,12 +17,12 @@ use Rattle.support.proofs.Judging.{HyperRead, hyper-fair, hyper-breaks, hyper-m
 use Rattle.edges.proofs.hyper_judged.Statement.{statement}
 use Rattle.edges.proofs.hyper_judged.Tie as tie
 
--- the call, from where the source's value was read, and the first test from behind the fourth
+-- the call, from where the source's value was read, and the first test from where the fourth is made
 abbrev start : tie.After-value-of → tie.Start
 start c = c .before .before .before
 
-abbrev first : tie.Else4 → tie.Else1
-first c = c .before .before .before .before .before
+abbrev first : tie.After-struct-known → tie.Else1
+first c = c .before .before .before .before
 
 -- what was read
 read : (c : tie.After-value-of) → let a = start c .args in HyperRead (now (a .claims)) (hyperLayout (now (a .s)) (a .n) .item (a .at)) (c .value-of .result) (a .given)
@@ -61,7 +61,7 @@ returns-3 c =
 
 returns-4 : tie.Need-returns-4
 returns-4 c =
-    let f = c .before .before .before .before .before in
+    let f = first (c .before) in
     let r = read (f .before) in (hyper-fair r (f .if1 .left), λ b. absurd (hyper-infinite r (c .if4 .taken) b))
 
 rank-of-requires : tie.Need-rank-of-requires
@@ -72,7 +72,7 @@ add-ranks-below c = search needs
 
 ranks-below-requires : tie.Need-ranks-below-requires
 ranks-below-requires c κs =
-    let b = start (first (c .before) .before) in
+    let b = start (first (c .before .before) .before) in
     ((count b, ends b, b .pre .0 .sound), b .pre .1 .1 .1 .1 .0)
 
 -- all targets of the hyperedge have a rank below this
@@ -81,16 +81,16 @@ Lower b rank =
     (t : Target) → t ∈ items (targetLayout (now (b .args .s)) (b .args .n)) (count b) (b .args .at + hyperWidth) → claimedRank (now (b .args .claims)) (t .node) < rank
 
 -- the source's rank
-rank-is : (c : tie.After-rank-of) → let b = start (first (c .before) .before) in
+rank-is : (c : tie.After-rank-of) → let b = start (first (c .before .before) .before) in
     c .rank-of .result ≡ claimedRank (now (b .args .claims)) (number 2 (now (b .args .s)) (b .args .at))
 rank-is c =
-    let b = start (first (c .before) .before) in c .rank-of .ensures ∙ ap (claimedRank (now (b .args .claims))) (b .pre .1 .0)
+    let b = start (first (c .before .before) .before) in c .rank-of .ensures ∙ ap (claimedRank (now (b .args .claims))) (b .pre .1 .0)
 
 returns-5 : tie.Need-returns-5
 returns-5 c =
     let q = c .before .before in
     let e = q .before in
-    let f = first e in
+    let f = first (e .before) in
     let r = read (f .before) in
     let b = start (f .before) in
     let lower : Lower b (q .rank-of .result) = c .before .ranks-below .ensures (count b) (ends b) .0 (c .if5 .taken) in
@@ -99,7 +99,7 @@ returns-5 c =
 returns-6 : tie.Need-returns-6
 returns-6 c =
     let q = c .before .before in
-    let f = first (q .before) in
+    let f = first (q .before .before) in
     let r = read (f .before) in
     let b = start (f .before) in
     (hyper-fair r (f .if1 .left), λ k. absurd (c .before .ranks-below .ensures (count b) (ends b) .1 (c .if5 .left) (subst (Lower b) (sym (rank-is q)) (k .lower))))

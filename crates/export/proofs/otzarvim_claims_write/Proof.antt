@@ -3,6 +3,10 @@ use borrow.Author.Needs.{needs}
 use Rattle.export.proofs.otzarvim_claims_write.Statement.{statement}
 use Rattle.export.proofs.otzarvim_claims_write.Tie as tie
 
+-- the writing, from where its answer is told
+abbrev called : tie.After-slice-known4 → tie.After-write
+called c = c .before .before .before .before
+
 write-requires : tie.Need-write-requires
 write-requires c κs = search needs
 
@@ -20,7 +24,7 @@ same-length-2 c = search needs
 
 returns : tie.Need-returns
 returns c =
-    let w = c .before .before .before .before .before .before in
+    let w = called (c .before .before) in
     record {
       answer = w .write .result;
       writes = w .write .ensures .0;

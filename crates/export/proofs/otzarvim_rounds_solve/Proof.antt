@@ -6,6 +6,13 @@ use Rattle.rounds.specs.Promise.{Promise}
 use Rattle.export.proofs.otzarvim_rounds_solve.Statement.{statement}
 use Rattle.export.proofs.otzarvim_rounds_solve.Tie as tie
 
+-- the solving, from where its count was read; and that place, from the end
+abbrev called : tie.After-count → tie.After-solve
+called c = c .before .before .before
+
+abbrev counted : tie.After-number → tie.After-count
+counted c = c .before .before
+
 solve-requires : tie.Need-solve-requires
 solve-requires c κs = search needs
 
@@ -23,9 +30,9 @@ same-length c = search needs
 
 returns : tie.Need-returns
 returns c =
-    let solved = c .before .before .before .before .before .solve .ensures in (
+    let solved = called (counted c) .solve .ensures in (
       c .number .ensures ∙ ap outcomeNumber (solved .0),
-      (solved .1 .0, (c .before .before .count .ensures ∙ ap outcomeCount (solved .0), (c .before .offset .ensures ∙ ap outcomeOffset (solved .0), subst (Promise _ _ _ _) (solved .0) (solved .1 .1)))),
+      (solved .1 .0, (counted c .count .ensures ∙ ap outcomeCount (solved .0), (c .before .offset .ensures ∙ ap outcomeOffset (solved .0), subst (Promise _ _ _ _) (solved .0) (solved .1 .1)))),
     )
 
 pub otzarvim-rounds-solve-spec : {M : Type 1} → statement M

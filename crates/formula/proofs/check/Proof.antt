@@ -14,9 +14,16 @@ use Rattle.formula.proofs.Answered.{counted-formula, counted-refused}
 use Rattle.formula.proofs.check.Statement.{statement}
 use Rattle.formula.proofs.check.Tie as tie
 
+-- the places that the facts below look back to: the start, seen from where the header was read; and where it was, seen from where it is known
+abbrev start : tie.After-header → tie.Start
+start c = c .before .before .before
+
+abbrev headed : tie.After-known-told → tie.After-header
+headed c = c .before .before .before
+
 -- the header is good
-head-good : (c : tie.After-known-told) → readHeader (now (c .before .before .before .before .before .before .args .s)) ≡ good (c .before .head .given .0 .0)
-head-good c = counted-formula _ (by (c .before .before .before .header .ensures) (c .before .head .given .1))
+head-good : (c : tie.After-known-told) → readHeader (now (start (headed c) .args .s)) ≡ good (c .before .head .given .0 .0)
+head-good c = counted-formula _ (by (headed c .header .ensures) (c .before .head .given .1))
 
 returns : tie.Need-returns
 unfolding readFormula checked
@@ -48,7 +55,7 @@ returns-3 : tie.Need-returns-3
 unfolding readFormula
 returns-3 c =
     let k = c .before .before .before in
-    simp (reading, le-leb _ _ (k .before .before .before .before .if1 .left), head-good k) (c .before .all-rows .ensures)
+    simp (reading, le-leb _ _ (headed k .before .if1 .left), head-good k) (c .before .all-rows .ensures)
 
 pub check-spec : {M : Type 1} → statement M
 check-spec =

@@ -24,15 +24,16 @@ use Rattle.graph.proofs.Answered.{counted-graph, counted-refused}
 use Rattle.graph.proofs.check.Statement.{statement}
 use Rattle.graph.proofs.check.Tie as tie
 
--- the places that the facts below look back to
+-- the places that the facts below look back to: the start, seen from where the header is known; where it is, seen from where the hyperedges
+-- were read; and where these were, seen from where the cover edges were
 abbrev entered : tie.After-known-told → tie.Start
 entered c = c .before .before .before .before .before
 
-abbrev after-head : tie.After-known-told2 → tie.After-head
-after-head c = c .before .before .before .before .before
+abbrev known : tie.After-known-told2 → tie.After-known-told
+known c = c .before .before .before .before
 
-abbrev after-known-told2 : tie.After-covers → tie.After-known-told2
-after-known-told2 c = c .before
+abbrev read : tie.After-known-told4 → tie.After-known-told2
+read c = c .before .before .before .before
 
 -- the header is good, and so are the hyperedges and the cover edges
 head-good : (c : tie.After-known-told) → let k = c .before .head .given .0 in
@@ -42,12 +43,12 @@ head-good c = counted-graph _ (by (c .before .before .before .header .ensures) (
 headed : (c : tie.After-known-told) → graphHeader ≤ length (now (entered c .args .s))
 headed c = value-inside 2 (now (entered c .args .s)) (coversCount .at) (header-good _ _ (head-good c) .c-counted .there)
 
-hypers-next : (c : tie.After-known-told2) → let k = after-head c .head .given .0 in
-    run (m.hypers (now (after-head c .before .before .before .before .args .s)) (k .0)) (k .1 .0) (start graphHeader) ≡ good (c .before .st .given .0 .0)
+hypers-next : (c : tie.After-known-told2) → let k = known c .before .head .given .0 in
+    run (m.hypers (now (entered (known c) .args .s)) (k .0)) (k .1 .0) (start graphHeader) ≡ good (c .before .st .given .0 .0)
 hypers-next c = step-next _ (by (c .before .before .before .hypers .ensures) (c .before .st .given .1))
 
-covers-next : (c : tie.After-known-told4) → let k = after-head (c .before .before .before .before) .head .given .0 in
-    run (m.covers (now (after-head (c .before .before .before .before) .before .before .before .before .args .s)) (k .0)) (k .1 .1 .0) (start (after-known-told2 (c .before .before .before) .before .st .given .0 .0 .at)) ≡ good (c .before .st2 .given .0 .0)
+covers-next : (c : tie.After-known-told4) → let r = read c in let k = known r .before .head .given .0 in
+    run (m.covers (now (entered (known r) .args .s)) (k .0)) (k .1 .1 .0) (start (r .before .st .given .0 .0 .at)) ≡ good (c .before .st2 .given .0 .0)
 covers-next c = step-next _ (by (c .before .before .before .covers .ensures) (c .before .st2 .given .1))
 
 header-requires : tie.Need-header-requires
@@ -82,8 +83,8 @@ returns-2 c =
 
 covers-requires : tie.Need-covers-requires
 covers-requires c κs =
-    let s = now (after-head c .before .before .before .before .args .s) in
-    (run-keeps _ (λ (st : State). st .at ≤ length s) (λ st next e. hypers-stay _ _ st next e .0) _ _ _ (headed (c .before .before .before .before)) (hypers-next c), omega arith)
+    let s = now (entered (known c) .args .s) in
+    (run-keeps _ (λ (st : State). st .at ≤ length s) (λ st next e. hypers-stay _ _ st next e .0) _ _ _ (headed (known c)) (hypers-next c), omega arith)
 
 enum-known-st-2 : tie.Need-enum-known-st-2
 enum-known-st-2 c = search needs
@@ -96,31 +97,31 @@ unfolding readGraph checked
 returns-3 c =
     let r = c .before .before .before in
     let hs = run-good _ _ _ _ (hypers-next (r .before)) in
-    simp (reading, head-good (after-known-told2 r .before .before .before .before), hs .there, hs .ends, run-bad _ _ _ _ (step-refused _ (by (r .covers .ensures) (c .before .e2 .given .1))))
+    simp (reading, head-good (known (r .before)), hs .there, hs .ends, run-bad _ _ _ _ (step-refused _ (by (r .covers .ensures) (c .before .e2 .given .1))))
 
 returns-4 : tie.Need-returns-4
 unfolding readGraph checked
 returns-4 c =
-    let r = after-known-told2 (c .before .before .before .before) in
+    let r = read (c .before) in
     let hs = run-good _ _ _ _ (hypers-next r) in
     let cs = run-good _ _ _ _ (covers-next (c .before)) in
-    simp (reading, head-good (r .before .before .before .before), hs .there, hs .ends, cs .there, cs .ends, ne-eqb _ _ (c .if1 .taken))
+    simp (reading, head-good (known r), hs .there, hs .ends, cs .there, cs .ends, ne-eqb _ _ (c .if1 .taken))
 
 cast-t22 : tie.Need-cast-t22
 cast-t22 c =
-    let r = after-known-told2 (c .before .before .before .before .before) in
+    let r = read (c .before .before) in
     omega (arith, run-keeps _ (λ (st : State). st .seen ≤ mostTargets) (λ st next e. hypers-stay _ _ st next e .1) _ _ _ (omega arith) (hypers-next r))
 
 returns-5 : tie.Need-returns-5
 unfolding readGraph checked
 returns-5 c =
     let k = c .before .before in
-    let r = after-known-told2 (k .before .before .before) in
+    let r = read k in
     let hs = run-good _ _ _ _ (hypers-next r) in
     let cs = run-good _ _ _ _ (covers-next k) in
     simp (
       reading,
-      head-good (r .before .before .before .before),
+      head-good (known r),
       hs .there,
       hs .ends,
       cs .there,

@@ -42,18 +42,29 @@ Inv-loop s n k end st₀ st = Left s n k st₀ end st
 abbrev μ-loop : tie.MeasureT-loop
 μ-loop s n k end st₀ st = end - st .at
 
--- the loop's state, and behind the first target of a turn
-abbrev entry : tie.After-known-told Inv-loop μ-loop → tie.After-struct-known2 Inv-loop μ-loop
-entry c = c .before .before .before .before .before
+-- the places that the facts below look back to: the start, seen from the loop; the loop, seen from where the first target of a turn was read,
+-- and from where only one may be left; and where the first was read, seen from where it is known
+abbrev begun : tie.At-loop Inv-loop μ-loop → tie.Start Inv-loop μ-loop
+begun c = c .before .before .before
 
-moved : (c : tie.After-known-told Inv-loop μ-loop) → c .before .one .given .0 .0 .at ≡ entry c .before .loop .st .at + targetWidth
-moved c = targets-move _ _ _ _ (step-next _ (by (c .before .before .before .target .ensures) (c .before .one .given .1)))
+abbrev entry : tie.After-target Inv-loop μ-loop → tie.At-loop Inv-loop μ-loop
+entry c = c .before .before .before
 
-second : (c : tie.After-known-told Inv-loop μ-loop) → let a = entry c .before .before .before .before .args in
+abbrev entry-last : tie.After-struct-known3 Inv-loop μ-loop → tie.At-loop Inv-loop μ-loop
+entry-last c = c .before .before .before
+
+abbrev read : tie.After-known-told Inv-loop μ-loop → tie.After-target Inv-loop μ-loop
+read c = c .before .before .before
+
+-- behind the first target of a turn
+moved : (c : tie.After-known-told Inv-loop μ-loop) → c .before .one .given .0 .0 .at ≡ entry (read c) .loop .st .at + targetWidth
+moved c = targets-move _ _ _ _ (step-next _ (by (read c .target .ensures) (c .before .one .given .1)))
+
+second : (c : tie.After-known-told Inv-loop μ-loop) → let a = begun (entry (read c)) .args in
     Left (now (a .s)) (a .n) (a .k) (a .first) (a .first .at + a .k * targetWidth) (c .before .one .given .0 .0)
 second c =
-    let l = entry c .before .loop .inv in
-    onward l (omega (arith, l .there)) (c .before .before .before .target .ensures) (c .before .one .given .1)
+    let l = entry (read c) .loop .inv in
+    onward l (omega (arith, l .there)) (read c .target .ensures) (c .before .one .given .1)
 
 mul-end : tie.Need-mul-end Inv-loop μ-loop
 mul-end c = search needs
@@ -77,7 +88,7 @@ enum-told : tie.Need-enum-told Inv-loop μ-loop
 enum-told c = search needs
 
 returns : tie.Need-returns Inv-loop μ-loop
-returns c = let l = c .before .before .before .before .before .loop .inv in turn-refused _ _ _ _ (l .whole) (omega (arith, l .there)) (c .before .before .target .ensures) (c .enum-told .given .1)
+returns c = let t = c .before .before in let l = entry t .loop .inv in turn-refused _ _ _ _ (l .whole) (omega (arith, l .there)) (t .target .ensures) (c .enum-told .given .1)
 
 target-requires-2 : tie.Need-target-requires-2 Inv-loop μ-loop
 target-requires-2 c κs = let l = second c in omega (arith, l .there, l .inside, moved c)
@@ -106,13 +117,13 @@ loop-again c =
     onward l (omega (arith, l .there, moved (t .before))) (t .target2 .ensures) (c .before .other .given .1)
 
 target-requires-3 : tie.Need-target-requires-3 Inv-loop μ-loop
-target-requires-3 c κs = let l = c .before .before .before .before .loop .inv in omega (arith, l .there, l .inside)
+target-requires-3 c κs = let l = entry-last (c .before) .loop .inv in omega (arith, l .there, l .inside)
 
 returns-3 : tie.Need-returns-3 Inv-loop μ-loop
-returns-3 c = let l = c .before .before .before .before .before .loop .inv in turn-last _ _ _ _ (l .whole) (omega (arith, l .there)) (c .target3 .ensures)
+returns-3 c = let l = entry-last (c .before .before) .loop .inv in turn-last _ _ _ _ (l .whole) (omega (arith, l .there)) (c .target3 .ensures)
 
 returns-4 : tie.Need-returns-4 Inv-loop μ-loop
-returns-4 c = let l = c .before .before .before .before .loop .inv in turn-none _ _ _ _ (l .whole) (omega (arith, l .there))
+returns-4 c = let l = entry-last (c .before) .loop .inv in turn-none _ _ _ _ (l .whole) (omega (arith, l .there))
 
 pub targets-spec : {M : Type 1} → statement M
 targets-spec =

@@ -10,9 +10,16 @@ use Rattle.kinds.specs.Told.{leftName, bothOperands}
 use Rattle.kinds.proofs.both_operands.Statement.{statement}
 use Rattle.kinds.proofs.both_operands.Tie as tie
 
+-- the places that the facts below look back to: the start, seen from where left was read; and where it was, seen from where its name is known
+abbrev start : tie.After-left-name → tie.Start
+start c = c .before .before
+
+abbrev read : tie.After-known-told → tie.After-left-name
+read c = c .before .before .before
+
 -- left was read
-left-is : (c : tie.After-known-told) → let a = c .before .before .before .before .before .args in leftName (now (a .row)) (a .offset) (a .place) (a .idle) ≡ good (c .before .first .given .0 .0)
-left-is c = found-good _ (by (c .before .before .before .left-name .ensures) (c .before .first .given .1))
+left-is : (c : tie.After-known-told) → let a = start (read c) .args in leftName (now (a .row)) (a .offset) (a .place) (a .idle) ≡ good (c .before .first .given .0 .0)
+left-is c = found-good _ (by (read c .left-name .ensures) (c .before .first .given .1))
 
 left-name-requires : tie.Need-left-name-requires
 left-name-requires c κs = search needs

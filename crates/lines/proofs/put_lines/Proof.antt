@@ -16,6 +16,13 @@ Inv-loop room₀ numbers at₀ i₀ room at i = (i ≤ length numbers) × Left r
 abbrev μ-loop : tie.MeasureT-loop
 μ-loop room₀ numbers at₀ i₀ room at i = length numbers - i
 
+-- the places that the facts below look back to: the start, seen from the loop; and the loop, seen from where a number is read
+abbrev start : tie.At-loop Inv-loop μ-loop → tie.Start Inv-loop μ-loop
+start c = c .before .before .before
+
+abbrev entered : tie.After-shared-slice-known2 Inv-loop μ-loop → tie.At-loop Inv-loop μ-loop
+entered c = c .before .before .before
+
 loop-holds : tie.Need-loop-holds Inv-loop μ-loop
 loop-holds c = (omega arith, all-left _ 0 _ (omega arith))
 
@@ -28,15 +35,15 @@ shared-slice-read-put-long c = omega arith
 -- a turn: the numbers, the one whose line is next, and what was left before
 module _ (c : tie.After-shared-slice-known2 Inv-loop μ-loop) where
   abbrev numbers : List ℕ
-  numbers = c .before .before .before .before .before .before .args .numbers .now
+  numbers = start (entered c) .args .numbers .now
 
   abbrev i : ℕ
-  i = c .before .before .before .loop .i
+  i = entered c .loop .i
 
-  next-fits : c .before .before .before .loop .at + length (lineOf (getD numbers i 0)) ≤ length (c .before .before .before .loop .room)
-  next-fits = left-fits (c .before .before .before .loop .inv .1) (lineOf (getD numbers i 0)) (lines (drop (i + 1) numbers)) (lines-drop numbers i (omega arith))
+  next-fits : entered c .loop .at + length (lineOf (getD numbers i 0)) ≤ length (entered c .loop .room)
+  next-fits = left-fits (entered c .loop .inv .1) (lineOf (getD numbers i 0)) (lines (drop (i + 1) numbers)) (lines-drop numbers i (omega arith))
 
-  digits-fit : c .before .before .before .loop .at + length (longDecimal (getD numbers i 0)) < length (c .before .before .before .loop .room)
+  digits-fit : entered c .loop .at + length (longDecimal (getD numbers i 0)) < length (entered c .loop .room)
   digits-fit = omega (arith, next-fits, length-append (longDecimal (getD numbers i 0)) (10 ∷ []))
 
 put-long-requires : tie.Need-put-long-requires Inv-loop μ-loop
@@ -63,7 +70,7 @@ loop-again c =
     let put = c .before .before in
     let turn = put .before in (
       omega arith,
-      left-then (turn .before .before .before .loop .inv .1) (lineOf (getD (numbers turn) (i turn) 0)) (lines (drop (i turn + 1) (numbers turn)))
+      left-then (entered turn .loop .inv .1) (lineOf (getD (numbers turn) (i turn) 0)) (lines (drop (i turn + 1) (numbers turn)))
           (lines-drop (numbers turn) (i turn) (omega arith)) (more (put .put-long .ensures) 10 (digits-fit turn)),
     )
 
@@ -73,7 +80,7 @@ same-length c = c .before .loop .inv .1 .length-is
 returns : tie.Need-returns Inv-loop μ-loop
 unfolding lines
 returns c =
-    let numbers = c .before .before .before .before .args .numbers .now in
+    let numbers = start (c .before) .args .numbers .now in
     none-left (rw (past-end numbers (c .before .loop .i) (omega arith)) at (c .before .loop .inv .1))
 
 pub put-lines-spec : {M : Type 1} → statement M

@@ -25,15 +25,18 @@ Inv-loop s n p k place heads₀ links₀ spots₀ i₀ q₀ at₀ heads links sp
 abbrev μ-loop : tie.MeasureT-loop
 μ-loop s n p k place heads₀ links₀ spots₀ i₀ q₀ at₀ heads links spots i q at = i
 
--- the call, from the loop's test
+-- the call, from where the loop begins, and from its test
+abbrev begun : tie.After-slice-known3 Inv-loop μ-loop → tie.Start Inv-loop μ-loop
+begun c = c .before .before .before .before
+
 abbrev start : tie.In-loop Inv-loop μ-loop → tie.Start Inv-loop μ-loop
-start c = c .before .before .before .before .before .before
+start c = begun (c .before .before)
 
 add-q : tie.Need-add-q Inv-loop μ-loop
-add-q c = omega (arith, c .before .before .before .before .pre .1 .0)
+add-q c = omega (arith, begun c .pre .1 .0)
 
 loop-holds : tie.Need-loop-holds Inv-loop μ-loop
-loop-holds c = (c .before .before .before .before .pre .0, omega arith, kept-none, λ middle j e d. d)
+loop-holds c = (begun c .pre .0, omega arith, kept-none, λ middle j e d. d)
 
 -- the next target is sound, and there is a place for it
 here : (c : tie.In-loop Inv-loop μ-loop) → TargetOk (now (start c .args .s)) (start c .args .n) (c .before .loop .q)
@@ -137,7 +140,7 @@ same-length-6 c = c .before .loop .inv .2 .spots-long
 returns-2 : tie.Need-returns-2 Inv-loop μ-loop
 returns-2 c =
     let l = c .before .loop in
-    let a = c .before .before .before .before .before .before .args in
+    let a = begun (c .before .before) .args in
     let all : l .at ≡ a .place + a .k = omega (arith, l .inv .1) in (
       all,
       λ middle j e d. subst (λ (places : ℕ). Linked (now (a .s)) (a .n) middle (j + 1) [] 0 places (l .heads) (l .links) (l .spots)) all (linked-end _ _ (l .inv .3 middle j e d) (omega arith)),

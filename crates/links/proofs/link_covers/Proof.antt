@@ -25,12 +25,15 @@ Inv-loop s n h c middle place heads₀ links₀ spots₀ j₀ p₀ at₀ heads l
 abbrev μ-loop : tie.MeasureT-loop
 μ-loop s n h c middle place heads₀ links₀ spots₀ j₀ p₀ at₀ heads links spots j p at = c - j
 
--- the call, from the loop's test
+-- the call, from where the loop begins, and from its test
+abbrev begun : tie.After-slice-known3 Inv-loop μ-loop → tie.Start Inv-loop μ-loop
+begun c = c .before .before .before .before
+
 abbrev start : tie.In-loop Inv-loop μ-loop → tie.Start Inv-loop μ-loop
-start c = c .before .before .before .before .before .before
+start c = begun (c .before .before)
 
 loop-holds : tie.Need-loop-holds Inv-loop μ-loop
-loop-holds c = (omega arith, omega arith, sym (end-none _ 0 _ refl), c .before .before .before .before .pre .1 .1, kept-none)
+loop-holds c = (omega arith, omega arith, sym (end-none _ 0 _ refl), begun c .pre .1 .1, kept-none)
 
 -- the next cover edge is sound, and there is a place for it
 here : (c : tie.In-loop Inv-loop μ-loop) → CoverOk (now (start c .args .s)) (start c .args .n) (c .before .loop .p)
@@ -131,7 +134,7 @@ same-length-3 c = c .before .loop .inv .4 .spots-long
 returns : tie.Need-returns Inv-loop μ-loop
 returns c =
     let l = c .before .loop in
-    let a = c .before .before .before .before .before .before in
+    let a = begun (c .before .before) in
     let all : l .j ≡ a .args .c = omega (arith, l .inv .0) in
     rw all at (linked-all (l .inv .3) (omega (arith, l .inv .1, l .inv .0, a .pre .1 .0 .1, l .inv .4 .links-long)))
 

@@ -25,9 +25,12 @@ Inv-loop s n h middle heads₀ links₀ spots₀ j₀ p₀ place₀ last₀ stri
 abbrev μ-loop : tie.MeasureT-loop
 μ-loop s n h middle heads₀ links₀ spots₀ j₀ p₀ place₀ last₀ stride₀ heads links spots j p place last stride = h - j
 
--- the call, from the loop's test; the link, and the count, from behind either arm
+-- the call, from where the loop begins, and from its test; the link, and the count, from behind either arm
+abbrev begun : tie.After-slice-known3 Inv-loop μ-loop → tie.Start Inv-loop μ-loop
+begun c = c .before .before .before .before
+
 abbrev start : tie.In-loop Inv-loop μ-loop → tie.Start Inv-loop μ-loop
-start c = c .before .before .before .before .before .before
+start c = begun (c .before .before)
 
 abbrev same : tie.After-link Inv-loop μ-loop → tie.After-number-at Inv-loop μ-loop
 same c = c .before .before .before .before .before
@@ -42,7 +45,7 @@ abbrev other : tie.After-link2 Inv-loop μ-loop → tie.After-number-at Inv-loop
 other c = c .before .before .before .before .before
 
 loop-holds : tie.Need-loop-holds Inv-loop μ-loop
-loop-holds c = (omega arith, sym (end-none _ 0 graphHeader refl), omega arith, c .before .before .before .before .pre .1 .1 .1, refl, kept-none)
+loop-holds c = (omega arith, sym (end-none _ 0 graphHeader refl), omega arith, begun c .pre .1 .1 .1, refl, kept-none)
 
 -- the next hyperedge is sound
 here : (c : tie.In-loop Inv-loop μ-loop) → HyperOk (now (start c .args .s)) (start c .args .n) (c .before .loop .p)
@@ -165,7 +168,7 @@ same-length-3 c = c .before .loop .inv .5 .spots-long
 returns : tie.Need-returns Inv-loop μ-loop
 returns c =
     let l = c .before .loop in
-    let a = c .before .before .before .before .before .before in
+    let a = begun (c .before .before) in
     let all : l .j ≡ a .args .h = omega (arith, l .inv .0) in
     (a .pre .1 .0 ∙ ap (hyperAt (now (a .args .s)) (a .args .n)) (sym all) ∙ sym (l .inv .1) ∙ (rw all at (l .inv .2)), rw all at (l .inv .3))
 

@@ -20,17 +20,28 @@ use Rattle.model.proofs.Answered.{counted-model, counted-refused}
 use Rattle.model.proofs.check.Statement.{statement}
 use Rattle.model.proofs.check.Tie as tie
 
+-- the places that the facts below look back to: the start, seen from where the header is known; where it is, seen from where the labels were
+-- read; and where these were, seen from where the transitions were
+abbrev entered : tie.After-known-told → tie.Start
+entered c = c .before .before .before .before .before
+
+abbrev headed : tie.After-enum-told2 → tie.After-known-told
+headed c = c .before .before .before
+
+abbrev labelled : tie.After-enum-told3 → tie.After-enum-told2
+labelled c = c .before .before .before
+
 -- the header is good, and so are the labels and the transitions
 head-good : (c : tie.After-known-told) → let k = c .before .head .given .0 in
-    readHeader (now (c .before .before .before .before .before .args .s)) ≡ good (record { states = k .0; propositions = k .1 .0; transitions = k .1 .1 .0 })
+    readHeader (now (entered c .args .s)) ≡ good (record { states = k .0; propositions = k .1 .0; transitions = k .1 .1 .0 })
 head-good c = counted-model _ (by (c .before .before .before .header .ensures) (c .before .head .given .1))
 
-labels-next : (c : tie.After-enum-told2) → let k = c .before .before .before .before .head .given .0 in
-    run (m.labels (now (c .before .before .before .before .before .before .before .before .args .s)) (k .1 .0)) (k .0) (start modelHeader) ≡ good (c .enum-told2 .given .0 .0)
+labels-next : (c : tie.After-enum-told2) → let k = headed c .before .head .given .0 in
+    run (m.labels (now (entered (headed c) .args .s)) (k .1 .0)) (k .0) (start modelHeader) ≡ good (c .enum-told2 .given .0 .0)
 labels-next c = step-next _ (by (c .before .before .labels .ensures) (c .enum-told2 .given .1))
 
-transitions-next : (c : tie.After-enum-told3) → let l = c .before .before .before in let k = l .before .before .before .before .head .given .0 in
-    run (m.transitions (now (l .before .before .before .before .before .before .before .before .args .s)) (k .0)) (k .1 .1 .0) (start (labelAt (k .0))) ≡ good (c .enum-told3 .given .0 .0)
+transitions-next : (c : tie.After-enum-told3) → let l = labelled c in let k = headed l .before .head .given .0 in
+    run (m.transitions (now (entered (headed l) .args .s)) (k .0)) (k .1 .1 .0) (start (labelAt (k .0))) ≡ good (c .enum-told3 .given .0 .0)
 transitions-next c = step-next _ (by (c .before .before .transitions .ensures) (c .enum-told3 .given .1))
 
 header-requires : tie.Need-header-requires
@@ -73,7 +84,7 @@ add-middle : tie.Need-add-middle
 add-middle c = search needs
 
 transitions-requires : tie.Need-transitions-requires
-transitions-requires c κs = let h = header-good _ _ (head-good (c .before .before .before)) in (omega (arith, h .long), h .states-counted .no-less)
+transitions-requires c κs = let h = header-good _ _ (head-good (headed c)) in (omega (arith, h .long), h .states-counted .no-less)
 
 enum-known-e-2 : tie.Need-enum-known-e-2
 enum-known-e-2 c = search needs
@@ -82,7 +93,7 @@ returns-3 : tie.Need-returns-3
 unfolding readModel checked
 returns-3 c =
     let r = c .before .before .before in
-    let h = head-good (r .before .before .before .before) in
+    let h = head-good (headed (r .before)) in
     let ls = run-good _ _ _ _ (labels-next (r .before)) in
     let refused = by (r .transitions .ensures) (c .before .e2 .given .1) in
     simp (reading, h, ls .there, run-bad _ _ _ _ (step-refused _ refused))
@@ -93,10 +104,10 @@ enum-told-3 c = search needs
 returns-4 : tie.Need-returns-4
 unfolding readModel checked
 returns-4 c =
-    let l = c .before .before .before in
+    let l = labelled c in
     let ls = run-good _ _ _ _ (labels-next l) in
     let ts = run-good _ _ _ _ (transitions-next c) in
-    simp (reading, head-good (l .before .before .before), ls .there, ts .there, all-length _ _ _ _ (ts .there))
+    simp (reading, head-good (headed l), ls .there, ts .there, all-length _ _ _ _ (ts .there))
 
 pub check-spec : {M : Type 1} → statement M
 check-spec =

@@ -16,12 +16,16 @@ fit : (s : tie.Start) → let a = s .args in 0 + length (word "refused " ++ deci
 unfolding refusedLine
 fit s = omega (arith, s .pre)
 
--- the places that the facts below look back to
+-- the places that the facts below look back to: the start, seen from where the number was put; where it was, seen from where the place was put;
+-- and where that was, seen from the end of the line
 abbrev start : tie.After-put-number → tie.Start
 start c = c .before .before .before .before
 
 abbrev number-put : tie.After-put-place → tie.After-put-number
 number-put c = c .before .before .before .before
+
+abbrev placed : tie.After-put-word-arg2 → tie.After-put-place
+placed c = c .before .before .before .before
 
 slice-aggregate-put-number : tie.Need-slice-aggregate-put-number
 slice-aggregate-put-number c = search needs
@@ -44,7 +48,7 @@ slice-aggregate-put-word c = search needs
 
 put-word-requires : tie.Need-put-word-requires
 put-word-requires c κs =
-    let place-put = c .before .before .before .before in
+    let place-put = placed c in
     let put = number-put place-put in
     fits (put .put-number .ensures then place-put .put-place .ensures) (10 ∷ []) (fit (start put))
 
@@ -55,7 +59,7 @@ returns : tie.Need-returns
 unfolding refusedLine
 returns c =
     let end = c .before .before in
-    let place-put = end .before .before .before .before .before in
+    let place-put = placed (end .before) in
     let put = number-put place-put in
     put .put-number .ensures then place-put .put-place .ensures then end .put-word .ensures
 

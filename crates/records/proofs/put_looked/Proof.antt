@@ -7,15 +7,19 @@ enum-told : tie.Need-enum-told
 enum-told c = search needs
 
 put-nearby-requires : tie.Need-put-nearby-requires
-put-nearby-requires c κs = let s = c .before .before .before .before .before in (s .pre .0, rw (c .before .enum-told .given .1) at (s .pre .1))
+put-nearby-requires c κs =
+    let told = c .before in
+    let s = told .before .before .before .before in
+    (s .pre .0, rw (told .enum-told .given .1) at (s .pre .1))
 
 enum-known-action : tie.Need-enum-known-action
 enum-known-action c = search needs
 
 put-nearby-requires-2 : tie.Need-put-nearby-requires-2
 put-nearby-requires-2 c κs =
-    let s = c .before .before .before .before .before .before in
-    (s .pre .0, rw (c .before .before .action .given .1) at (s .pre .1))
+    let told = c .before .before in
+    let s = told .before .before .before .before in
+    (s .pre .0, rw (told .action .given .1) at (s .pre .1))
 
 same-length : tie.Need-same-length
 same-length c = search needs

@@ -39,6 +39,17 @@ Inv-loop room₀ at m n q v first many low high most shift width near₀ p₀ i�
 abbrev μ-loop : tie.MeasureT-loop
 μ-loop room₀ at m n q v first many low high most shift width near₀ p₀ i₀ room count p i = i
 
+-- the places that the facts below look back to: the start, seen from where the loop is entered, and from a turn; and the turn, seen from
+-- where it wrote
+abbrev entered : tie.After-near-end Inv-loop μ-loop → tie.Start Inv-loop μ-loop
+entered c = c .before .before .before .before .before
+
+abbrev start : tie.In-loop Inv-loop μ-loop → tie.Start Inv-loop μ-loop
+start c = entered (c .before .before)
+
+abbrev turned : tie.After-put-near Inv-loop μ-loop → tie.In-loop Inv-loop μ-loop
+turned c = c .before .before .before .before
+
 near-width-requires : tie.Need-near-width-requires Inv-loop μ-loop
 near-width-requires c κs = tt
 
@@ -51,7 +62,7 @@ near-end-requires c κs = c .before .before .before .before .pre .0 .long
 loop-holds : tie.Need-loop-holds Inv-loop μ-loop
 unfolding near
 loop-holds c =
-    let s = c .before .before .before .before .before in
+    let s = entered c in
     let a = s .args in
     let test = isNear (a .low) (a .high) (a .most) in
     let L = transitionLayout (now (a .m)) in
@@ -65,10 +76,6 @@ loop-holds c =
       λ h. subst (λ (x : ℕ). test (L .item (x + (c .near-end .result - 1) * transitionWidth)) ≡ true) (sym from) (upto .last h),
       omega (arith, all),
     )
-
--- where a turn begins
-abbrev start : tie.In-loop Inv-loop μ-loop → tie.Start Inv-loop μ-loop
-start c = c .before .before .before .before .before .before .before
 
 abbrev test : tie.In-loop Inv-loop μ-loop → Transition → Bool
 test c = let a = start c .args in isNear (a .low) (a .high) (a .most)
@@ -129,7 +136,7 @@ put-near-requires c κs =
 
 add-near : tie.Need-add-near Inv-loop μ-loop
 add-near c =
-    let turn = c .before .before .before .before .before .before .before in
+    let turn = turned (c .before .before .before) in
     let a = start turn .args in
     omega (arith, turn .before .loop .inv .2, passing-le (layout turn) (test turn) (a .many) (transitionAt (a .n) (a .first)))
 
@@ -185,7 +192,7 @@ same-length c = c .before .loop .inv .0 .left .length-is
 returns : tie.Need-returns Inv-loop μ-loop
 returns c =
     let l = c .before .loop in
-    let s = c .before .before .before .before .before .before .before in
+    let s = entered (c .before .before) in
     let a = s .args in
     let none : l .i ≡ 0 = omega (arith, c .loop-test .left) in
     let wide = c .before .before .before .before .near-width .ensures in (

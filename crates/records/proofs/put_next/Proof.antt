@@ -27,6 +27,13 @@ use Rattle.records.proofs.Nearby.{some-nearby, every-nearby}
 use Rattle.records.proofs.put_next.Statement.{statement}
 use Rattle.records.proofs.put_next.Tie as tie
 
+-- the start, seen from where the bound was coded; and where the targets were written, seen from where the head was
+abbrev start : tie.After-code → tie.Start
+start c = c .before .before .before
+
+abbrev behind : tie.After-put-head → tie.After-put-looked2
+behind c = c .before .before .before .before
+
 code-requires : tie.Need-code-requires
 code-requires c κs = search needs
 
@@ -38,9 +45,6 @@ abbrev targets : tie.Start → List Target
 targets s = everyNext (own s) (s .args .action) (s .args .bound) (s .args .shift)
 
 -- those that are looked at by the action and the bound are those by the numbers that say them
-abbrev start : tie.After-code → tie.Start
-start c = c .before .before .before
-
 kept : (c : tie.After-code) → let a = start c .args in
     keep (looksAt (a .action) (a .bound)) (own (start c)) ≡ keep (isNear (lowest (a .action)) (highest (a .action)) (c .code .result)) (own (start c))
 kept c =
@@ -62,7 +66,8 @@ some-bytes c =
 put-looked-requires : tie.Need-put-looked-requires
 put-looked-requires c κs =
     let told = c .before in
-    let s = c .before .before .before .before .before .before in
+    let code = told .before .before in
+    let s = code .before .before .before in
     (s .pre .0, subst (λ (w : List ℕ). s .args .at + length w ≤ length (now (s .args .room))) (some-bytes told) (rw (told .enum-told .given .1) at (s .pre .1)))
 
 some-laid : (c : tie.After-put-looked) → let told = c .before .before in let s = start (told .before .before) in let a = s .args in
@@ -94,7 +99,8 @@ every-bytes c =
 targets-fit : (c : tie.After-enum-told2) → let s = start (c .before .before) in
     s .args .at + hyperWidth + length (writeAll writeTarget (targets s)) ≤ length (now (s .args .room))
 targets-fit c =
-    let s = c .before .before .before .before .before in
+    let code = c .before .before in
+    let s = code .before .before .before in
     let head = bytes 2 (s .args .v) ++ bytes 2 (length (targets s)) in
     let all = rw (hypers-one (s .args .v) (targets s)) at (rw (c .enum-told2 .given .1) at (s .pre .1)) in
     omega (arith, all, head-length (s .args .v) (length (targets s)), length-append head (writeAll writeTarget (targets s)))
@@ -137,10 +143,10 @@ put-head-requires c κs =
     omega (arith, targets-fit (put .before .before), as-long (every-laid put))
 
 mul-result-2 : tie.Need-mul-result-2
-mul-result-2 c = let laid = every-laid (c .before .before .before .before .before .before) in omega (arith, laid .inside, laid .next-is)
+mul-result-2 c = let laid = every-laid (behind (c .before .before)) in omega (arith, laid .inside, laid .next-is)
 
 add-result-2 : tie.Need-add-result-2
-add-result-2 c = let laid = every-laid (c .before .before .before .before .before .before) in omega (arith, laid .inside, laid .next-is)
+add-result-2 c = let laid = every-laid (behind (c .before .before)) in omega (arith, laid .inside, laid .next-is)
 
 same-length : tie.Need-same-length
 same-length c = search needs
@@ -154,7 +160,7 @@ same-length-2 c = search needs
 returns-2 : tie.Need-returns-2
 returns-2 c =
     let head = c .before .before in
-    let put = head .before .before .before .before in
+    let put = behind head in
     let told = put .before .before in
     let s = start (told .before .before) in
     let v = s .args .v in

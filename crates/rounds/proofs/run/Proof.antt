@@ -16,16 +16,27 @@ use Rattle.turns.proofs.Loop.{begins, from-here, holds-filled, filled-on, ends-
 use Rattle.rounds.proofs.run.Statement.{statement}
 use Rattle.rounds.proofs.run.Tie as tie
 
--- the places that the facts below look back to
+-- the places that the facts below look back to: either round, from where it was seen whether it changed anything; and the second, from where it
+-- is known whether the links fit
 abbrev after-first-round : tie.After-same → tie.After-first-round
 after-first-round c = c .before .before .before .before
 
 abbrev after-next-round : tie.After-same2 → tie.After-next-round
 after-next-round c = c .before .before .before .before
 
--- places, from the last to the first: the second round, the budget that is not spent, the first round, the cleared room, the call
-abbrev raised : tie.After-same-arg2 → tie.After-raise
-raised c = c .before .before .before .before .before .before .before
+abbrev second : tie.After-fit → tie.After-next-round
+second c = after-next-round (c .before .before)
+
+-- places, from the last to the first: the rounds that go on, with links or without; the half brought up for the second round, the budget that
+-- is not spent, the first round, the cleared room, the call; and the first round, from behind the second
+abbrev linked : tie.After-slice-known6 → tie.After-run-linked
+linked c = c .before .before
+
+abbrev gone-on : tie.After-slice-known7 → tie.After-run-on
+gone-on c = c .before .before
+
+abbrev raised : tie.After-next-round → tie.After-raise
+raised c = c .before .before .before .before
 
 abbrev unspent : tie.After-raise → tie.Else2
 unspent c = c .before .before
@@ -38,6 +49,9 @@ cleared c = c .before .before .before .before
 
 abbrev start : tie.After-clear → tie.Start
 start c = c .before .before .before .before
+
+abbrev earlier : tie.After-next-round → tie.After-first-round
+earlier c = first (unspent (raised c))
 
 -- the room is as long as it was, after the first round and after the second
 long : (c : tie.After-first-round) → start (cleared c) .args .n + start (cleared c) .args .n ≤ length (c .first-round .last .1 .1 .1 .0)
@@ -107,11 +121,11 @@ next-round-requires c κs =
     (start (cleared f) .pre .0 .sound .hypers, (covers-sound f, (omega arith, rw (r .raise .ensures .same-length) (long f))))
 
 -- round 1 stands first, and round 2 behind it
-again : (c : tie.After-next-round) → let a = start (cleared (first (unspent (c .before .before .before .before)))) .args in
+again : (c : tie.After-next-round) → let a = start (cleared (earlier c)) .args in
     AtRound (decoded (now (a .s)) (a .n) (a .h) (a .c)) (a .budget) 1 (now (a .room)) (c .next-round .last .1 .1 .1 .1 .1 .1 .1 .1 .0)
 unfolding decoded
 again c =
-    let r = c .before .before .before .before in
+    let r = raised c in
     let u = unspent r in
     let f = first u in
     let ready = start (cleared f) .pre .0 in
@@ -119,8 +133,8 @@ again c =
     (whole-part _ _ _ _ _ _ (f .first-round .ensures .0)) (c .next-round .ensures .1)
 
 -- and the room is still as long
-longer : (c : tie.After-next-round) → let a = start (cleared (first (unspent (c .before .before .before .before)))) .args in a .n + a .n ≤ length (c .next-round .last .1 .1 .1 .1 .1 .1 .1 .1 .0)
-longer c = rw (again c .same-length) (start (cleared (first (unspent (c .before .before .before .before)))) .pre .1)
+longer : (c : tie.After-next-round) → let a = start (cleared (earlier c)) .args in a .n + a .n ≤ length (c .next-round .last .1 .1 .1 .1 .1 .1 .1 .1 .0)
+longer c = rw (again c .same-length) (start (cleared (earlier c)) .pre .1)
 
 same-requires-2 : tie.Need-same-requires-2
 same-requires-2 c κs = (longer (c .before .before .before), (omega arith, anywhere))
@@ -132,7 +146,7 @@ returns-3 : tie.Need-returns-3
 unfolding decoded
 returns-3 c =
     let w = after-next-round (c .before) in
-    let a = start (cleared (first (unspent (w .before .before .before .before)))) in
+    let a = start (cleared (earlier w)) in
     (ends-settled _ (a .pre .0 .closed) (a .pre .0 .storable) (again w) (c .before .same2 .ensures .0 (c .if3 .taken)), holds-filled (a .pre .1) (again w))
 
 fit-requires : tie.Need-fit-requires
@@ -141,33 +155,33 @@ fit-requires c κs = tt
 run-linked-requires : tie.Need-run-linked-requires
 run-linked-requires c κs =
     let fit = c .before .before in
-    let w = after-next-round (fit .before .before) in
-    let f = first (unspent (w .before .before .before .before)) in
+    let w = second fit in
+    let f = earlier w in
     (start (cleared f) .pre .0, (f .first-round .ensures .0, (fit .fit .ensures (c .before .if4 .taken), (longer w, from-here (again w)))))
 
 same-length-4 : tie.Need-same-length-4
-same-length-4 c = c .before .before .run-linked .kept .1 .1 .1 .1 .1 .1 .0 ∙ again (after-next-round (c .before .before .before .before .before .before .before)) .same-length
+same-length-4 c = linked c .run-linked .kept .1 .1 .1 .1 .1 .1 .0 ∙ again (second (linked c .before .before .before)) .same-length
 
 returns-4 : tie.Need-returns-4
 unfolding decoded
 returns-4 c =
-    let w = after-next-round (c .before .before .before .before .before .before .before) in
-    (c .before .before .run-linked .ensures .0, filled-on (again w) _ (c .before .before .run-linked .ensures .1))
+    let k = linked c in
+    (k .run-linked .ensures .0, filled-on (again (second (k .before .before .before))) _ (k .run-linked .ensures .1))
 
 run-on-requires : tie.Need-run-on-requires
 run-on-requires c κs =
-    let w = after-next-round (c .before .before .before .before) in
-    let f = first (unspent (w .before .before .before .before)) in
+    let w = second (c .before .before) in
+    let f = earlier w in
     (start (cleared f) .pre .0, (f .first-round .ensures .0, (longer w, from-here (again w))))
 
 same-length-5 : tie.Need-same-length-5
-same-length-5 c = c .before .before .run-on .kept .1 .1 .1 .1 .1 .1 .0 ∙ again (after-next-round (c .before .before .before .before .before .before .before)) .same-length
+same-length-5 c = gone-on c .run-on .kept .1 .1 .1 .1 .1 .1 .0 ∙ again (second (gone-on c .before .before .before)) .same-length
 
 returns-5 : tie.Need-returns-5
 unfolding decoded
 returns-5 c =
-    let w = after-next-round (c .before .before .before .before .before .before .before) in
-    (c .before .before .run-on .ensures .0, filled-on (again w) _ (c .before .before .run-on .ensures .1))
+    let k = gone-on c in
+    (k .run-on .ensures .0, filled-on (again (second (k .before .before .before))) _ (k .run-on .ensures .1))
 
 pub run-spec : {M : Type 1} → statement M
 run-spec =

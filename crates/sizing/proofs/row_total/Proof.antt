@@ -16,6 +16,10 @@ use Rattle.sizing.proofs.Sums.{leafAt, nextAt, row-sizes, until-sizes, 
 use Rattle.sizing.proofs.row_total.Statement.{statement}
 use Rattle.sizing.proofs.row_total.Tie as tie
 
+-- the start, seen from where the kinds of row part
+abbrev start : tie.After-shared-slice-known2 → tie.Start
+start c = c .before .before
+
 -- there is a state
 some : (s : tie.Start) → 1 ≤ s .args .n
 unfolding heldModel
@@ -96,20 +100,20 @@ every-until-requires c κs = search needs
 returns : tie.Need-returns
 unfolding sizeOf stateEdges
 returns c =
-    let s = c .before .before .before .before .before in
+    let s = start (c .before .before .before) in
     rw (c .before .enum-told .given .1)
     (c .bare .ensures ∙ size-alike _ (record { hypers = 1; targets = 0; most = 0 }) (λ a. refl) (s .args .n) (some s) {r = bareSize (s .args .n)} (omega arith) (omega arith) refl)
 
 returns-2 : tie.Need-returns-2
 unfolding sizeOf stateEdges
 returns-2 c =
-    let s = c .before .before .before .before in
+    let s = start (c .before .before) in
     rw (c .enum-told2 .given .1) (size-alike _ noSize (λ a. refl) (s .args .n) (some s) (omega arith) (omega arith) refl)
 
 returns-3 : tie.Need-returns-3
 returns-3 c =
     let row = c .before .before .before in
-    let s = row .before .before .before .before in
+    let s = start (row .before .before) in
     let i = row .row .given .0 .0 in
     rw (row .row .given .1)
     (c .bare2 .ensures ∙ c .before .count-held .ensures .1 ∙ sym (row-sizes (held s) (Proposition i) (leafAt (held s) i) refl (λ a. refl) (s .args .n)))
@@ -117,7 +121,7 @@ returns-3 c =
 returns-4 : tie.Need-returns-4
 returns-4 c =
     let row = c .before .before .before in
-    let s = row .before .before .before .before in
+    let s = start (row .before .before) in
     let i = row .row2 .given .0 .0 in
     let h = holds (held s) i in
     rw (row .row2 .given .1)
@@ -127,19 +131,19 @@ returns-4 c =
 returns-5 : tie.Need-returns-5
 unfolding sizeOf stateEdges
 returns-5 c =
-    let s = c .before .before .before .before in
+    let s = start (c .before .before) in
     rw (c .enum-told3 .given .1) (size-alike _ (record { hypers = 1; targets = 2; most = 2 }) (λ a. refl) (s .args .n) (some s) (omega arith) (omega arith) refl)
 
 returns-6 : tie.Need-returns-6
 unfolding sizeOf stateEdges
 returns-6 c =
-    let s = c .before .before .before .before in
+    let s = start (c .before .before) in
     rw (c .enum-told4 .given .1) (size-alike _ (record { hypers = 2; targets = 2; most = 1 }) (λ a. refl) (s .args .n) (some s) (omega arith) (omega arith) refl)
 
 returns-7 : tie.Need-returns-7
 returns-7 c =
     let row = c .before .before .before .before in
-    let s = row .before .before .before .before in
+    let s = start (row .before .before) in
     let v = row .row3 .given .0 in
     rw (row .row3 .given .1, c .before .enum-told5 .given .1)
     (c .some-next .ensures
@@ -149,7 +153,7 @@ returns-7 c =
 returns-8 : tie.Need-returns-8
 returns-8 c =
     let row = c .before .before .before .before in
-    let s = row .before .before .before .before in
+    let s = start (row .before .before) in
     let v = row .row3 .given .0 in
     rw (row .row3 .given .1, c .before .enum-told6 .given .1)
     (c .every-next .ensures
@@ -159,7 +163,7 @@ returns-8 c =
 returns-9 : tie.Need-returns-9
 returns-9 c =
     let row = c .before .before .before .before in
-    let s = row .before .before .before .before in
+    let s = start (row .before .before) in
     let v = row .row4 .given .0 in
     rw (row .row4 .given .1, c .before .enum-told7 .given .1)
     (c .some-until .ensures ∙ sym (until-sizes (held s) Some (v .1 .0) (v .1 .1 .0) (v .1 .1 .1 .0) (s .args .n)))
@@ -167,7 +171,7 @@ returns-9 c =
 returns-10 : tie.Need-returns-10
 returns-10 c =
     let row = c .before .before .before .before in
-    let s = row .before .before .before .before in
+    let s = start (row .before .before) in
     let v = row .row4 .given .0 in
     rw (row .row4 .given .1, c .before .enum-told8 .given .1)
     (c .every-until .ensures ∙ sym (until-sizes (held s) Every (v .1 .0) (v .1 .1 .0) (v .1 .1 .1 .0) (s .args .n)))

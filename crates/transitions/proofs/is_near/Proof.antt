@@ -11,6 +11,10 @@ use Rattle.model.specs.Format.{actionAt}
 use Rattle.transitions.proofs.is_near.Statement.{statement}
 use Rattle.transitions.proofs.is_near.Tie as tie
 
+-- the start, seen from where the numbers were read
+abbrev start : tie.After-number-at2 → tie.Start
+start c = c .before .before .before
+
 add-number-at : tie.Need-add-number-at
 add-number-at c = search needs
 
@@ -24,18 +28,18 @@ number-at-requires-2 : tie.Need-number-at-requires-2
 number-at-requires-2 c κs = search needs
 
 -- the action as it was read
-action : (c : tie.After-number-at2) → let a = c .before .before .before .args in c .before .number-at .result ≡ number 2 (now (a .m)) (a .at + actionAt)
+action : (c : tie.After-number-at2) → let a = start c .args in c .before .number-at .result ≡ number 2 (now (a .m)) (a .at + actionAt)
 action c = c .before .number-at .ensures
 
 returns : tie.Need-returns
 returns c =
-    let a = c .before .before .before .before .args in
+    let a = start (c .before) .args in
     let own = number 2 (now (a .m)) (a .at + actionAt) in
     rw (lt-leb (a .low) own (omega (arith, action (c .before), c .if1 .taken))) refl
 
 returns-2 : tie.Need-returns-2
 returns-2 c =
-    let a = c .before .before .before .before .before .args in
+    let a = start (c .before .before) .args in
     let own = number 2 (now (a .m)) (a .at + actionAt) in
     rw (
       le-leb (a .low) own (omega (arith, action (c .before .before), c .before .if1 .left)),
@@ -44,7 +48,7 @@ returns-2 c =
 
 returns-3 : tie.Need-returns-3
 returns-3 c =
-    let a = c .before .before .before .before .before .args in
+    let a = start (c .before .before) .args in
     let own = number 2 (now (a .m)) (a .at + actionAt) in
     rw (
       le-leb (a .low) own (omega (arith, action (c .before .before), c .before .if1 .left)),

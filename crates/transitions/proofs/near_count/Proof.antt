@@ -40,7 +40,7 @@ enum-told-2 c = search needs
 
 returns : tie.Need-returns
 returns c =
-    let a = c .before .before .before .before .before .before .args in
+    let a = start (c .before .before .before .before) .args in
     let us = transitionsFrom (now (a .m)) (a .n) (a .first) (a .many) in
     rw (c .before .before .enum-told .given .1, c .enum-told2 .given .1) (sym (unbounded-all us ∙ items-length _ _ _))
 

@@ -22,6 +22,9 @@ else1-of-told c = c .before .before .before .before
 abbrev else1 : tie.Else2 → tie.Else1
 else1 c = else1-of-told (c .before)
 
+abbrev else2 : tie.After-enum-told2 → tie.Else2
+else2 c = c .before .before .before
+
 abbrev start : tie.Else1 → tie.Start
 start c = c .before .before
 
@@ -32,10 +35,10 @@ headed c = le-leb _ _ (c .if1 .left)
 total-there : (c : tie.After-known-told) → fieldAt 4 (now (start (else1-of-told c) .args .s)) 0 ≡ Number (c .before .long .given .0 .0)
 total-there c = by (c .before .before .before .read .ensures) (c .before .long .given .1)
 
-version-is : (c : tie.After-enum-told2) → let a = start (else1 (c .before .before .before)) .args in only (now (a .s)) versionAt (a .head .version) ≡ good (c .enum-told2 .given .0 .0)
+version-is : (c : tie.After-enum-told2) → let a = start (else1 (else2 c)) .args in only (now (a .s)) versionAt (a .head .version) ≡ good (c .enum-told2 .given .0 .0)
 version-is c = found-good _ (by (c .before .before .read-only .ensures) (c .enum-told2 .given .1))
 
-kind-is : (c : tie.After-enum-told4) → let a = start (else1 (c .before .before .before .before .before .before)) .args in only (now (a .s)) kindAt (a .head .kind) ≡ good (c .enum-told4 .given .0 .0)
+kind-is : (c : tie.After-enum-told4) → let a = start (else1 (else2 (c .before .before .before))) .args in only (now (a .s)) kindAt (a .head .kind) ≡ good (c .enum-told4 .given .0 .0)
 kind-is c = found-good _ (by (c .before .before .read-only2 .ensures) (c .enum-told4 .given .1))
 
 returns : tie.Need-returns
@@ -103,14 +106,14 @@ unfolding readStart openedOf
 returns-5 c =
     let read = c .before .before .before in
     let v = read .before in
-    let e = v .before .before .before in
+    let e = else2 v in
     simp (c .fault3 .ensures, reading, headed (else1 e), total-there (e .before), eq-eqb _ _ (e .if2 .left), version-is v, handed _ (read .read-only2 .ensures) (c .before .enum-told5 .given .1))
 
 returns-6 : tie.Need-returns-6
 unfolding readStart openedOf
 returns-6 c =
     let v = c .before .before .before in
-    let e = v .before .before .before in
+    let e = else2 v in
     simp (reading, headed (else1 e), total-there (e .before), eq-eqb _ _ (e .if2 .left), version-is v, kind-is c)
 
 pub open-spec : {M : Type 1} → statement M

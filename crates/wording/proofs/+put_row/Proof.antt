@@ -46,71 +46,108 @@ module _ (t : ℕ) where
   abbrev claims : lts.Claims
   claims = (row.Asked, row.Learnt, put-word.Asked, put-word.Learnt, number.Asked, number.Learnt, below, f.Post, put-next.Asked, put-next.Learnt, quantifier.Asked, quantifier.Learnt, put-bounded.Asked, put-bounded.Learnt)
 
-  -- the places that the facts below look back to
-  abbrev after-row2 : lts.After-put-number-arg4 claims given f.Post → lts.After-row2 claims given f.Post
-  after-row2 c = c .before .before .before
+  -- the start, seen from where the row was read
+  abbrev begun : lts.After-row-at claims given f.Post → lts.Start claims given f.Post
+  begun c = c .before .before .before
 
-  abbrev after-row : lts.After-put-number-arg2 claims given f.Post → lts.After-row claims given f.Post
-  after-row c = c .before .before .before
+  -- a row without operands: where it was told which it is, seen from where its text is about to be put
+  abbrev told-true : lts.After-put-word-arg2 claims given f.Post → lts.After-enum-told claims given f.Post
+  told-true c = c .before .before
 
-  abbrev after-enum-told2 : lts.After-slice-known3 claims given f.Post → lts.After-enum-told2 claims given f.Post
-  after-enum-told2 c = c .before .before .before .before .before
+  abbrev told-false : lts.After-put-word-arg4 claims given f.Post → lts.After-enum-told2 claims given f.Post
+  told-false c = c .before .before
 
-  abbrev after-enum-told : lts.After-slice-known2 claims given f.Post → lts.After-enum-told claims given f.Post
-  after-enum-told c = c .before .before .before .before .before
+  abbrev told-proposition : lts.After-put-number-arg2 claims given f.Post → lts.After-row claims given f.Post
+  told-proposition c = c .before .before .before
 
-  abbrev after-row4-of-put-row-arg3 : lts.After-put-row-arg3 claims given f.Post → lts.After-row4 claims given f.Post
-  after-row4-of-put-row-arg3 c = c .before .before .before .before .before .before .before
+  abbrev told-negation : lts.After-put-number-arg4 claims given f.Post → lts.After-row2 claims given f.Post
+  told-negation c = c .before .before .before
 
-  abbrev after-row3-of-put-row-arg : lts.After-put-row-arg claims given f.Post → lts.After-row3 claims given f.Post
-  after-row3-of-put-row-arg c = c .before .before .before .before .before .before .before
+  -- `and`: where it was told, its bracket opened, its left operand, its sign and its right operand written, each seen from where the next
+  -- piece is about to be put; and where it was told, seen from where either operand is about to be put
+  abbrev told-and : lts.After-put-word-arg6 claims given f.Post → lts.After-row3 claims given f.Post
+  told-and c = c .before .before .before
 
-  abbrev after-put-quantifier : lts.After-put-word-arg18 claims given f.Post → lts.After-put-quantifier claims given f.Post
-  after-put-quantifier c = c .before .before .before .before
+  abbrev and-opened : lts.After-put-row-arg claims given f.Post → lts.After-put-word3 claims given f.Post
+  and-opened c = c .before .before .before
 
-  abbrev after-row3 : lts.After-put-word-arg8 claims given f.Post → lts.After-row3 claims given f.Post
-  after-row3 c = after-row3-of-put-row-arg (c .before .before .before .before .before)
+  abbrev and-left : lts.After-put-word-arg8 claims given f.Post → lts.After-put-row claims given f.Post
+  and-left c = c .before .before .before .before
 
-  abbrev after-row4 : lts.After-put-word-arg14 claims given f.Post → lts.After-row4 claims given f.Post
-  after-row4 c = after-row4-of-put-row-arg3 (c .before .before .before .before .before)
+  abbrev and-signed : lts.After-put-row-arg2 claims given f.Post → lts.After-put-word4 claims given f.Post
+  and-signed c = c .before .before .before
 
-  abbrev after-put-row3 : lts.After-put-word7 claims given f.Post → lts.After-put-row3 claims given f.Post
-  after-put-row3 c = c .before .before .before .before .before
+  abbrev and-right : lts.After-put-word-arg10 claims given f.Post → lts.After-put-row2 claims given f.Post
+  and-right c = c .before .before .before .before
 
-  abbrev after-put-row : lts.After-put-word4 claims given f.Post → lts.After-put-row claims given f.Post
-  after-put-row c = c .before .before .before .before .before
+  abbrev told-and-left : lts.After-put-row-arg claims given f.Post → lts.After-row3 claims given f.Post
+  told-and-left c = told-and (and-opened c .before)
 
-  abbrev after-row6 : lts.After-put-bounded-arg2 claims given f.Post → lts.After-row6 claims given f.Post
-  after-row6 c = c .before .before .before .before .before .before .before .before .before .before .before .before .before .before .before .before
+  abbrev told-and-right : lts.After-put-row-arg2 claims given f.Post → lts.After-row3 claims given f.Post
+  told-and-right c = told-and-left (and-left (and-signed c .before) .before)
 
-  abbrev after-put-row6 : lts.After-put-bounded claims given f.Post → lts.After-put-row6 claims given f.Post
-  after-put-row6 c = c .before .before .before .before .before
+  -- the same places of `or`
+  abbrev told-or : lts.After-put-word-arg12 claims given f.Post → lts.After-row4 claims given f.Post
+  told-or c = c .before .before .before
 
-  abbrev after-row4-of-put-word-arg16 : lts.After-put-word-arg16 claims given f.Post → lts.After-row4 claims given f.Post
-  after-row4-of-put-word-arg16 c = after-row4 (c .before .before .before .before .before .before .before .before .before)
+  abbrev or-opened : lts.After-put-row-arg3 claims given f.Post → lts.After-put-word6 claims given f.Post
+  or-opened c = c .before .before .before
 
-  abbrev after-row3-of-put-word-arg10 : lts.After-put-word-arg10 claims given f.Post → lts.After-row3 claims given f.Post
-  after-row3-of-put-word-arg10 c = after-row3 (c .before .before .before .before .before .before .before .before .before)
+  abbrev or-left : lts.After-put-word-arg14 claims given f.Post → lts.After-put-row3 claims given f.Post
+  or-left c = c .before .before .before .before
 
-  abbrev after-put-row4 : lts.After-put-word8 claims given f.Post → lts.After-put-row4 claims given f.Post
-  after-put-row4 c = c .before .before .before .before .before
+  abbrev or-signed : lts.After-put-row-arg4 claims given f.Post → lts.After-put-word7 claims given f.Post
+  or-signed c = c .before .before .before
 
-  abbrev after-put-row2 : lts.After-put-word5 claims given f.Post → lts.After-put-row2 claims given f.Post
-  after-put-row2 c = c .before .before .before .before .before
+  abbrev or-right : lts.After-put-word-arg16 claims given f.Post → lts.After-put-row4 claims given f.Post
+  or-right c = c .before .before .before .before
 
-  abbrev after-put-row7 : lts.After-put-word10 claims given f.Post → lts.After-put-row7 claims given f.Post
-  after-put-row7 c = c .before .before .before .before .before
+  abbrev told-or-left : lts.After-put-row-arg3 claims given f.Post → lts.After-row4 claims given f.Post
+  told-or-left c = told-or (or-opened c .before)
+
+  abbrev told-or-right : lts.After-put-row-arg4 claims given f.Post → lts.After-row4 claims given f.Post
+  told-or-right c = told-or-left (or-left (or-signed c .before) .before)
+
+  -- EX and AX: where it was told, and what stands before its operand written
+  abbrev told-next : lts.After-put-next-arg claims given f.Post → lts.After-row5 claims given f.Post
+  told-next c = c .before .before
+
+  abbrev next-signed : lts.After-put-row-arg5 claims given f.Post → lts.After-put-next claims given f.Post
+  next-signed c = c .before .before .before
+
+  -- EU and AU: where it was told, its quantifier written, its bracket opened, its left operand, its sign and its right operand written, each
+  -- seen from where the next piece is about to be put; and where it was told, seen from where the left operand is about to be put
+  abbrev told-until : lts.After-put-quantifier-arg claims given f.Post → lts.After-row6 claims given f.Post
+  told-until c = c .before .before
+
+  abbrev until-quantified : lts.After-put-word-arg18 claims given f.Post → lts.After-put-quantifier claims given f.Post
+  until-quantified c = c .before .before .before .before
+
+  abbrev until-opened : lts.After-put-row-arg6 claims given f.Post → lts.After-put-word9 claims given f.Post
+  until-opened c = c .before .before .before
+
+  abbrev until-left : lts.After-put-bounded-arg2 claims given f.Post → lts.After-put-row6 claims given f.Post
+  until-left c = c .before .before .before .before
+
+  abbrev until-signed : lts.After-put-row-arg7 claims given f.Post → lts.After-put-bounded claims given f.Post
+  until-signed c = c .before .before .before
+
+  abbrev until-right : lts.After-put-word-arg20 claims given f.Post → lts.After-put-row7 claims given f.Post
+  until-right c = c .before .before .before .before
+
+  abbrev told-until-left : lts.After-put-row-arg6 claims given f.Post → lts.After-row6 claims given f.Post
+  told-until-left c = told-until (until-quantified (until-opened c .before) .before)
 
   -- what is known once the row has been read
   module _ (c : lts.After-row-at claims given f.Post) {x : Row} (e : c .row-at .result ≡ x) where
     abbrev s : List ℕ
-    s = c .before .before .before .args .s .now
+    s = begun c .args .s .now
 
     abbrev i : ℕ
-    i = c .before .before .before .args .i
+    i = begun c .args .i
 
     ready : Ready s i
-    ready = c .before .before .before .pre .1 .0
+    ready = begun c .pre .1 .0
 
     there : rowAt s (placeOf i) ≡ x
     there = by (c .row-at .ensures) e
@@ -119,8 +156,8 @@ module _ (t : ℕ) where
     text-is = rows.row-made ready there
 
     -- the text fits from the position on
-    whole : c .before .before .before .args .at + length (made x (λ l. rowText s l)) ≤ length (c .before .before .before .args .room .now)
-    whole = rw (← text-is) (c .before .before .before .pre .1 .1)
+    whole : begun c .args .at + length (made x (λ l. rowText s l)) ≤ length (begun c .args .room .now)
+    whole = rw (← text-is) (begun c .pre .1 .1)
 
     abbrev Long : Type 0
     Long = length (rowText s i) ≡ madeLength x (λ l. length (rowText s l))
@@ -176,7 +213,7 @@ module _ (t : ℕ) where
   slice-aggregate-put-word c = search needs
 
   put-word-requires : lts.Need-put-word-requires claims given f.Post
-  put-word-requires c κs = omega (arith, long (c .before .before .before .before) (c .before .before .enum-told .given .1))
+  put-word-requires c κs = omega (arith, long (told-true c .before .before) (told-true c .enum-told .given .1))
 
   enum-told-2 : lts.Need-enum-told-2 claims given f.Post
   enum-told-2 c = search needs
@@ -185,7 +222,7 @@ module _ (t : ℕ) where
   slice-aggregate-put-word-2 c = search needs
 
   put-word-requires-2 : lts.Need-put-word-requires-2 claims given f.Post
-  put-word-requires-2 c κs = omega (arith, long (c .before .before .before .before) (c .before .before .enum-told2 .given .1))
+  put-word-requires-2 c κs = omega (arith, long (told-false c .before .before) (told-false c .enum-told2 .given .1))
 
   enum-known-row : lts.Need-enum-known-row claims given f.Post
   enum-known-row c = search needs
@@ -194,7 +231,7 @@ module _ (t : ℕ) where
   slice-aggregate-put-number c = search needs
 
   put-number-requires : lts.Need-put-number-requires claims given f.Post
-  put-number-requires c κs = omega (arith, long (after-row c .before .before) (c .before .before .before .row .given .1))
+  put-number-requires c κs = omega (arith, long (told-proposition c .before .before) (told-proposition c .row .given .1))
 
   enum-known-row-2 : lts.Need-enum-known-row-2 claims given f.Post
   enum-known-row-2 c = search needs
@@ -203,7 +240,7 @@ module _ (t : ℕ) where
   slice-aggregate-put-number-2 c = search needs
 
   put-number-requires-2 : lts.Need-put-number-requires-2 claims given f.Post
-  put-number-requires-2 c κs = omega (arith, long (after-row2 c .before .before) (c .before .before .before .row2 .given .1))
+  put-number-requires-2 c κs = omega (arith, long (told-negation c .before .before) (told-negation c .row2 .given .1))
 
   enum-known-row-3 : lts.Need-enum-known-row-3 claims given f.Post
   enum-known-row-3 c = search needs
@@ -212,29 +249,29 @@ module _ (t : ℕ) where
   slice-aggregate-put-word-3 c = search needs
 
   put-word-requires-3 : lts.Need-put-word-requires-3 claims given f.Post
-  put-word-requires-3 c κs = omega (arith, and-long (c .before .before .before))
+  put-word-requires-3 c κs = omega (arith, and-long (told-and c))
 
   put-row-requires : lts.Need-put-row-requires claims given f.Post
   put-row-requires c κs =
-      let a = and-asks (after-row3-of-put-row-arg c) _ first in
-      (a .0, (a .1, omega (arith, and-long (after-row3-of-put-row-arg c))))
+      let a = and-asks (told-and-left c) _ first in
+      (a .0, (a .1, omega (arith, and-long (told-and-left c))))
 
   slice-aggregate-put-word-4 : lts.Need-slice-aggregate-put-word-4 claims given f.Post
   slice-aggregate-put-word-4 c = search needs
 
   put-word-requires-4 : lts.Need-put-word-requires-4 claims given f.Post
-  put-word-requires-4 c κs = omega (arith, and-long (after-row3 c))
+  put-word-requires-4 c κs = omega (arith, and-long (told-and-left (and-left c .before)))
 
   put-row-requires-2 : lts.Need-put-row-requires-2 claims given f.Post
   put-row-requires-2 c κs =
-      let a = and-asks (after-row3 (c .before .before .before .before)) _ second in
-      (a .0, (a .1, omega (arith, and-long (after-row3 (c .before .before .before .before)))))
+      let a = and-asks (told-and-right c) _ second in
+      (a .0, (a .1, omega (arith, and-long (told-and-right c))))
 
   slice-aggregate-put-word-5 : lts.Need-slice-aggregate-put-word-5 claims given f.Post
   slice-aggregate-put-word-5 c = search needs
 
   put-word-requires-5 : lts.Need-put-word-requires-5 claims given f.Post
-  put-word-requires-5 c κs = omega (arith, and-long (after-row3-of-put-word-arg10 c))
+  put-word-requires-5 c κs = omega (arith, and-long (told-and-right (and-right c .before)))
 
   enum-known-row-4 : lts.Need-enum-known-row-4 claims given f.Post
   enum-known-row-4 c = search needs
@@ -243,159 +280,167 @@ module _ (t : ℕ) where
   slice-aggregate-put-word-6 c = search needs
 
   put-word-requires-6 : lts.Need-put-word-requires-6 claims given f.Post
-  put-word-requires-6 c κs = omega (arith, or-long (c .before .before .before))
+  put-word-requires-6 c κs = omega (arith, or-long (told-or c))
 
   put-row-requires-3 : lts.Need-put-row-requires-3 claims given f.Post
   put-row-requires-3 c κs =
-      let a = or-asks (after-row4-of-put-row-arg3 c) _ first in
-      (a .0, (a .1, omega (arith, or-long (after-row4-of-put-row-arg3 c))))
+      let a = or-asks (told-or-left c) _ first in
+      (a .0, (a .1, omega (arith, or-long (told-or-left c))))
 
   slice-aggregate-put-word-7 : lts.Need-slice-aggregate-put-word-7 claims given f.Post
   slice-aggregate-put-word-7 c = search needs
 
   put-word-requires-7 : lts.Need-put-word-requires-7 claims given f.Post
-  put-word-requires-7 c κs = omega (arith, or-long (after-row4 c))
+  put-word-requires-7 c κs = omega (arith, or-long (told-or-left (or-left c .before)))
 
   put-row-requires-4 : lts.Need-put-row-requires-4 claims given f.Post
   put-row-requires-4 c κs =
-      let a = or-asks (after-row4 (c .before .before .before .before)) _ second in
-      (a .0, (a .1, omega (arith, or-long (after-row4 (c .before .before .before .before)))))
+      let a = or-asks (told-or-right c) _ second in
+      (a .0, (a .1, omega (arith, or-long (told-or-right c))))
 
   slice-aggregate-put-word-8 : lts.Need-slice-aggregate-put-word-8 claims given f.Post
   slice-aggregate-put-word-8 c = search needs
 
   put-word-requires-8 : lts.Need-put-word-requires-8 claims given f.Post
-  put-word-requires-8 c κs = omega (arith, or-long (after-row4-of-put-word-arg16 c))
+  put-word-requires-8 c κs = omega (arith, or-long (told-or-right (or-right c .before)))
 
   enum-known-row-5 : lts.Need-enum-known-row-5 claims given f.Post
   enum-known-row-5 c = search needs
 
   put-next-requires : lts.Need-put-next-requires claims given f.Post
-  put-next-requires c κs = omega (arith, next-long (c .before .before))
+  put-next-requires c κs = omega (arith, next-long (told-next c))
 
   put-row-requires-5 : lts.Need-put-row-requires-5 claims given f.Post
   put-row-requires-5 c κs =
-      let c1 = c .before .before .before in
-      let r = c1 .before .before .before in
-      let a = next-asks r _ first in
-      (a .0, (a .1, laid.fits (c1 .put-next .ensures) _ (whole (r .before .before) (r .row5 .given .1))))
+      let signed = next-signed c in
+      let told = told-next (signed .before) in
+      let a = next-asks told _ first in
+      (a .0, (a .1, laid.fits (signed .put-next .ensures) _ (whole (told .before .before) (told .row5 .given .1))))
 
   enum-known-row-6 : lts.Need-enum-known-row-6 claims given f.Post
   enum-known-row-6 c = search needs
 
   put-quantifier-requires : lts.Need-put-quantifier-requires claims given f.Post
-  put-quantifier-requires c κs = omega (arith, until-long (c .before .before))
+  put-quantifier-requires c κs = omega (arith, until-long (told-until c))
 
   slice-aggregate-put-word-9 : lts.Need-slice-aggregate-put-word-9 claims given f.Post
   slice-aggregate-put-word-9 c = search needs
 
   put-word-requires-9 : lts.Need-put-word-requires-9 claims given f.Post
-  put-word-requires-9 c κs = omega (arith, until-long (after-put-quantifier c .before .before .before))
+  put-word-requires-9 c κs = omega (arith, until-long (told-until (until-quantified c .before)))
 
   put-row-requires-6 : lts.Need-put-row-requires-6 claims given f.Post
   put-row-requires-6 c κs =
-      let a = until-asks (after-put-quantifier (c .before .before .before .before) .before .before .before) _ first in
-      (a .0, (a .1, omega (arith, until-long (after-put-quantifier (c .before .before .before .before) .before .before .before))))
+      let a = until-asks (told-until-left c) _ first in
+      (a .0, (a .1, omega (arith, until-long (told-until-left c))))
 
   slice-aggregate-put-bounded : lts.Need-slice-aggregate-put-bounded claims given f.Post
   slice-aggregate-put-bounded c = search needs
 
   put-bounded-requires : lts.Need-put-bounded-requires claims given f.Post
-  put-bounded-requires c κs = omega (arith, until-long (after-row6 c))
+  put-bounded-requires c κs = omega (arith, until-long (told-until-left (until-left c .before)))
 
   put-row-requires-7 : lts.Need-put-row-requires-7 claims given f.Post
   put-row-requires-7 c κs =
-      let c4 = c .before .before .before in
-      let c3 = after-put-row6 c4 in
-      let c2 = c3 .before .before .before .before in
-      let c1 = after-put-quantifier (c2 .before) in
-      let r = c1 .before .before .before in
-      let a = until-asks r _ second in
-      (a .0, (a .1, laid.fits-before (c1 .put-quantifier .ensures then c2 .put-word9 .ensures then c3 .put-row6 .ensures then c4 .put-bounded .ensures) _ (word "]") (whole (r .before .before) (r .row6 .given .1))))
+      let signed = until-signed c in
+      let left = until-left (signed .before) in
+      let opened = until-opened (left .before) in
+      let quantified = until-quantified (opened .before) in
+      let told = told-until (quantified .before) in
+      let a = until-asks told _ second in
+      (a .0, (a .1, laid.fits-before (quantified .put-quantifier .ensures then opened .put-word9 .ensures then left .put-row6 .ensures then signed .put-bounded .ensures) _ (word "]") (whole (told .before .before) (told .row6 .given .1))))
 
   slice-aggregate-put-word-10 : lts.Need-slice-aggregate-put-word-10 claims given f.Post
   slice-aggregate-put-word-10 c = search needs
 
   put-word-requires-10 : lts.Need-put-word-requires-10 claims given f.Post
   put-word-requires-10 c κs =
-      let c5 = c .before .before .before .before in
-      let c4 = c5 .before .before .before .before in
-      let c3 = after-put-row6 c4 in
-      let c2 = c3 .before .before .before .before in
-      let c1 = after-put-quantifier (c2 .before) in
-      let r = c1 .before .before .before in
-      laid.fits (c1 .put-quantifier .ensures then c2 .put-word9 .ensures then c3 .put-row6 .ensures then c4 .put-bounded .ensures then c5 .put-row7 .ensures) (word "]") (whole (r .before .before) (r .row6 .given .1))
+      let right = until-right c in
+      let signed = until-signed (right .before) in
+      let left = until-left (signed .before) in
+      let opened = until-opened (left .before) in
+      let quantified = until-quantified (opened .before) in
+      let told = told-until (quantified .before) in
+      laid.fits (quantified .put-quantifier .ensures then opened .put-word9 .ensures then left .put-row6 .ensures then signed .put-bounded .ensures then right .put-row7 .ensures) (word "]") (whole (told .before .before) (told .row6 .given .1))
 
   returns : lts.Need-returns claims given f.Post
-  returns c = said (c .before .before .put-word .ensures) (text-is (after-enum-told c .before .before) (after-enum-told c .enum-told .given .1)) refl refl
+  returns c =
+      let told = told-true (c .before .before .before) in
+      said (c .before .before .put-word .ensures) (text-is (told .before .before) (told .enum-told .given .1)) refl refl
 
   same-length : lts.Need-same-length claims given f.Post
   same-length c = laid.same-length (returns c)
 
   returns-2 : lts.Need-returns-2 claims given f.Post
-  returns-2 c = said (c .before .before .put-word2 .ensures) (text-is (after-enum-told2 c .before .before) (after-enum-told2 c .enum-told2 .given .1)) refl refl
+  returns-2 c =
+      let told = told-false (c .before .before .before) in
+      said (c .before .before .put-word2 .ensures) (text-is (told .before .before) (told .enum-told2 .given .1)) refl refl
 
   same-length-2 : lts.Need-same-length-2 claims given f.Post
   same-length-2 c = laid.same-length (returns-2 c)
 
   returns-3 : lts.Need-returns-3 claims given f.Post
-  returns-3 c = said (c .before .before .put-number .ensures) (text-is (after-row (c .before .before .before) .before .before) (after-row (c .before .before .before) .row .given .1)) refl refl
+  returns-3 c =
+      let told = told-proposition (c .before .before .before) in
+      said (c .before .before .put-number .ensures) (text-is (told .before .before) (told .row .given .1)) refl refl
 
   same-length-3 : lts.Need-same-length-3 claims given f.Post
   same-length-3 c = laid.same-length (returns-3 c)
 
   returns-4 : lts.Need-returns-4 claims given f.Post
-  returns-4 c = said (c .before .before .put-number2 .ensures) (text-is (after-row2 (c .before .before .before) .before .before) (after-row2 (c .before .before .before) .row2 .given .1)) refl refl
+  returns-4 c =
+      let told = told-negation (c .before .before .before) in
+      said (c .before .before .put-number2 .ensures) (text-is (told .before .before) (told .row2 .given .1)) refl refl
 
   same-length-4 : lts.Need-same-length-4 claims given f.Post
   same-length-4 c = laid.same-length (returns-4 c)
 
   returns-5 : lts.Need-returns-5 claims given f.Post
   returns-5 c =
-      let c5 = c .before .before in
-      let c4 = after-put-row2 c5 in
-      let c3 = c4 .before .before .before .before in
-      let c2 = after-put-row c3 in
-      let c1 = c2 .before .before .before .before in
-      let r = c1 .before .before .before .before in
-      said (c1 .put-word3 .ensures then c2 .put-row .ensures then c3 .put-word4 .ensures then c4 .put-row2 .ensures then c5 .put-word5 .ensures) (text-is (r .before .before) (r .row3 .given .1)) refl refl
+      let closed = c .before .before in
+      let right = and-right (closed .before) in
+      let signed = and-signed (right .before) in
+      let left = and-left (signed .before) in
+      let opened = and-opened (left .before) in
+      let told = told-and (opened .before) in
+      said (opened .put-word3 .ensures then left .put-row .ensures then signed .put-word4 .ensures then right .put-row2 .ensures then closed .put-word5 .ensures) (text-is (told .before .before) (told .row3 .given .1)) refl refl
 
   same-length-5 : lts.Need-same-length-5 claims given f.Post
   same-length-5 c = laid.same-length (returns-5 c)
 
   returns-6 : lts.Need-returns-6 claims given f.Post
   returns-6 c =
-      let c5 = c .before .before in
-      let c4 = after-put-row4 c5 in
-      let c3 = c4 .before .before .before .before in
-      let c2 = after-put-row3 c3 in
-      let c1 = c2 .before .before .before .before in
-      let r = c1 .before .before .before .before in
-      said (c1 .put-word6 .ensures then c2 .put-row3 .ensures then c3 .put-word7 .ensures then c4 .put-row4 .ensures then c5 .put-word8 .ensures) (text-is (r .before .before) (r .row4 .given .1)) refl refl
+      let closed = c .before .before in
+      let right = or-right (closed .before) in
+      let signed = or-signed (right .before) in
+      let left = or-left (signed .before) in
+      let opened = or-opened (left .before) in
+      let told = told-or (opened .before) in
+      said (opened .put-word6 .ensures then left .put-row3 .ensures then signed .put-word7 .ensures then right .put-row4 .ensures then closed .put-word8 .ensures) (text-is (told .before .before) (told .row4 .given .1)) refl refl
 
   same-length-6 : lts.Need-same-length-6 claims given f.Post
   same-length-6 c = laid.same-length (returns-6 c)
 
   returns-7 : lts.Need-returns-7 claims given f.Post
   returns-7 c =
-      let c2 = c .before .before in
-      let c1 = c2 .before .before .before .before in
-      let r = c1 .before .before .before in
-      said (c1 .put-next .ensures then c2 .put-row5 .ensures) (text-is (r .before .before) (r .row5 .given .1)) refl refl
+      let ended = c .before .before in
+      let signed = next-signed (ended .before) in
+      let told = told-next (signed .before) in
+      said (signed .put-next .ensures then ended .put-row5 .ensures) (text-is (told .before .before) (told .row5 .given .1)) refl refl
 
   same-length-7 : lts.Need-same-length-7 claims given f.Post
   same-length-7 c = laid.same-length (returns-7 c)
 
   returns-8 : lts.Need-returns-8 claims given f.Post
   returns-8 c =
-      let c6 = c .before .before in
-      let c5 = after-put-row7 c6 in
-      let c4 = c5 .before .before .before .before in
-      let c3 = after-put-row6 c4 in
-      let c2 = c3 .before .before .before .before in
-      let c1 = after-put-quantifier (c2 .before) in
-      let r = c1 .before .before .before in
-      said (c1 .put-quantifier .ensures then c2 .put-word9 .ensures then c3 .put-row6 .ensures then c4 .put-bounded .ensures then c5 .put-row7 .ensures then c6 .put-word10 .ensures) (text-is (r .before .before) (r .row6 .given .1)) refl refl
+      let closed = c .before .before in
+      let right = until-right (closed .before) in
+      let signed = until-signed (right .before) in
+      let left = until-left (signed .before) in
+      let opened = until-opened (left .before) in
+      let quantified = until-quantified (opened .before) in
+      let told = told-until (quantified .before) in
+      said (quantified .put-quantifier .ensures then opened .put-word9 .ensures then left .put-row6 .ensures then signed .put-bounded .ensures then right .put-row7 .ensures then closed .put-word10 .ensures) (text-is (told .before .before) (told .row6 .given .1)) refl refl
 
   same-length-8 : lts.Need-same-length-8 claims given f.Post
   same-length-8 c = laid.same-length (returns-8 c)

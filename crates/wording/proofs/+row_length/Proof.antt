@@ -41,33 +41,48 @@ module _ (t : ℕ) where
   abbrev claims : lts.Claims
   claims = (row.Asked, row.Learnt, decimal.Asked, decimal.Learnt, action.Asked, action.Learnt, bound.Asked, bound.Learnt, below, f.Post)
 
-  -- the places that the facts below look back to
-  abbrev after-row-at : lts.After-row-length2 claims given f.Post → lts.After-row-at claims given f.Post
-  after-row-at c = c .before .before .before .before .before
+  -- the start, seen from where the row was read; and where the row was told which it is, seen from where its first length is known
+  abbrev begun : lts.After-row-at claims given f.Post → lts.Start claims given f.Post
+  begun c = c .before .before
+
+  abbrev told-proposition : lts.After-decimal-length claims given f.Post → lts.After-row claims given f.Post
+  told-proposition c = c .before .before
+
+  abbrev told-negation : lts.After-decimal-length2 claims given f.Post → lts.After-row2 claims given f.Post
+  told-negation c = c .before .before
+
+  abbrev told-next : lts.After-action-length claims given f.Post → lts.After-row5 claims given f.Post
+  told-next c = c .before .before
+
+  abbrev told-until : lts.After-bound-length2 claims given f.Post → lts.After-row6 claims given f.Post
+  told-until c = c .before .before
 
   -- what is known once the row has been read
   module _ (c : lts.After-row-at claims given f.Post) where
     abbrev s : List ℕ
-    s = c .before .before .args .s .now
+    s = begun c .args .s .now
 
     abbrev i : ℕ
-    i = c .before .before .args .i
+    i = begun c .args .i
 
     abbrev Long : {x : Row} → c .row-at .result ≡ x → Type 0
     Long {x} e = length (rowText s i) ≡ madeLength x (λ l. length (rowText s l))
 
     long : {x : Row} (e : c .row-at .result ≡ x) → Long e
-    long e = rows.row-long (c .before .before .pre .1 .0) (by (c .row-at .ensures) e)
+    long e = rows.row-long (begun c .pre .1 .0) (by (c .row-at .ensures) e)
 
     -- what a call asks for an operand
     asks : {x : Row} → c .row-at .result ≡ x → (l : ℕ) → l ∈ operands x → (l < t) × (Ready s l × (length (rowText s l) ≤ 2048))
     asks e l inside =
-        let o = rows.operand (c .before .before .pre .1 .0) (by (c .row-at .ensures) e) l inside in
+        let o = rows.operand (begun c .pre .1 .0) (by (c .row-at .ensures) e) l inside in
         (omega arith, (o .ready, omega arith))
 
-  -- the same of EX and AX
+  -- the same of EX and AX, and of EU and AU
   next-long : (c : lts.After-row5 claims given f.Post) → Long (c .before .before) (c .row5 .given .1)
   next-long c = long (c .before .before) (c .row5 .given .1)
+
+  until-long : (c : lts.After-row6 claims given f.Post) → Long (c .before .before) (c .row6 .given .1)
+  until-long c = long (c .before .before) (c .row6 .given .1)
 
   -- `and` and `or` go the same way
   two : (c : lts.At-match-came claims given f.Post)
@@ -104,7 +119,7 @@ module _ (t : ℕ) where
   decimal-length-requires c κs = tt
 
   add-result : lts.Need-add-result claims given f.Post
-  add-result c = omega (arith, long (c .before .before .before .before) (c .before .before .row .given .1))
+  add-result c = omega (arith, long (told-proposition c .before .before) (told-proposition c .row .given .1))
 
   enum-known-row-2 : lts.Need-enum-known-row-2 claims given f.Post
   enum-known-row-2 c = search needs
@@ -113,7 +128,7 @@ module _ (t : ℕ) where
   decimal-length-requires-2 c κs = tt
 
   add-result-2 : lts.Need-add-result-2 claims given f.Post
-  add-result-2 c = omega (arith, long (c .before .before .before .before) (c .before .before .row2 .given .1))
+  add-result-2 c = omega (arith, long (told-negation c .before .before) (told-negation c .row2 .given .1))
 
   enum-known-row-3 : lts.Need-enum-known-row-3 claims given f.Post
   enum-known-row-3 c = search needs
@@ -128,19 +143,19 @@ module _ (t : ℕ) where
   action-length-requires c κs = tt
 
   add-result-3 : lts.Need-add-result-3 claims given f.Post
-  add-result-3 c = omega (arith, next-long (c .before .before))
+  add-result-3 c = omega (arith, next-long (told-next c))
 
   bound-length-requires : lts.Need-bound-length-requires claims given f.Post
   bound-length-requires c κs = tt
 
   add-result-4 : lts.Need-add-result-4 claims given f.Post
-  add-result-4 c = omega (arith, next-long (c .before .before .before))
+  add-result-4 c = omega (arith, next-long (told-next (c .before)))
 
   row-length-requires : lts.Need-row-length-requires claims given f.Post
-  row-length-requires c κs = let r = c .before .before .before in asks (r .before .before) (r .row5 .given .1) _ first
+  row-length-requires c κs = let told = told-next (c .before) in asks (told .before .before) (told .row5 .given .1) _ first
 
   add-result-5 : lts.Need-add-result-5 claims given f.Post
-  add-result-5 c = omega (arith, next-long (c .before .before .before .before))
+  add-result-5 c = omega (arith, next-long (told-next (c .before .before)))
 
   enum-known-row-6 : lts.Need-enum-known-row-6 claims given f.Post
   enum-known-row-6 c = search needs
@@ -149,19 +164,19 @@ module _ (t : ℕ) where
   bound-length-requires-2 c κs = tt
 
   add-result-6 : lts.Need-add-result-6 claims given f.Post
-  add-result-6 c = omega (arith, long (c .before .before .before .before) (c .before .before .row6 .given .1))
+  add-result-6 c = omega (arith, until-long (told-until c))
 
   row-length-requires-2 : lts.Need-row-length-requires-2 claims given f.Post
-  row-length-requires-2 c κs = asks (c .before .before .before .before) (c .before .before .row6 .given .1) _ first
+  row-length-requires-2 c κs = asks (told-until c .before .before) (told-until c .row6 .given .1) _ first
 
   add-result-7 : lts.Need-add-result-7 claims given f.Post
-  add-result-7 c = omega (arith, long (after-row-at c) (c .before .before .before .row6 .given .1))
+  add-result-7 c = omega (arith, until-long (told-until (c .before)))
 
   row-length-requires-3 : lts.Need-row-length-requires-3 claims given f.Post
-  row-length-requires-3 c κs = asks (after-row-at c) (c .before .before .before .row6 .given .1) _ second
+  row-length-requires-3 c κs = let told = told-until (c .before) in asks (told .before .before) (told .row6 .given .1) _ second
 
   add-result-8 : lts.Need-add-result-8 claims given f.Post
-  add-result-8 c = omega (arith, long (after-row-at (c .before)) (c .before .before .before .before .row6 .given .1))
+  add-result-8 c = omega (arith, until-long (told-until (c .before .before)))
 
   row-length-requires-4 : lts.Need-row-length-requires-4 claims given f.Post
   row-length-requires-4 c κs = ⊎-elim (λ e. asks (c .before) e _ first) (λ e. asks (c .before) e _ first) (two c)
@@ -182,16 +197,16 @@ module _ (t : ℕ) where
   returns-2 c = omega (arith, long (c .before .before) (c .enum-told2 .given .1))
 
   returns-3 : lts.Need-returns-3 claims given f.Post
-  returns-3 c = omega (arith, long (c .before .before .before .before) (c .before .before .row .given .1))
+  returns-3 c = omega (arith, long (told-proposition c .before .before) (told-proposition c .row .given .1))
 
   returns-4 : lts.Need-returns-4 claims given f.Post
-  returns-4 c = omega (arith, long (c .before .before .before .before) (c .before .before .row2 .given .1))
+  returns-4 c = omega (arith, long (told-negation c .before .before) (told-negation c .row2 .given .1))
 
   returns-5 : lts.Need-returns-5 claims given f.Post
-  returns-5 c = omega (arith, next-long (c .before .before .before .before))
+  returns-5 c = omega (arith, next-long (told-next (c .before .before)))
 
   returns-6 : lts.Need-returns-6 claims given f.Post
-  returns-6 c = omega (arith, long (after-row-at (c .before)) (c .before .before .before .before .row6 .given .1))
+  returns-6 c = omega (arith, until-long (told-until (c .before .before)))
 
   returns-7 : lts.Need-returns-7 claims given f.Post
   returns-7 c = omega (arith, sum (c .before .before))

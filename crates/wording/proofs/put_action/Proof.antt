@@ -9,9 +9,9 @@ use Rattle.wire.proofs.Laid.{nothing, said}
 use Rattle.wording.proofs.put_action.Statement.{statement}
 use Rattle.wording.proofs.put_action.Tie as tie
 
--- the places that the facts below look back to
-abbrev after-action : tie.After-slice-known2 → tie.After-action
-after-action c = c .before .before .before .before .before .before
+-- where the action was told, seen from where its number is about to be put
+abbrev told : tie.After-put-number-arg2 → tie.After-action
+told c = c .before .before .before
 
 enum-known-action : tie.Need-enum-known-action
 enum-known-action c = search needs
@@ -21,7 +21,7 @@ slice-aggregate-put-number c = search needs
 
 put-number-requires : tie.Need-put-number-requires
 put-number-requires c κs =
-    let action = c .before .before .before .action in
+    let action = told c .action in
     omega (arith, ap (λ (k : Action). length (actionText k)) (action .given .1))
 
 enum-told : tie.Need-enum-told
@@ -31,7 +31,7 @@ same-length : tie.Need-same-length
 same-length c = search needs
 
 returns : tie.Need-returns
-returns c = said (c .before .before .put-number .ensures) (ap actionText (after-action c .action .given .1)) refl refl
+returns c = said (c .before .before .put-number .ensures) (ap actionText (told (c .before .before .before) .action .given .1)) refl refl
 
 returns-2 : tie.Need-returns-2
 returns-2 c = said (nothing _ _ (omega arith)) (ap actionText (c .enum-told .given .1)) refl refl

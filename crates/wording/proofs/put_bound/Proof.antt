@@ -9,9 +9,9 @@ use Rattle.wire.proofs.Laid.{nothing, said}
 use Rattle.wording.proofs.put_bound.Statement.{statement}
 use Rattle.wording.proofs.put_bound.Tie as tie
 
--- the places that the facts below look back to
-abbrev after-bound : tie.After-slice-known2 → tie.After-bound
-after-bound c = c .before .before .before .before .before .before
+-- where the bound was told, seen from where its number is about to be put
+abbrev told : tie.After-put-number-arg2 → tie.After-bound
+told c = c .before .before .before
 
 enum-known-bound : tie.Need-enum-known-bound
 enum-known-bound c = search needs
@@ -21,7 +21,7 @@ slice-aggregate-put-number c = search needs
 
 put-number-requires : tie.Need-put-number-requires
 put-number-requires c κs =
-    let bound = c .before .before .before .bound in
+    let bound = told c .bound in
     omega (arith, ap (λ (b : Bound). length (boundText b)) (bound .given .1))
 
 enum-told : tie.Need-enum-told
@@ -31,7 +31,7 @@ same-length : tie.Need-same-length
 same-length c = search needs
 
 returns : tie.Need-returns
-returns c = said (c .before .before .put-number .ensures) (ap boundText (after-bound c .bound .given .1)) refl refl
+returns c = said (c .before .before .put-number .ensures) (ap boundText (told (c .before .before .before) .bound .given .1)) refl refl
 
 returns-2 : tie.Need-returns-2
 returns-2 c = said (nothing _ _ (omega arith)) (ap boundText (c .enum-told .given .1)) refl refl

@@ -4,9 +4,12 @@ use Rattle.wire.proofs.Laid.{_then_}
 use Rattle.wording.proofs.put_bounded.Statement.{statement}
 use Rattle.wording.proofs.put_bounded.Tie as tie
 
--- the places that the facts below look back to
-abbrev after-put-bound : tie.After-slice-known4 → tie.After-put-bound
-after-put-bound c = c .before .before .before .before .before .before .before
+-- where the sign was written, and where the bound was, each seen from where the next piece was
+abbrev signed : tie.After-put-bound → tie.After-put-word
+signed c = c .before .before .before .before
+
+abbrev bounded : tie.After-put-word2 → tie.After-put-bound
+bounded c = c .before .before .before .before .before
 
 put-word-requires : tie.Need-put-word-requires
 put-word-requires c κs = search needs
@@ -25,9 +28,9 @@ same-length c = search needs
 
 returns : tie.Need-returns
 returns c =
-    let sign = after-put-bound c .before .before .before .before .put-word .ensures in
-    let bound = after-put-bound c .put-bound .ensures in
-    sign then bound then c .before .before .put-word2 .ensures
+    let spaced = c .before .before in
+    let bound = bounded spaced in
+    signed bound .put-word .ensures then bound .put-bound .ensures then spaced .put-word2 .ensures
 
 pub put-bounded-spec : {M : Type 1} → statement M
 put-bounded-spec =

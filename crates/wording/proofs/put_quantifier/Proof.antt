@@ -6,12 +6,12 @@ use Rattle.wire.proofs.Laid.{said}
 use Rattle.wording.proofs.put_quantifier.Statement.{statement}
 use Rattle.wording.proofs.put_quantifier.Tie as tie
 
--- the places that the facts below look back to
-abbrev after-enum-told2 : tie.After-slice-known3 → tie.After-enum-told2
-after-enum-told2 c = c .before .before .before .before .before
+-- where it was told which quantifier it is, seen from where its letter was written
+abbrev told-some : tie.After-put-word → tie.After-enum-told
+told-some c = c .before .before .before
 
-abbrev after-enum-told : tie.After-slice-known2 → tie.After-enum-told
-after-enum-told c = c .before .before .before .before .before
+abbrev told-every : tie.After-put-word2 → tie.After-enum-told2
+told-every c = c .before .before .before
 
 enum-told : tie.Need-enum-told
 enum-told c = search needs
@@ -35,13 +35,13 @@ same-length : tie.Need-same-length
 same-length c = search needs
 
 returns : tie.Need-returns
-returns c = said (c .before .before .put-word .ensures) (ap quantifierText (after-enum-told c .enum-told .given .1)) refl refl
+returns c = said (c .before .before .put-word .ensures) (ap quantifierText (told-some (c .before .before) .enum-told .given .1)) refl refl
 
 same-length-2 : tie.Need-same-length-2
 same-length-2 c = search needs
 
 returns-2 : tie.Need-returns-2
-returns-2 c = said (c .before .before .put-word2 .ensures) (ap quantifierText (after-enum-told2 c .enum-told2 .given .1)) refl refl
+returns-2 c = said (c .before .before .put-word2 .ensures) (ap quantifierText (told-every (c .before .before) .enum-told2 .given .1)) refl refl
 
 pub put-quantifier-spec : {M : Type 1} → statement M
 put-quantifier-spec =

@@ -23,9 +23,12 @@ Inv-loop room₀ at m n p t r l k next₀ a₀ room next a = RowLeft m n p t r (
 abbrev μ-loop : tie.MeasureT-loop
 μ-loop room₀ at m n p t r l k next₀ a₀ room next a = n - a
 
--- the places that the facts below look back to
+-- the places that the facts below look back to: the start, seen from the loop; and the loop, seen from where the first hyperedge was put
 abbrev start : tie.In-loop Inv-loop μ-loop → tie.Start Inv-loop μ-loop
 start c = c .before .before .before .before
+
+abbrev entered : tie.After-put-single Inv-loop μ-loop → tie.In-loop Inv-loop μ-loop
+entered c = c .before .before
 
 loop-holds : tie.Need-loop-holds Inv-loop μ-loop
 loop-holds c = let s = c .before .before in row-begun _ _ (s .args .p) (s .args .t) (s .args .r) (Or (s .args .l) (s .args .k)) _ _ (s .pre .1)
@@ -65,15 +68,15 @@ put-single-requires c κs =
     first-fits _ _ ((to 0 (l .a + a .n * a .k) ∷ []) ∷ []) (l .next) singleWidth (single-length _ _) (both turn)
 
 mul-put-single-2 : tie.Need-mul-put-single-2 Inv-loop μ-loop
-mul-put-single-2 c = omega (arith, right (c .before .before .before .before .before))
+mul-put-single-2 c = omega (arith, right (entered (c .before .before .before)))
 
 add-put-single-2 : tie.Need-add-put-single-2 Inv-loop μ-loop
-add-put-single-2 c = omega (arith, right (c .before .before .before .before .before))
+add-put-single-2 c = omega (arith, right (entered (c .before .before .before)))
 
 put-single-requires-2 : tie.Need-put-single-requires-2 Inv-loop μ-loop
 put-single-requires-2 c κs =
     let put = c .before .before .before in
-    let all = both (put .before .before) in
+    let all = both (entered put) in
     first-fits _ _ [] (put .put-single .result) singleWidth (single-length _ _) (fits (put .put-single .ensures) _ (rw hypers-more at all))
 
 add-a : tie.Need-add-a Inv-loop μ-loop
@@ -87,7 +90,7 @@ unfolding heldModel
 loop-again c =
     let other = c .before .before in
     let one = other .before .before .before .before in
-    let turn = one .before .before in
+    let turn = entered one in
     span-then (turn .before .loop .inv) (turn .loop-test .taken) refl
     (more-laid writeHyper _ (one .put-single .ensures) _ (single-laid writeHyper _ (other .put-single2 .ensures)))
 

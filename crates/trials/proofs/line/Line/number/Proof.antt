@@ -5,6 +5,13 @@ use Rattle.trials.proofs.Gathering.{more-field}
 use Rattle.trials.proofs.line.Line.number.Statement.{statement}
 use Rattle.trials.proofs.line.Line.number.Tie as tie
 
+-- the call, from where the digits were made; and that place, from where they are written
+abbrev start : tie.After-decimal → tie.Start
+start c = c .before .before
+
+abbrev spelled : tie.After-text → tie.After-decimal
+spelled c = c .before .before .before
+
 decimal-requires : tie.Need-decimal-requires
 decimal-requires c κs = search needs
 
@@ -24,9 +31,9 @@ returns : tie.Need-returns
 returns c =
     record {
       sound = c .text .ensures .0;
-      places = c .before .before .before .decimal .result;
-      fewest = c .before .before .before .decimal .ensures .1 .0;
-      text = more-field (textOf (c .before .before .before .before .before .args .self)) _ (c .before .before .byte .ensures .1) (c .text .ensures .1) (c .before .before .before .decimal .ensures .1 .1);
+      places = spelled c .decimal .result;
+      fewest = spelled c .decimal .ensures .1 .0;
+      text = more-field (textOf (start (spelled c) .args .self)) _ (c .before .before .byte .ensures .1) (c .text .ensures .1) (spelled c .decimal .ensures .1 .1);
     }
 
 pub number-spec : {M : Type 1} → statement M

@@ -8,6 +8,13 @@ use Rattle.trials.proofs.Gathering.{more-field, eight}
 use Rattle.trials.proofs.line.Line.sum.Statement.{statement}
 use Rattle.trials.proofs.line.Line.sum.Tie as tie
 
+-- the call, from where the digits were made; and that place, from where they are written
+abbrev start : tie.After-hex → tie.Start
+start c = c .before .before
+
+abbrev spelled : tie.After-text → tie.After-hex
+spelled c = c .before .before .before
+
 hex-requires : tie.Need-hex-requires
 hex-requires c κs = search needs
 
@@ -25,11 +32,12 @@ text-requires c κs = search needs
 
 returns : tie.Need-returns
 returns c =
-    let hex = c .before .before .before .hex in
-    let n = c .before .before .before .before .before .args .n in (
+    let hex = spelled c .hex in
+    let a = start (spelled c) in
+    let n = a .args .n in (
       c .text .ensures .0,
-      more-field (textOf (c .before .before .before .before .before .args .self)) _ (c .before .before .byte .ensures .1) (c .text .ensures .1)
-          (hex .ensures .1 .1 ∙ ap (λ (k : ℕ). digits 16 k n) (eight n (hex .result) (c .before .before .before .before .before .fits .n .fits) (hex .ensures .1 .0))),
+      more-field (textOf (a .args .self)) _ (c .before .before .byte .ensures .1) (c .text .ensures .1)
+          (hex .ensures .1 .1 ∙ ap (λ (k : ℕ). digits 16 k n) (eight n (hex .result) (a .fits .n .fits) (hex .ensures .1 .0))),
     )
 
 pub sum-spec : {M : Type 1} → statement M

@@ -16,6 +16,13 @@ Inv-loop s line₀ i₀ line i = (i ≤ length s) × Sound line × (textOf line 
 abbrev μ-loop : tie.MeasureT-loop
 μ-loop s line₀ i₀ line i = length s - i
 
+-- the call, from the loop's turn; and the turn, from where its byte was added
+abbrev start : tie.At-loop Inv-loop μ-loop → tie.Start Inv-loop μ-loop
+start c = c .before .before
+
+abbrev turn : tie.After-byte Inv-loop μ-loop → tie.At-loop Inv-loop μ-loop
+turn c = c .before .before .before
+
 loop-holds : tie.Need-loop-holds Inv-loop μ-loop
 loop-holds c = (omega arith, c .before .pre, more-none (textOf (c .before .args .self)) (short (c .before .pre)))
 
@@ -33,9 +40,9 @@ loop-less c = omega arith
 
 loop-again : tie.Need-loop-again Inv-loop μ-loop
 loop-again c =
-    let at = c .before .before .before .loop in
-    let s = c .before .before .before .before .before .args .s .now in
-    let line₀ = c .before .before .before .before .before .args .self in (
+    let at = turn c .loop in
+    let s = start (turn c) .args .s .now in
+    let line₀ = start (turn c) .args .self in (
       omega arith,
       c .byte .ensures .0,
       c .byte .ensures .1 ∙ ap (λ (t : List ℕ). more t (getD s (at .i) 0 ∷ [])) (at .inv .2) ∙ more-next (textOf line₀) s (at .i) (omega arith),
@@ -43,7 +50,7 @@ loop-again c =
 
 returns : tie.Need-returns Inv-loop μ-loop
 returns c =
-    (c .before .loop .inv .1, c .before .loop .inv .2 ∙ ap (more (textOf (c .before .before .before .args .self))) (take-all (c .before .loop .i) (c .before .before .before .args .s .now) (omega arith)))
+    (c .before .loop .inv .1, c .before .loop .inv .2 ∙ ap (more (textOf (start (c .before) .args .self))) (take-all (c .before .loop .i) (start (c .before) .args .s .now) (omega arith)))
 
 pub text-spec : {M : Type 1} → statement M
 text-spec =
