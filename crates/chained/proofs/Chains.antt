@@ -2,8 +2,8 @@
 use Prim.Native.Nat.{ℕ, suc, _+_, _<_, _≤_}
 use mathlib.Core.List.{List, [], _∷_, List·Memᴰ·head, List·Memᴰ·tail, List·Memᴰ·not-nil, List·Memᴰ·cases-cons}
 use mathlib.Core.Logic.{_⊎_, inl, inr}
-use mathlib.Core.Path.{_≡_, refl, sym, ap, subst, _∙_}
-use lib.ListN.{getD}
+use mathlib.Core.Path.{_≡_, refl, sym, ap, subst}
+use lib.ListN.{length, getD, replicate, length-replicate}
 use native.Mathlib.Decide.{ℕ-discrete}
 use native.Mathlib.Omega.{arith}
 use Rattle.lists.specs.Lists.{_∈_}
@@ -17,13 +17,20 @@ use Rattle.rules.proofs.Order.{rounds-fall}
 use Rattle.rules.proofs.Skip.{Part, IdleHyper, IdleCover, stayed-hyper, stayed-cover}
 use Rattle.graph.specs.Format.{graphHeader}
 use Rattle.graph.specs.Layouts.{hyperLayout, coverLayout, decoded}
-use Rattle.links.specs.Links.{Finds, Reached, hyperAt, coverAt, Index}
+use Rattle.links.specs.Links.{Fits, Finds, Reached, hyperAt, coverAt, Linked, Index}
 use Rattle.changes.specs.Listed.{Fallen, Listed}
 use Rattle.chains.specs.Taken.{Has, TakenAll}
-use Rattle.links.proofs.Linking.{hyper-far}
+use Rattle.links.proofs.Linking.{linked-none, hyper-far}
 use Rattle.graph.specs.Ready.{Ready}
 use Rattle.turns.specs.Turns.{AtRound}
 use Rattle.turns.proofs.Loop.{same-stays}
+
+-- lists of zeros are what the rounds ask for: nothing is linked in them
+pub in-zeros : {A B C : Type 0} {s : List ℕ} {n h c middle : ℕ} (most : ℕ) → most ≤ 65535 → A × (B × (Fits n h c middle most × C))
+    → A × (B × (Fits n h c middle most × (Linked s n middle 0 [] 0 0 (replicate most 0) (replicate most 0) (replicate most 0) (replicate most 0) × (((length (replicate {A = ℕ} most 0) ≡ most) × (most + most ≤ length (replicate {A = ℕ} (most + most) 0))) × C))))
+in-zeros most short (a, (b, (fits, c))) =
+    let twice = length-replicate {A = ℕ} (most + most) 0 in
+    (a, (b, (fits, (linked-none _ _ _ most (fits .nodes) short, ((length-replicate most 0, omega arith), c)))))
 
 -- no number of the next round is above that of this one
 pub round-fallen : (g : Graph) → Closed g → {budget i : ℕ} {b₀ b : List ℕ} → AtRound g budget i b₀ b → Fallen (g .nodes) b
@@ -47,8 +54,8 @@ targets-stay n b (u ∷ ts) = go (ℕ-discrete (getD b (u .node) 0) (getD b (n +
         each t (inr m) = all t m
 
 -- a turn has at hand: the graph is ready, its places are linked, the changed nodes are listed, and their records are taken in
-module _ {s : List ℕ} {n h c middle from many : ℕ} {changed heads links spots b b₁ b₂ : List ℕ} (ready : Ready s n h c) (behind : middle ≡ end (hyperLayout s n) h graphHeader)
-    (index : Index s n h c middle heads links spots) (listed : Listed n n from many b changed) (all : TakenAll s n h c middle from many changed heads links spots b₁ b₂)
+module _ {s : List ℕ} {n h c middle from many : ℕ} {changed heads links spots sources b b₁ b₂ : List ℕ} (ready : Ready s n h c) (behind : middle ≡ end (hyperLayout s n) h graphHeader)
+    (index : Index s n h c middle heads links spots sources) (listed : Listed n n from many b changed) (all : TakenAll s n h c middle from many changed heads links spots b₁ b₂)
     {budget i : ℕ} {b₀ : List ℕ} (w : AtRound (decoded s n h c) budget i b₀ b) where
   -- the part has every record that has a changed node as a target
   has-changed : (v : ℕ) → v < n → ¬ (getD b v 0 ≡ getD b (n + v) 0) → (at : ℕ) → Finds heads links spots v at → Has s n middle (all .part) at

@@ -24,20 +24,21 @@ fn run_in(
     heads: &mut [u16],
     links: &mut [u16],
     spots: &mut [u16],
+    sources: &mut [u16],
     changed: &mut [u16],
     room: &mut [u64],
 ) -> Outcome
     requires { ⌜ Ready (now s) n h c ⌝ }
     requires { ⌜ middle ≡ end (hyperLayout (now s) n) h graphHeader ⌝ }
     requires { ⌜ Fits n h c middle most ⌝ }
-    requires { ⌜ Linked (now s) n middle 0 [] 0 0 (now heads) (now links) (now spots) ⌝ }
+    requires { ⌜ Linked (now s) n middle 0 [] 0 0 (now heads) (now links) (now spots) (now sources) ⌝ }
     requires { ⌜ (length (now links) ≡ most) × (most + most ≤ length (now changed)) ⌝ }
     requires { ⌜ n + n ≤ length (now room) ⌝ }
     requires { ⌜ AtRound (decoded (now s) n h c) budget 1 (now room) (now room) ⌝ }
     ensures { λ r. ⌜ r ≡ ended (decoded (now (s .entry)) n h c) budget ⌝ }
     ensures { λ r. ⌜ now (room .exit) ≡ filled (decoded (now (s .entry)) n h c) (outcomeCount r) (now (room .entry)) ⌝ }
 {
-    links::link_all(s, n, h, c, middle, heads, links, spots);
+    links::link_all(s, n, h, c, middle, heads, links, spots, sources);
     let mut round: u32 = 1;
     let mut from: usize = 0;
     let mut many = changes::list_changed(n, changed, room);
@@ -59,6 +60,7 @@ fn run_in(
             heads,
             links,
             spots,
+            sources,
             from,
             many,
             to,
@@ -70,7 +72,7 @@ fn run_in(
     }
 }
 
-// The same in short lists: on a graph of some tens of nodes clearing long ones takes up to a tenth of the call.
+// The same in short lists, which take less time to clear.
 fn run_small(
     s: &[u8],
     n: usize,
@@ -91,6 +93,7 @@ fn run_small(
     let mut heads = [0u16; 1024];
     let mut links = [0u16; 1024];
     let mut spots = [0u16; 1024];
+    let mut sources = [0u16; 1024];
     let mut changed = [0u16; 2048];
     run_in(
         s,
@@ -103,6 +106,47 @@ fn run_small(
         &mut heads,
         &mut links,
         &mut spots,
+        &mut sources,
+        &mut changed,
+        room,
+    )
+}
+
+// The same in the shortest: on a graph of some tens of nodes clearing longer ones takes up to a tenth of the call.
+fn run_tiny(
+    s: &[u8],
+    n: usize,
+    h: u32,
+    c: u32,
+    middle: usize,
+    budget: u32,
+    room: &mut [u64],
+) -> Outcome
+    requires { ⌜ Ready (now s) n h c ⌝ }
+    requires { ⌜ middle ≡ end (hyperLayout (now s) n) h graphHeader ⌝ }
+    requires { ⌜ Fits n h c middle 256 ⌝ }
+    requires { ⌜ n + n ≤ length (now room) ⌝ }
+    requires { ⌜ AtRound (decoded (now s) n h c) budget 1 (now room) (now room) ⌝ }
+    ensures { λ r. ⌜ r ≡ ended (decoded (now (s .entry)) n h c) budget ⌝ }
+    ensures { λ r. ⌜ now (room .exit) ≡ filled (decoded (now (s .entry)) n h c) (outcomeCount r) (now (room .entry)) ⌝ }
+{
+    let mut heads = [0u16; 256];
+    let mut links = [0u16; 256];
+    let mut spots = [0u16; 256];
+    let mut sources = [0u16; 256];
+    let mut changed = [0u16; 512];
+    run_in(
+        s,
+        n,
+        h,
+        c,
+        middle,
+        budget,
+        256,
+        &mut heads,
+        &mut links,
+        &mut spots,
+        &mut sources,
         &mut changed,
         room,
     )
@@ -127,12 +171,16 @@ pub fn run_linked(
     ensures { λ r. ⌜ r ≡ ended (decoded (now (s .entry)) n h c) budget ⌝ }
     ensures { λ r. ⌜ now (room .exit) ≡ filled (decoded (now (s .entry)) n h c) (outcomeCount r) (now (room .entry)) ⌝ }
 {
+    if links::fit(n, h, c, middle, 256) {
+        return run_tiny(s, n, h, c, middle, budget, room);
+    }
     if links::fit(n, h, c, middle, 1024) {
         return run_small(s, n, h, c, middle, budget, room);
     }
     let mut heads = [0u16; 4096];
     let mut links = [0u16; 4096];
     let mut spots = [0u16; 4096];
+    let mut sources = [0u16; 4096];
     let mut changed = [0u16; 8192];
     run_in(
         s,
@@ -145,6 +193,7 @@ pub fn run_linked(
         &mut heads,
         &mut links,
         &mut spots,
+        &mut sources,
         &mut changed,
         room,
     )

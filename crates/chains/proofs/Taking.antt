@@ -3,33 +3,32 @@ use Prim.Native.Nat.{ℕ, _+_, _<_, _≤_, min}
 use mathlib.Core.List.{List, [], _∷_, List·Memᴰ·head, List·Memᴰ·tail, List·Memᴰ·not-nil, List·Memᴰ·cases-cons}
 use mathlib.Core.Bool.{Bool, true, false, cond, _||_, _&&_}
 use mathlib.Core.Logic.{_⊎_, inl, inr}
-use mathlib.Core.Path.{_≡_, refl, sym, ap, subst, _∙_}
+use mathlib.Core.Path.{_≡_, refl, sym, ap, ap₂, subst, _∙_}
 use lib.ListN.{length, getD, set, length-set}
 use lib.Dec.{eqb}
-use lib.Seq.{getD-set-same, getD-set-other}
-use borrow.Author.Tests.{eq-eqb, ne-eqb}
-use native.Mathlib.Decide.{ℕ-discrete, decLt}
+use lib.Seq.{getD-set-same, getD-set-other, set-getD}
+use borrow.Author.Tests.{eq-eqb, ne-eqb, lt-ltb, le-ltb}
+use native.Mathlib.Decide.{ℕ-discrete}
 use native.Mathlib.Omega.{arith}
 use Rattle.lists.specs.Lists.{_∈_, any}
-use Rattle.value.specs.Value.{Value, fin, least}
+use Rattle.value.specs.Value.{Value, fin, inf, least}
 use Rattle.value.specs.Stored.{stored, infinite}
-use Rattle.value.proofs.Stored.{stored-least}
+use Rattle.value.proofs.Stored.{stored-le, stored-least}
 use Rattle.wire.specs.Bytes.{number}
 use Rattle.wire.specs.Layout.{items}
 use Rattle.wire.proofs.Stride.{end-wide}
 use Rattle.wire.proofs.Parts.{sound-at, items-∈}
 use Rattle.rules.specs.Graph.{Graph, Hyper, Cover}
 use Rattle.rules.specs.Rounds.{Assignment, coverHolds, worst, best, covered, round}
-use Rattle.graph.specs.Format.{graphHeader}
-use Rattle.graph.specs.Layouts.{hyperLayout, coverLayout, HyperOk, CoverOk, Scannable}
+use Rattle.graph.specs.Format.{graphHeader, targetCountAt, hyperWidth}
+use Rattle.graph.specs.Layouts.{targetLayout, hyperLayout, coverLayout, HyperOk, CoverOk, Scannable}
 use Rattle.halves.specs.Held.{held}
 use Rattle.halves.specs.Room.{half}
-use Rattle.halves.proofs.Room.{half-at}
-use Rattle.scans.specs.Scan.{hyperIn, forth, Going, Done}
+use Rattle.scans.specs.Scan.{lowered, forth, Going, Done}
 use Rattle.scans.proofs.Going.{going-set}
 use Rattle.links.specs.Links.{Reached, RecordAt, hyper, cover, hyperAt, coverAt}
 use Rattle.changes.proofs.Listing.{Lowers}
-use Rattle.chains.specs.Taken.{RecordOk, RecordIn, Has, Taken, Further, TakenAll}
+use Rattle.chains.specs.Taken.{RecordOk, givenAt, RecordIn, Has, Taken, Further, TakenAll}
 use Rattle.links.proofs.Linking.{reached-cases, reached-none, hyper-far}
 
 -- a part with one hyperedge more, and with one cover edge more
@@ -39,74 +38,87 @@ withHyper p x = record { nodes = p .nodes; hypers = x ∷ p .hypers; covers = p 
 abbrev withCover : Graph → Cover → Graph
 withCover p x = record { nodes = p .nodes; hypers = p .hypers; covers = x ∷ p .covers }
 
+-- what a record gives, by its kind
+given-hyper : (s : List ℕ) (n middle at : ℕ) (x : List ℕ) → at < middle → givenAt s n middle at x ≡ stored (worst (held x) (hyperLayout s n .item at .targets))
+unfolding givenAt
+given-hyper s n middle at x l = rw (lt-ltb at middle l) refl
+
+pub given-worst : (s : List ℕ) (n middle at : ℕ) (x : List ℕ) {k v : ℕ} → at < middle → k ≡ number 2 s (at + targetCountAt)
+    → v ≡ stored (worst (held x) (items (targetLayout s n) k (at + hyperWidth))) → v ≡ givenAt s n middle at x
+given-worst s n middle at x l count e = (rw count at e) ∙ sym (given-hyper s n middle at x l)
+
+pub given-cover : (s : List ℕ) (n middle at : ℕ) (x : List ℕ) → middle ≤ at → givenAt s n middle at x ≡ cond (coverHolds (held x) (coverLayout s n .item at)) 0 infinite
+unfolding givenAt
+given-cover s n middle at x l = rw (le-ltb at middle l) refl
+
+-- a node's next number, lowered to k where the node is the source
+abbrev lower : (source k : ℕ) → (v a : ℕ) → ℕ
+lower source k v a = cond (eqb source v) (min a k) a
+
+-- what a record gives makes the round of a part without it that of the part with it
 module _ (p : Graph) (y : Assignment) where
-  -- what a hyperedge gives its source, and other nodes
-  hyper-here : (x : Hyper) (v a : ℕ) → x .source ≡ v → min (min a (stored (round p y v))) (stored (worst y (x .targets))) ≡ min a (stored (round (withHyper p x) y v))
+  hyper-gives : (x : Hyper) (v a : ℕ) → lower (x .source) (stored (worst y (x .targets))) v (min a (stored (round p y v))) ≡ min a (stored (round (withHyper p x) y v))
   unfolding round best stored
-  hyper-here x v a e = rw (eq-eqb (x .source) v e) (go (covered y v (p .covers)))
+  hyper-gives x v a = go (eqb (x .source) v) (covered y v (p .covers))
     where
-      go : (t : Bool) → min (min a (stored (cond t (fin 0) (best y v (p .hypers))))) (stored (worst y (x .targets))) ≡ min a (stored (cond t (fin 0) (least (worst y (x .targets)) (best y v (p .hypers)))))
-      go true = omega arith
-      go false = omega (arith, stored-least (worst y (x .targets)) (best y v (p .hypers)))
+      w : Value
+      w = worst y (x .targets)
 
-  hyper-there : (x : Hyper) (v : ℕ) → ¬ (x .source ≡ v) → round p y v ≡ round (withHyper p x) y v
-  unfolding round best
-  hyper-there x v e = rw (ne-eqb (x .source) v e)
+      b : Value
+      b = best y v (p .hypers)
 
-  -- what a cover edge gives
-  cover-gives : (x : Cover) (v a : ℕ) → cond (covered y v (x ∷ [])) 0 (min a (stored (round p y v))) ≡ min a (stored (round (withCover p x) y v))
+      go : (here t : Bool) → cond here (min (min a (stored (cond t (fin 0) b))) (stored w)) (min a (stored (cond t (fin 0) b))) ≡ min a (stored (cond t (fin 0) (least (cond here w inf) b)))
+      go true true = omega arith
+      go true false = omega (arith, stored-least w b)
+      go false t = refl
+
+  cover-gives : (x : Cover) (v a : ℕ) → lower (x .source) (cond (coverHolds y x) 0 infinite) v (min a (stored (round p y v))) ≡ min a (stored (round (withCover p x) y v))
   unfolding round covered any stored
-  cover-gives x v a = go (eqb (x .source) v && coverHolds y x)
+  cover-gives x v a = go (eqb (x .source) v) (coverHolds y x)
     where
-      go : (t : Bool) → cond (t || false) 0 (min a (stored (cond (covered y v (p .covers)) (fin 0) (best y v (p .hypers))))) ≡ min a (stored (cond (t || covered y v (p .covers)) (fin 0) (best y v (p .hypers))))
-      go true = omega arith
-      go false = refl
+      b : Bool → Value
+      b t = cond (t || covered y v (p .covers)) (fin 0) (best y v (p .hypers))
+
+      go : (here holds : Bool) → cond here (min (min a (stored (b false))) (cond holds 0 infinite)) (min a (stored (b false))) ≡ min a (stored (b (here && holds)))
+      go true true = omega arith
+      go true false = omega (arith, stored-le (b false))
+      go false holds = refl
 
 module _ {s : List ℕ} {n h c middle : ℕ} {b₀ b : List ℕ} {p : Graph} (d : Taken s n h c middle b₀ b p) (long : n + n ≤ length b₀) where
-  -- a hyperedge more
-  taken-hyper : (at : ℕ) → HyperOk s n at → hyperLayout s n .item at ∈ items (hyperLayout s n) h graphHeader → {b′ : List ℕ} → b′ ≡ hyperIn s n 0 n at b
-      → Taken s n h c middle b₀ b′ (withHyper p (hyperLayout s n .item at))
-  taken-hyper at ok member {b′} is =
+  -- the room, a record more taken in
+  room-more : (at : ℕ) → number 2 s at < n → (k : ℕ) (q : Graph)
+      → ((v a : ℕ) → lower (number 2 s at) k v (min a (stored (round p (held (half n 0 b₀)) v))) ≡ min a (stored (round q (held (half n 0 b₀)) v)))
+      → Done n 0 n b₀ (lowered s n at k b) (λ v. min (getD b₀ (n + v) 0) (stored (round q (held (half n 0 b₀)) v)))
+  room-more at named k q gives =
       let j = number 2 s at in
-      let w = stored (worst (held (half n 0 b)) (hyperLayout s n .item at .targets)) in
-      let new = min (getD b (n + j) 0) w in
-      let plain : Going n 0 n b₀ b (λ v a. 0) (λ v. 0) = record { same-length = d .room .same-length; this = d .room .this; past = d .room .past; each = λ v l. refl } in
-      let g : Going n 0 n b₀ (set b (n + j) new) (λ v a. 0) (λ v. 0) = going-set plain (forth refl refl) long j new (ok .named) refl (λ v a ne. refl) in
-      record {
-        nodes = d .nodes;
-        room = rw is (record { same-length = g .same-length; this = g .this; past = g .past; each = λ v l. each v l (ℕ-discrete v j) });
-        hyper-of = λ m. of-hyper (List·Memᴰ·cases-cons m);
-        cover-of = d .cover-of;
-      }
-    where
-      each : (v : ℕ) → v < n → Dec (v ≡ number 2 s at)
-          → getD (hyperIn s n 0 n at b) (n + v) 0 ≡ min (getD b₀ (n + v) 0) (stored (round (withHyper p (hyperLayout s n .item at)) (held (half n 0 b₀)) v))
-      each v l (yes e) =
-          let inside : n + number 2 s at < length b = omega (arith, d .room .same-length, ok .named) in
-          rw (e, getD-set-same b (n + number 2 s at) (min (getD b (n + number 2 s at) 0) (stored (worst (held (half n 0 b)) (hyperLayout s n .item at .targets)))) 0 inside, d .room .each (number 2 s at) (ok .named), d .room .this)
-          (hyper-here p (held (half n 0 b₀)) (hyperLayout s n .item at) (number 2 s at) (getD b₀ (n + number 2 s at) 0) refl)
-      each v l (no e) =
-          let apart : ¬ (n + v ≡ n + number 2 s at) = λ q. e (omega arith) in
-          getD-set-other b (n + number 2 s at) (n + v) (min (getD b (n + number 2 s at) 0) (stored (worst (held (half n 0 b)) (hyperLayout s n .item at .targets)))) 0 apart
-          ∙ d .room .each v l ∙ ap (λ (a : Value). min (getD b₀ (n + v) 0) (stored a)) (hyper-there p (held (half n 0 b₀)) (hyperLayout s n .item at) v (λ q. e (sym q)))
+      let before : Going n 0 n b₀ b (lower j k) (λ v. min (getD b₀ (n + v) 0) (stored (round q (held (half n 0 b₀)) v))) = record {
+        same-length = d .room .same-length;
+        this = d .room .this;
+        past = d .room .past;
+        each = λ v l. ap (lower j k v) (d .room .each v l) ∙ gives v (getD b₀ (n + v) 0);
+      } in
+      going-set before (forth refl refl) long j (min (getD b (n + j) 0) k) named (rw (eq-eqb j j refl) refl) (λ v a ne. rw (ne-eqb j v (λ e. ne (sym e))) refl)
 
+  -- a hyperedge more
+  taken-hyper : (at : ℕ) → at < middle → HyperOk s n at → hyperLayout s n .item at ∈ items (hyperLayout s n) h graphHeader → {b′ : List ℕ} → RecordIn s n middle at b b′
+      → Taken s n h c middle b₀ b′ (withHyper p (hyperLayout s n .item at))
+  taken-hyper at before ok member {b′} is = record {
+    nodes = d .nodes;
+    room = rw (is, given-hyper s n middle at (half n 0 b) before, d .room .this) (room-more at (ok .named) _ _ (hyper-gives p (held (half n 0 b₀)) (hyperLayout s n .item at)));
+    hyper-of = λ m. of-hyper (List·Memᴰ·cases-cons m);
+    cover-of = d .cover-of;
+  }
+    where
       of-hyper : {x : Hyper} → (x ≡ hyperLayout s n .item at) ⊎ (x ∈ p .hypers) → x ∈ items (hyperLayout s n) h graphHeader
       of-hyper (inl e) = subst (λ (y : Hyper). y ∈ items (hyperLayout s n) h graphHeader) (sym e) member
       of-hyper (inr m) = d .hyper-of m
 
   -- a cover edge more
-  taken-cover : (at : ℕ) → CoverOk s n at → coverLayout s n .item at ∈ items (coverLayout s n) c middle
-      → {b′ : List ℕ} → Done n 0 n b b′ (λ v. cond (covered (held (half n 0 b)) v (items (coverLayout s n) 1 at)) 0 (getD b (n + v) 0))
+  taken-cover : (at : ℕ) → middle ≤ at → CoverOk s n at → coverLayout s n .item at ∈ items (coverLayout s n) c middle → {b′ : List ℕ} → RecordIn s n middle at b b′
       → Taken s n h c middle b₀ b′ (withCover p (coverLayout s n .item at))
-  unfolding items
-  taken-cover at ok member {b′} g = record {
+  taken-cover at behind ok member {b′} is = record {
     nodes = d .nodes;
-    room = record {
-      same-length = g .same-length ∙ d .room .same-length;
-      this = g .this ∙ d .room .this;
-      past = g .past ∙ d .room .past;
-      each = λ v l. g .each v l ∙ rw (d .room .each v l, d .room .this) (cover-gives p (held (half n 0 b₀)) (coverLayout s n .item at) v (getD b₀ (n + v) 0));
-    };
+    room = rw (is, given-cover s n middle at (half n 0 b) behind, d .room .this) (room-more at (ok .named) _ _ (cover-gives p (held (half n 0 b₀)) (coverLayout s n .item at)));
     hyper-of = d .hyper-of;
     cover-of = λ m. of-cover (List·Memᴰ·cases-cons m);
   }
@@ -133,10 +145,10 @@ module _ {s : List ℕ} {n h c middle at : ℕ} (sound : Scannable s n h c) (beh
   record-ok (hyper j l e) = record { hyper = λ k. hyper-ok j l e; cover = λ k. absurd (omega (arith, hyper-before j l e)) }
   record-ok (cover j l e) = record { hyper = λ k. absurd (omega (arith, cover-behind j e)); cover = λ k. cover-ok j l e }
 
-  -- its source is a node, and can be read
-  pub record-source : RecordAt s n h c middle at → (at + 2 ≤ length s) × (number 2 s at < n)
-  record-source (hyper j l e) = let ok = hyper-ok j l e in (omega (arith, ok .inside), ok .named)
-  record-source (cover j l e) = let ok = cover-ok j l e in (omega (arith, ok .inside), ok .named)
+  -- its source is a node
+  pub record-source : RecordAt s n h c middle at → number 2 s at < n
+  record-source (hyper j l e) = hyper-ok j l e .named
+  record-source (cover j l e) = cover-ok j l e .named
 
 -- the records of a chain: those up to a place are taken in
 pub record Walking (s : List ℕ) (n h c middle : ℕ) (links spots : List ℕ) (head place : ℕ) (b₀ b : List ℕ) (p : Graph) : Type 0 where
@@ -179,14 +191,14 @@ module _ {s : List ℕ} {n h c middle : ℕ} {links spots : List ℕ} {head plac
       let at = getD spots i 0 in
       let before = hyper-before sound behind j l z in
       let member : hyperLayout s n .item at ∈ items (hyperLayout s n) h graphHeader = rw z (items-∈ (hyperLayout s n) h graphHeader j l) in
-      walking-with i e (taken-hyper (d .taken) long at (hyper-ok sound behind j l z) member (took .hyper before))
+      walking-with i e (taken-hyper (d .taken) long at before (hyper-ok sound behind j l z) member took)
       (λ k m. record { hyper = λ q. List·Memᴰ·tail (m .hyper q); cover = m .cover })
       (record { hyper = λ q. List·Memᴰ·head refl; cover = λ q. absurd (omega arith) })
   walking-more sound behind long i e (cover j l z) {b′} took =
       let at = getD spots i 0 in
       let after = cover-behind sound behind j z in
       let member : coverLayout s n .item at ∈ items (coverLayout s n) c middle = rw z (items-∈ (coverLayout s n) c middle j l) in
-      walking-with i e (taken-cover (d .taken) long at (cover-ok sound behind j l z) member (took .cover after))
+      walking-with i e (taken-cover (d .taken) long at after (cover-ok sound behind j l z) member took)
       (λ k m. record { hyper = m .hyper; cover = λ q. List·Memᴰ·tail (m .cover q) })
       (record { hyper = λ q. absurd (omega arith); cover = λ q. List·Memᴰ·head refl })
 
@@ -213,34 +225,27 @@ module _ {s : List ℕ} {n h c middle from : ℕ} {changed heads links spots b�
       go k l q r (yes e) = f .has q (rw e at r)
       go k l q r (no e) = f .keeps _ (d .has k (omega arith) q r)
 
--- what a record does to the numbers of the nodes
-pub record-lowers : {s : List ℕ} {n middle at : ℕ} {b b′ : List ℕ} → RecordOk s n middle at → n + n ≤ length b → RecordIn s n middle at b b′ → Lowers n (number 2 s at) b b′
-unfolding items covered any
-record-lowers {s} {n} {middle} {at} {b} {b′} ok long took = go (decLt at middle)
-  where
-    j : ℕ
-    j = number 2 s at
+-- a record gives its source k: the room stays where the source has no more, and else the source gets it
+module _ (s : List ℕ) (n middle at source k : ℕ) (b : List ℕ) (is : source ≡ number 2 s at) (gives : k ≡ givenAt s n middle at (half n 0 b)) where
+  lowered-is : lowered s n at (givenAt s n middle at (half n 0 b)) b ≡ set b (n + source) (min (getD b (n + source) 0) k)
+  lowered-is = sym (ap₂ (λ (j g : ℕ). set b (n + j) (min (getD b (n + j) 0) g)) is gives)
 
-    hyper-lowers : (k : ℕ) → j < n → b′ ≡ set b (n + j) (min (getD b (n + j) 0) k) → Lowers n j b b′
-    hyper-lowers k named e = rw e (record {
-      same-length = length-set b (n + j) (min (getD b (n + j) 0) k);
-      this = λ v l. let apart : ¬ (v ≡ n + j) = λ q. omega arith in getD-set-other b (n + j) v (min (getD b (n + j) 0) k) 0 apart;
-      others = λ v l ne. let apart : ¬ (n + v ≡ n + j) = λ q. ne (omega arith) in getD-set-other b (n + j) (n + v) (min (getD b (n + j) 0) k) 0 apart;
-      falls = rw (getD-set-same b (n + j) (min (getD b (n + j) 0) k) 0 (omega arith)) (omega arith);
-    })
+  pub record-stays : getD b (n + source) 0 ≤ k → RecordIn s n middle at b b
+  record-stays l = sym (lowered-is ∙ ap (set b (n + source)) (omega arith) ∙ set-getD b (n + source) 0)
 
-    least : (t : Bool) (a : ℕ) → cond t 0 a ≤ a
-    least true a = omega arith
-    least false a = omega arith
+  pub record-falls : k ≤ getD b (n + source) 0 → RecordIn s n middle at b (set b (n + source) k)
+  record-falls l = sym (lowered-is ∙ ap (set b (n + source)) (omega arith))
 
-    go : Dec (at < middle) → Lowers n j b b′
-    go (yes l) = hyper-lowers _ (ok .hyper l .named) (took .hyper l)
-    go (no l) =
-        let g = took .cover (omega arith) in
-        let named : j < n = ok .cover (omega arith) .named in
-        record {
-          same-length = g .same-length;
-          this = λ v h. let z : 0 + v ≡ v = omega arith in rw z at (sym (half-at n 0 b′ v h) ∙ ap (λ (x : List ℕ). getD x v 0) (g .this) ∙ half-at n 0 b v h);
-          others = λ v h ne. g .each v h ∙ rw (ne-eqb j v (λ q. ne (sym q))) refl;
-          falls = rw (g .each j named) (least (covered (held (half n 0 b)) j (items (coverLayout s n) 1 at)) (getD b (n + j) 0));
-        }
+-- so the source's next number falls and changes, and no other does
+pub source-falls : (n source k : ℕ) (b : List ℕ) → n + n ≤ length b → source < n → k < getD b (n + source) 0
+    → Lowers n source b (set b (n + source) k) × ¬ (getD (set b (n + source) k) (n + source) 0 ≡ getD b (n + source) 0)
+source-falls n source k b long named less =
+    let new = getD-set-same b (n + source) k 0 (omega arith) in (
+      record {
+        same-length = length-set b (n + source) k;
+        this = λ v l. let apart : ¬ (v ≡ n + source) = λ q. omega arith in getD-set-other b (n + source) v k 0 apart;
+        others = λ v l ne. let apart : ¬ (n + v ≡ n + source) = λ q. ne (omega arith) in getD-set-other b (n + source) (n + v) k 0 apart;
+        falls = omega arith;
+      },
+      λ q. omega arith,
+    )

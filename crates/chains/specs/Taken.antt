@@ -3,17 +3,18 @@ use Prim.Native.Nat.{ℕ, _+_, _<_, _≤_, min}
 use mathlib.Core.List.{List}
 use mathlib.Core.Bool.{cond}
 use mathlib.Core.Path.{_≡_}
+use lib.Dec.{ltb}
 use lib.ListN.{getD}
 use Rattle.lists.specs.Lists.{_∈_}
-use Rattle.value.specs.Stored.{stored}
+use Rattle.value.specs.Stored.{stored, infinite}
 use Rattle.wire.specs.Layout.{items}
 use Rattle.rules.specs.Graph.{Graph, Hyper, Cover}
-use Rattle.rules.specs.Rounds.{covered, round}
+use Rattle.rules.specs.Rounds.{coverHolds, worst, round}
 use Rattle.graph.specs.Format.{graphHeader}
 use Rattle.graph.specs.Layouts.{hyperLayout, coverLayout, HyperOk, CoverOk}
 use Rattle.halves.specs.Held.{held}
 use Rattle.halves.specs.Room.{half}
-use Rattle.scans.specs.Scan.{hyperIn, Done}
+use Rattle.scans.specs.Scan.{lowered, Done}
 use Rattle.links.specs.Links.{Reached}
 
 -- a sound record at a position: a hyperedge before `middle`, a cover edge from there on
@@ -21,10 +22,14 @@ pub record RecordOk (s : List ℕ) (n middle at : ℕ) : Type 0 where
   pub hyper : at < middle → HyperOk s n at
   pub cover : middle ≤ at → CoverOk s n at
 
--- it was taken into the second half
-pub record RecordIn (s : List ℕ) (n middle at : ℕ) (b₀ b : List ℕ) : Type 0 where
-  pub hyper : at < middle → b ≡ hyperIn s n 0 n at b₀
-  pub cover : middle ≤ at → Done n 0 n b₀ b (λ v. cond (covered (held (half n 0 b₀)) v (items (coverLayout s n) 1 at)) 0 (getD b₀ (n + v) 0))
+-- what it gives its source, by the numbers of a round: a hyperedge the worst of its targets; a cover edge 0 where it holds, infinity where not
+unfoldable pub givenAt : List ℕ → (n middle at : ℕ) → List ℕ → ℕ
+givenAt s n middle at x =
+    cond (ltb at middle) (stored (worst (held x) (hyperLayout s n .item at .targets))) (cond (coverHolds (held x) (coverLayout s n .item at)) 0 infinite)
+
+-- it was taken into the second half: the next number of its source is lowered to what it gives by the first
+abbrev pub RecordIn : List ℕ → (n middle at : ℕ) → (b₀ b : List ℕ) → Type 0
+RecordIn s n middle at b₀ b = b ≡ lowered s n at (givenAt s n middle at (half n 0 b₀)) b₀
 
 -- the part has it
 pub record Has (s : List ℕ) (n middle : ℕ) (p : Graph) (at : ℕ) : Type 0 where

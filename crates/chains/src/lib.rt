@@ -9,22 +9,31 @@ ghost use Rattle.rules.specs.Graph.{Graph};
 ghost use Rattle.graph.specs.Format.{graphHeader};
 ghost use Rattle.graph.specs.Layouts.{hyperLayout, Scannable};
 ghost use Rattle.halves.specs.Room.{Same};
-ghost use Rattle.links.specs.Links.{Reached, RecordAt, Index};
+ghost use Rattle.links.specs.Links.{Reached, RecordAt, Told, Index};
 ghost use Rattle.changes.specs.Listed.{Listed, Apart, Aside};
-ghost use Rattle.chains.specs.Taken.{RecordOk, RecordIn, Taken, Further, TakenAll};
+ghost use Rattle.chains.specs.Taken.{RecordOk, givenAt, RecordIn, Taken, Further, TakenAll};
+use value::Bound;
+use value::Value;
 use wire::Width;
 
-// Takes the record at a position into the second half from the first: the cover edges stand from `middle` on.
-fn take_record(s: &[u8], n: usize, middle: usize, at: usize, room: &mut [u64])
+// What the record at a position gives its source, by the numbers of a round: the cover edges stand from `middle` on. The number of the
+// target is read before the bound: behind it a compiler would take the bound's bytes apart.
+fn given(s: &[u8], n: usize, middle: usize, at: usize, x: &[u64]) -> Value
     requires { ⌜ RecordOk (now s) n middle at ⌝ }
-    requires { ⌜ n + n ≤ length (now room) ⌝ }
-    ensures { λ _. ⌜ RecordIn (now (s .entry)) n middle at (now (room .entry)) (now (room .exit)) ⌝ }
+    requires { ⌜ n ≤ length (now x) ⌝ }
+    ensures { λ r. ⌜ r .0 ≡ givenAt (now (s .entry)) n middle at (now (x .entry)) ⌝ }
 {
     if at < middle {
         let count = wire::number_at(s, at + graph::TARGET_COUNT_AT, Width::Two);
-        scans::take_hyper(s, n, 0, n, count, at, room);
+        targets::worst(s, n, x, count, at + graph::HYPER)
     } else {
-        scans::take_covers(s, n, 0, n, 1, at, room);
+        let target = wire::number_at(s, at + graph::COVER_TARGET_AT, Width::Two) as usize;
+        let value = x[target];
+        let bound = Bound::coded(wire::number_at(s, at + graph::COVER_BOUND_AT, Width::Four));
+        if Value(value).within(bound) {
+            return Value(0);
+        }
+        Value::INFINITE
     }
 }
 
@@ -49,15 +58,15 @@ fn take_source(
     ensures { λ r. ⌜ Listed n n to r (now (room .exit)) (now (changed .exit)) ⌝ }
     ensures { λ _. ⌜ Apart n to (now (changed .entry)) (now (changed .exit)) ⌝ }
 {
+    let value = given(s, n, middle, at, &room[0..n]);
     let other = n + source;
     let was = room[other];
-    take_record(s, n, middle, at, room);
-    let this = room[source];
-    if was != this {
+    if was <= value.0 {
         return many;
     }
-    let next = room[other];
-    if next == was {
+    let this = room[source];
+    room[other] = value.0;
+    if was != this {
         return many;
     }
     changed[to + many] = source as u16;
@@ -74,6 +83,7 @@ fn take_linked(
     head: u16,
     links: &[u16],
     spots: &[u16],
+    sources: &[u16],
     to: usize,
     many: usize,
     changed: &mut [u16],
@@ -82,9 +92,9 @@ fn take_linked(
     requires { ⌜ Scannable (now s) n h c ⌝ }
     requires { ⌜ middle ≡ end (hyperLayout (now s) n) h graphHeader ⌝ }
     requires { ⌜ n + n ≤ length (now room) ⌝ }
-    requires { ⌜ (head ≤ length (now links)) × (length (now spots) ≡ length (now links)) ⌝ }
+    requires { ⌜ (head ≤ length (now links)) × (length (now spots) ≡ length (now links)) × (length (now sources) ≡ length (now links)) ⌝ }
     requires { ⌜ ((q : ℕ) → getD (now links) q 0 ≤ q) ⌝ }
-    requires { ⌜ ((q : ℕ) → Reached (now links) q head → RecordAt (now s) n h c middle (getD (now spots) q 0)) ⌝ }
+    requires { ⌜ ((q : ℕ) → Reached (now links) q head → RecordAt (now s) n h c middle (getD (now spots) q 0) × Told (now s) (now spots) (now sources) q) ⌝ }
     requires { ⌜ n ≤ 65535 ⌝ }
     requires { ⌜ Listed n n to many (now room) (now changed) ⌝ }
     ensures { λ r. ⌜ Listed n n to r (now (room .exit)) (now (changed .exit)) ⌝ }
@@ -97,7 +107,7 @@ fn take_linked(
     while 0 < place {
         let i = place - 1;
         let p = spots[i] as usize;
-        let source = wire::number_at(s, p, Width::Two) as usize;
+        let source = sources[i] as usize;
         k = take_source(s, n, middle, p, source, to, k, changed, room);
         place = links[i] as usize;
     }
@@ -114,6 +124,7 @@ pub fn take_changed(
     heads: &[u16],
     links: &[u16],
     spots: &[u16],
+    sources: &[u16],
     from: usize,
     many: usize,
     to: usize,
@@ -123,7 +134,7 @@ pub fn take_changed(
     requires { ⌜ Scannable (now s) n h c ⌝ }
     requires { ⌜ middle ≡ end (hyperLayout (now s) n) h graphHeader ⌝ }
     requires { ⌜ n + n ≤ length (now room) ⌝ }
-    requires { ⌜ Index (now s) n h c middle (now heads) (now links) (now spots) ⌝ }
+    requires { ⌜ Index (now s) n h c middle (now heads) (now links) (now spots) (now sources) ⌝ }
     requires { ⌜ (n ≤ 65535) × Aside n from to × (from + n ≤ length (now changed)) × (to + n ≤ length (now changed)) ⌝ }
     requires { ⌜ (many ≤ n) × ((k : ℕ) → k < many → getD (now changed) (from + k) 0 < n) ⌝ }
     requires { ⌜ Same n (now room) ⌝ }
@@ -145,6 +156,7 @@ pub fn take_changed(
             chain,
             links,
             spots,
+            sources,
             to,
             k,
             changed,

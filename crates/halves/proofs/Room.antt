@@ -7,29 +7,27 @@ use lib.Seq.{drop-set-lt, drop-drop, getD-set-same, getD-set-other, getD-take, g
 use native.Mathlib.Decide.{ℕ-discrete, decLt}
 use native.Mathlib.Omega.{arith}
 use Rattle.value.specs.Stored.{infinite}
-use Rattle.halves.specs.Room.{half, Cleared, Raised, Alike, Same, Beside}
+use Rattle.halves.specs.Room.{half, Cleared, Raised, Alike, Level, Same, Beside}
 
 -- the numbers of a half
 pub half-at : (n from : ℕ) (b : List ℕ) (v : ℕ) → v < n → getD (half n from b) v 0 ≡ getD b (from + v) 0
 half-at n from b v l = getD-take n (drop from b) v 0 l ∙ getD-drop from b v 0
 
--- those below i are the same, and k more behind them; and where no more can differ
-abbrev pub SameBelow : (n i : ℕ) → List ℕ → Type 0
-SameBelow n i b = (v : ℕ) → v < i → v < n → getD b v 0 ≡ getD b (n + v) 0
-
-pub same-more : (n i k : ℕ) (b : List ℕ) → SameBelow n i b → Alike n i k b → SameBelow n (i + k) b
-same-more n i k b below more v l named = go (decLt v i)
+-- k more behind those that are the same; and where no more can differ
+pub level-more : {from : ℕ} (n i k : ℕ) (b : List ℕ) → Level n from i b → Alike n i k b → Level n from (i + k) b
+level-more n i k b below more v l h = go (decLt v i)
   where
     go : Dec (v < i) → getD b v 0 ≡ getD b (n + v) 0
-    go (yes h) = below v h named
-    go (no h) = let e : i + (v - i) ≡ v = omega arith in rw e at (more (v - i) (omega arith))
+    go (yes m) = below v l m
+    go (no m) = let e : i + (v - i) ≡ v = omega arith in rw e at (more (v - i) (omega arith))
 
-pub same-all : {n lo hi : ℕ} {b : List ℕ} (i : ℕ) → SameBelow n i b → Beside n lo hi b → hi ≤ i → Same n b
-same-all {n} {lo} {hi} {b} i below beside h v l = go (decLt v i)
+pub same-all : {n lo hi : ℕ} {b : List ℕ} → Level n lo hi b → Beside n lo hi b → Same n b
+same-all {n} {lo} {hi} {b} inside beside v l = go (decLt v lo) (decLt v hi)
   where
-    go : Dec (v < i) → getD b v 0 ≡ getD b (n + v) 0
-    go (yes k) = below v k l
-    go (no k) = beside .behind v (omega arith) l
+    go : Dec (v < lo) → Dec (v < hi) → getD b v 0 ≡ getD b (n + v) 0
+    go (yes m) q = beside .before v m l
+    go (no m) (yes q) = inside v (omega arith) q
+    go (no m) (no q) = beside .behind v (omega arith) l
 
 -- clearing one number after another
 pub cleared-none : {b : List ℕ} → Cleared 0 b b

@@ -26,6 +26,10 @@ pub record Raised (n i : ℕ) (b₀ b : List ℕ) : Type 0 where
 abbrev pub Alike : (n at k : ℕ) → List ℕ → Type 0
 Alike n at k b = (v : ℕ) → v < k → getD b (at + v) 0 ≡ getD b (n + (at + v)) 0
 
+-- the numbers from a node to before another are the same in both halves
+abbrev pub Level : (n from to : ℕ) → List ℕ → Type 0
+Level n from to b = (v : ℕ) → from ≤ v → v < to → getD b v 0 ≡ getD b (n + v) 0
+
 -- both halves are the same: the next round is this one
 abbrev pub Same : ℕ → List ℕ → Type 0
 Same n b = (v : ℕ) → v < n → getD b v 0 ≡ getD b (n + v) 0

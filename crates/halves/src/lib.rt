@@ -3,7 +3,7 @@ ghost use mathlib.Core.Path.{_≡_};
 ghost use mathlib.Core.Bool.{true, false};
 ghost use Prim.Native.Nat.{ℕ, _+_, _≤_, min};
 ghost use lib.ListN.{length};
-ghost use Rattle.halves.specs.Room.{Cleared, Raised, Alike, Same, Beside};
+ghost use Rattle.halves.specs.Room.{Cleared, Raised, Alike, Level, Same, Beside};
 use value::Value;
 
 // Sets the first k values to infinity.
@@ -42,23 +42,41 @@ pub fn block(left: usize) -> usize
     128
 }
 
-// Whether the k values at a position are the same in both halves; it never stops early, so that several are compared at once.
+// Whether the k values at a position are the same in both halves; it never stops early, so that several are compared at once, and gathers
+// the bits in which they differ, which a processor does in fewer steps than to gather whether they do.
 pub fn alike(n: usize, at: usize, k: usize, room: &[u64]) -> bool
     requires { ⌜ at + k ≤ n ⌝ }
     requires { ⌜ n + n ≤ length (now room) ⌝ }
     ensures { λ r. ⌜ (r ≡ true → Alike n at k (now (room .entry))) × (r ≡ false → ¬ Alike n at k (now (room .entry))) ⌝ }
 {
-    let mut all = true;
+    let mut apart: u64 = 0;
     let mut i = 0;
     while i < k {
         let j = at + i;
         let other = n + j;
+        let here = room[j];
+        let there = room[other];
         i += 1;
-        if room[j] != room[other] {
-            all = false;
-        }
+        apart |= here ^ there;
     }
-    all
+    apart == 0
+}
+
+// Whether both halves are the same from a node to before another.
+pub fn between(n: usize, from: usize, to: usize, room: &[u64]) -> bool
+    requires { ⌜ n + n ≤ length (now room) ⌝ }
+    requires { ⌜ to ≤ n ⌝ }
+    ensures { λ r. ⌜ (r ≡ true → Level n from to (now (room .entry))) × (r ≡ false → ¬ Level n from to (now (room .entry))) ⌝ }
+{
+    let mut i = from;
+    while i < to {
+        let k = block(to - i);
+        if !alike(n, i, k, room) {
+            return false;
+        }
+        i += k;
+    }
+    true
 }
 
 // Whether both halves are the same, where they are but for the nodes from lo to before hi.
@@ -68,13 +86,5 @@ pub fn same(n: usize, lo: usize, hi: usize, room: &[u64]) -> bool
     requires { ⌜ Beside n lo hi (now room) ⌝ }
     ensures { λ r. ⌜ (r ≡ true → Same n (now (room .entry))) × (r ≡ false → ¬ Same n (now (room .entry))) ⌝ }
 {
-    let mut i = lo;
-    while i < hi {
-        let k = block(hi - i);
-        if !alike(n, i, k, room) {
-            return false;
-        }
-        i += k;
-    }
-    true
+    between(n, lo, hi, room)
 }

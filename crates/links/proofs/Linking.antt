@@ -16,7 +16,7 @@ use Rattle.wire.proofs.Parts.{end-add}
 use Rattle.rules.specs.Graph.{Target}
 use Rattle.graph.specs.Format.{graphHeader, hyperWidth, targetWidth}
 use Rattle.graph.specs.Layouts.{targetLayout, hyperLayout}
-use Rattle.links.specs.Links.{Reached, here, further, Finds, RecordAt, hyper, cover, hyperAt, targetsAt, coverAt, targetOf, Long, Linked, Index}
+use Rattle.links.specs.Links.{Reached, here, further, Finds, RecordAt, hyper, cover, hyperAt, targetsAt, coverAt, targetOf, Long, Told, Linked, Index}
 
 -- a number of a list in which one was set, at any place
 set-at : (P : ℕ → Type 0) (l : List ℕ) (u k v : ℕ) → u < length l → (v ≡ u → P k) → (¬ (v ≡ u) → P (getD l v 0)) → P (getD (set l u k) v 0)
@@ -27,40 +27,49 @@ set-at P l u k v h at-it beside = go (ℕ-discrete v u)
     go (no e) = rw (getD-set-other l u v k 0 e) (beside e)
 
 -- lists of zeros, and lists in which a number is set, are as long
-pub long-zeros : (n most : ℕ) → n ≤ most → most ≤ 65535 → Long n (replicate most 0) (replicate most 0) (replicate most 0)
+pub long-zeros : (n most : ℕ) → n ≤ most → most ≤ 65535 → Long n (replicate most 0) (replicate most 0) (replicate most 0) (replicate most 0)
 long-zeros n most l h =
     let e = length-replicate {A = ℕ} most 0 in
-    record { nodes = omega arith; same = refl; short = omega arith }
+    record { nodes = omega arith; same = refl; also = refl; short = omega arith }
 
-long-set : {n : ℕ} {heads links spots : List ℕ} → Long n heads links spots → (v a q b e : ℕ) → Long n (set heads v a) (set links q b) (set spots q e)
-long-set {n} {heads} {links} {spots} d v a q b e = record {
+long-set : {n : ℕ} {heads links spots sources : List ℕ} → Long n heads links spots sources → (v a q b e f : ℕ) → Long n (set heads v a) (set links q b) (set spots q e) (set sources q f)
+long-set {n} {heads} {links} {spots} {sources} d v a q b e f = record {
   nodes = omega (arith, length-set heads v a, d .nodes);
   same = omega (arith, length-set spots q e, length-set links q b, d .same);
+  also = omega (arith, length-set sources q f, length-set links q b, d .also);
   short = omega (arith, length-set links q b, d .short);
 }
 
 -- lists that are as long as others
-pub record Kept (heads₀ links₀ spots₀ heads links spots : List ℕ) : Type 0 where
+pub record Kept (heads₀ links₀ spots₀ sources₀ heads links spots sources : List ℕ) : Type 0 where
   pub heads-long : length heads ≡ length heads₀
   pub links-long : length links ≡ length links₀
   pub spots-long : length spots ≡ length spots₀
+  pub sources-long : length sources ≡ length sources₀
 
-pub kept-none : {heads links spots : List ℕ} → Kept heads links spots heads links spots
-kept-none = record { heads-long = refl; links-long = refl; spots-long = refl }
+pub kept-none : {heads links spots sources : List ℕ} → Kept heads links spots sources heads links spots sources
+kept-none = record { heads-long = refl; links-long = refl; spots-long = refl; sources-long = refl }
 
-pub kept-long : {n : ℕ} {heads₀ links₀ spots₀ heads links spots : List ℕ} → Kept heads₀ links₀ spots₀ heads links spots → Long n heads₀ links₀ spots₀ → Long n heads links spots
-kept-long k d = record { nodes = omega (arith, k .heads-long, d .nodes); same = k .spots-long ∙ d .same ∙ sym (k .links-long); short = omega (arith, k .links-long, d .short) }
+module _ {heads₀ links₀ spots₀ sources₀ heads links spots sources : List ℕ} (k : Kept heads₀ links₀ spots₀ sources₀ heads links spots sources) where
+  pub kept-long : {n : ℕ} → Long n heads₀ links₀ spots₀ sources₀ → Long n heads links spots sources
+  kept-long d = record {
+    nodes = omega (arith, k .heads-long, d .nodes);
+    same = k .spots-long ∙ d .same ∙ sym (k .links-long);
+    also = k .sources-long ∙ d .also ∙ sym (k .links-long);
+    short = omega (arith, k .links-long, d .short);
+  }
 
-pub kept-on : {heads₀ links₀ spots₀ heads links spots heads′ links′ spots′ : List ℕ} → Kept heads₀ links₀ spots₀ heads links spots
-    → length heads′ ≡ length heads → length links′ ≡ length links → length spots′ ≡ length spots → Kept heads₀ links₀ spots₀ heads′ links′ spots′
-kept-on k x y z = record { heads-long = x ∙ k .heads-long; links-long = y ∙ k .links-long; spots-long = z ∙ k .spots-long }
+  pub kept-on : {heads′ links′ spots′ sources′ : List ℕ} → length heads′ ≡ length heads → length links′ ≡ length links → length spots′ ≡ length spots → length sources′ ≡ length sources
+      → Kept heads₀ links₀ spots₀ sources₀ heads′ links′ spots′ sources′
+  kept-on x y z w = record { heads-long = x ∙ k .heads-long; links-long = y ∙ k .links-long; spots-long = z ∙ k .spots-long; sources-long = w ∙ k .sources-long }
 
-pub kept-set : {heads₀ links₀ spots₀ heads links spots : List ℕ} → Kept heads₀ links₀ spots₀ heads links spots → (v a q b e : ℕ) → Kept heads₀ links₀ spots₀ (set heads v a) (set links q b) (set spots q e)
-kept-set {heads = heads} {links = links} {spots = spots} k v a q b e = record {
-  heads-long = length-set heads v a ∙ k .heads-long;
-  links-long = length-set links q b ∙ k .links-long;
-  spots-long = length-set spots q e ∙ k .spots-long;
-}
+  pub kept-set : (v a q b e f : ℕ) → Kept heads₀ links₀ spots₀ sources₀ (set heads v a) (set links q b) (set spots q e) (set sources q f)
+  kept-set v a q b e f = record {
+    heads-long = length-set heads v a ∙ k .heads-long;
+    links-long = length-set links q b ∙ k .links-long;
+    spots-long = length-set spots q e ∙ k .spots-long;
+    sources-long = length-set sources q f ∙ k .sources-long;
+  }
 
 -- a chain stays below its head
 pub reached-below : {links : List ℕ} {q head : ℕ} → ((p : ℕ) → getD links p 0 ≤ p) → Reached links q head → q < head
@@ -86,7 +95,7 @@ reached-set {links} {q} falls place k l (further other e r) =
     further other e (rw (getD-set-other links place other k 0 apart) rest)
 
 -- one place more for node v: its link is the node's head, and it is the node's head
-module _ {s : List ℕ} {n middle h c places : ℕ} {rest : List Target} {heads links spots : List ℕ} (d : Linked s n middle h rest c places heads links spots)
+module _ {s : List ℕ} {n middle h c places : ℕ} {rest : List Target} {heads links spots sources : List ℕ} (d : Linked s n middle h rest c places heads links spots sources)
     (room : places < length links) (v : ℕ) (named : v < n) (at : ℕ) where
   new-head : getD (set heads v (places + 1)) v 0 ≡ places + 1
   new-head = getD-set-same heads v (places + 1) 0 (omega (arith, d .long .nodes))
@@ -127,25 +136,36 @@ module _ {s : List ℕ} {n middle h c places : ℕ} {rest : List Target} {heads 
       wider (hyper j l e) = hyper j (omega arith) e
       wider (cover j l e) = cover j (omega arith) e
 
+  -- its record's source is told
+  told-more : (from : ℕ) → from ≡ number 2 s at → (q : ℕ) → q < places + 1 → Told s (set spots places at) (set sources places from) q
+  told-more from is q l = go (ℕ-discrete q places)
+    where
+      go : Dec (q ≡ places) → Told s (set spots places at) (set sources places from) q
+      go (yes e) =
+          rw (e, getD-set-same spots places at 0 (omega (arith, d .long .same)), getD-set-same sources places from 0 (omega (arith, d .long .also))) is
+      go (no e) = rw (getD-set-other spots places q at 0 e, getD-set-other sources places q from 0 e) (d .told q (omega arith))
+
 -- nothing is linked
-pub linked-none : (s : List ℕ) (n middle most : ℕ) → n ≤ most → most ≤ 65535 → Linked s n middle 0 [] 0 0 (replicate most 0) (replicate most 0) (replicate most 0)
+pub linked-none : (s : List ℕ) (n middle most : ℕ) → n ≤ most → most ≤ 65535 → Linked s n middle 0 [] 0 0 (replicate most 0) (replicate most 0) (replicate most 0) (replicate most 0)
 linked-none s n middle most l h = record {
   long = long-zeros n most l h;
   within = λ v. omega (arith, zeros-at most v);
   falls = λ q. omega (arith, zeros-at most q);
   records = λ q k. absurd (omega arith);
+  told = λ q k. absurd (omega arith);
   hypers = λ j t k. absurd (omega arith);
   covers = λ j k. absurd (omega arith);
 }
 
 -- the targets of one hyperedge more are left to link
-module _ {s : List ℕ} {n middle j places : ℕ} {heads links spots : List ℕ} (d : Linked s n middle j [] 0 places heads links spots) where
-  pub linked-open : (ts : List Target) → targetsAt s n j ≡ ts → Linked s n middle (j + 1) ts 0 places heads links spots
+module _ {s : List ℕ} {n middle j places : ℕ} {heads links spots sources : List ℕ} (d : Linked s n middle j [] 0 places heads links spots sources) where
+  pub linked-open : (ts : List Target) → targetsAt s n j ≡ ts → Linked s n middle (j + 1) ts 0 places heads links spots sources
   linked-open ts e = record {
     long = d .long;
     within = d .within;
     falls = d .falls;
     records = λ q l. wider (d .records q l);
+    told = d .told;
     hypers = λ i t l m. go i t l m (decLt i j);
     covers = λ i l. absurd (omega arith);
   }
@@ -163,19 +183,20 @@ module _ {s : List ℕ} {n middle j places : ℕ} {heads links spots : List ℕ}
       go i t l m (no h) = let same : i ≡ j = omega arith in inr (omega arith, rw (ap (targetsAt s n) same ∙ e) at m)
 
 -- none is left
-module _ {s : List ℕ} {n middle h places : ℕ} {heads links spots : List ℕ} (i q : ℕ) (d : Linked s n middle h (items (targetLayout s n) i q) 0 places heads links spots) where
-  pub linked-end : i ≡ 0 → Linked s n middle h [] 0 places heads links spots
+module _ {s : List ℕ} {n middle h places : ℕ} {heads links spots sources : List ℕ} (i q : ℕ) (d : Linked s n middle h (items (targetLayout s n) i q) 0 places heads links spots sources) where
+  pub linked-end : i ≡ 0 → Linked s n middle h [] 0 places heads links spots sources
   unfolding items
-  linked-end e = subst (λ (k : ℕ). Linked s n middle h (items (targetLayout s n) k q) 0 places heads links spots) e d
+  linked-end e = subst (λ (k : ℕ). Linked s n middle h (items (targetLayout s n) k q) 0 places heads links spots sources) e d
 
   -- the next of them is linked
-  pub linked-turn : (j : ℕ) → h ≡ j + 1 → 0 < i → places < length links → (v : ℕ) → v ≡ targetLayout s n .item q .node → v < n → (at : ℕ) → at ≡ hyperAt s n j
-      → Linked s n middle h (items (targetLayout s n) (i - 1) (q + targetWidth)) 0 (places + 1) (set heads v (places + 1)) (set links places (getD heads v 0)) (set spots places at)
-  linked-turn j last some room v is named at there = record {
-    long = long-set (d .long) v (places + 1) places (getD heads v 0) at;
+  pub linked-turn : (j : ℕ) → h ≡ j + 1 → 0 < i → places < length links → (v : ℕ) → v ≡ targetLayout s n .item q .node → v < n → (at : ℕ) → at ≡ hyperAt s n j → (from : ℕ) → from ≡ number 2 s at
+      → Linked s n middle h (items (targetLayout s n) (i - 1) (q + targetWidth)) 0 (places + 1) (set heads v (places + 1)) (set links places (getD heads v 0)) (set spots places at) (set sources places from)
+  linked-turn j last some room v is named at there from source = record {
+    long = long-set (d .long) v (places + 1) places (getD heads v 0) at from;
     within = within-more d room v named at;
     falls = falls-more d room v named at;
     records = records-more d room v named at (omega arith) (omega arith) (hyper j (omega arith) there);
+    told = told-more d room v named at from source;
     hypers = λ k t l m. go k t (d .hypers k t l m);
     covers = λ k l. absurd (omega arith);
   }
@@ -198,14 +219,15 @@ module _ {s : List ℕ} {n middle h places : ℕ} {heads links spots : List ℕ}
           new (inr l) = inr (m .0, l)
 
 -- one cover edge more is linked
-module _ {s : List ℕ} {n middle h j places : ℕ} {heads links spots : List ℕ} (d : Linked s n middle h [] j places heads links spots) where
-  pub linked-cover : places < length links → (v : ℕ) → v ≡ targetOf s n middle j → v < n → (at : ℕ) → at ≡ coverAt s n middle j
-      → Linked s n middle h [] (j + 1) (places + 1) (set heads v (places + 1)) (set links places (getD heads v 0)) (set spots places at)
-  linked-cover room v is named at there = record {
-    long = long-set (d .long) v (places + 1) places (getD heads v 0) at;
+module _ {s : List ℕ} {n middle h j places : ℕ} {heads links spots sources : List ℕ} (d : Linked s n middle h [] j places heads links spots sources) where
+  pub linked-cover : places < length links → (v : ℕ) → v ≡ targetOf s n middle j → v < n → (at : ℕ) → at ≡ coverAt s n middle j → (from : ℕ) → from ≡ number 2 s at
+      → Linked s n middle h [] (j + 1) (places + 1) (set heads v (places + 1)) (set links places (getD heads v 0)) (set spots places at) (set sources places from)
+  linked-cover room v is named at there from source = record {
+    long = long-set (d .long) v (places + 1) places (getD heads v 0) at from;
     within = within-more d room v named at;
     falls = falls-more d room v named at;
     records = records-more d room v named at (omega arith) (omega arith) (cover j (omega arith) there);
+    told = told-more d room v named at from source;
     hypers = λ k t l m. old k t (d .hypers k t l m);
     covers = λ k l. go k (decLt k j) l;
   }
@@ -222,12 +244,13 @@ module _ {s : List ℕ} {n middle h j places : ℕ} {heads links spots : List �
           rw (same, sym is, sym there) (found-new d room v named at)
 
   -- all are linked
-  pub linked-all : places ≤ length links → Index s n h j middle heads links spots
+  pub linked-all : places ≤ length links → Index s n h j middle heads links spots sources
   linked-all few = record {
     long = d .long;
     within = λ v. omega (arith, d .within v);
     falls = d .falls;
     records = λ v q r. d .records q (omega (arith, reached-below (d .falls) r, d .within v));
+    told = λ v q r. d .told q (omega (arith, reached-below (d .falls) r, d .within v));
     hypers = λ k t l m. go k t (d .hypers k t l m);
     covers = d .covers;
   }

@@ -18,9 +18,10 @@ pub record Fits (n h c middle most : ℕ) : Type 0 where
   pub places : middle + c * targetWidth ≤ graphHeader + h * hyperWidth + most * targetWidth
 
 -- the lists: a head for each node; places, of which a number of 16 bits tells each
-pub record Long (n : ℕ) (heads links spots : List ℕ) : Type 0 where
+pub record Long (n : ℕ) (heads links spots sources : List ℕ) : Type 0 where
   pub nodes : n ≤ length heads
   pub same : length spots ≡ length links
+  pub also : length sources ≡ length links
   pub short : length links ≤ 65535
 
 -- place q is on the chain that starts at a head: 0 is none, and k + 1 is place k, whose link leads on
@@ -52,20 +53,26 @@ coverAt s n middle j = end (coverLayout s n) j middle
 abbrev pub targetOf : List ℕ → (n middle j : ℕ) → ℕ
 targetOf s n middle j = number 2 s (coverAt s n middle j + coverTargetAt)
 
+-- place q tells the source of the record that stands there
+abbrev pub Told : List ℕ → (spots sources : List ℕ) → ℕ → Type 0
+Told s spots sources q = getD sources q 0 ≡ number 2 s (getD spots q 0)
+
 -- so many places are linked: the targets of h hyperedges, but for those left of the last of them, and c cover edges
-pub record Linked (s : List ℕ) (n middle h : ℕ) (rest : List Target) (c places : ℕ) (heads links spots : List ℕ) : Type 0 where
-  pub long : Long n heads links spots
+pub record Linked (s : List ℕ) (n middle h : ℕ) (rest : List Target) (c places : ℕ) (heads links spots sources : List ℕ) : Type 0 where
+  pub long : Long n heads links spots sources
   pub within : (v : ℕ) → getD heads v 0 ≤ places
   pub falls : (q : ℕ) → getD links q 0 ≤ q
   pub records : (q : ℕ) → q < places → RecordAt s n h c middle (getD spots q 0)
+  pub told : (q : ℕ) → q < places → Told s spots sources q
   pub hypers : (j : ℕ) (t : Target) → j < h → t ∈ targetsAt s n j → Finds heads links spots (t .node) (hyperAt s n j) ⊎ ((j + 1 ≡ h) × (t ∈ rest))
   pub covers : (j : ℕ) → j < c → Finds heads links spots (targetOf s n middle j) (coverAt s n middle j)
 
 -- all are linked: what a chain leads to is a record, and the chain of a node leads to every record that has the node as a target
-pub record Index (s : List ℕ) (n h c middle : ℕ) (heads links spots : List ℕ) : Type 0 where
-  pub long : Long n heads links spots
+pub record Index (s : List ℕ) (n h c middle : ℕ) (heads links spots sources : List ℕ) : Type 0 where
+  pub long : Long n heads links spots sources
   pub within : (v : ℕ) → getD heads v 0 ≤ length links
   pub falls : (q : ℕ) → getD links q 0 ≤ q
   pub records : (v q : ℕ) → Reached links q (getD heads v 0) → RecordAt s n h c middle (getD spots q 0)
+  pub told : (v q : ℕ) → Reached links q (getD heads v 0) → Told s spots sources q
   pub hypers : (j : ℕ) (t : Target) → j < h → t ∈ targetsAt s n j → Finds heads links spots (t .node) (hyperAt s n j)
   pub covers : (j : ℕ) → j < c → Finds heads links spots (targetOf s n middle j) (coverAt s n middle j)

@@ -41,16 +41,18 @@ fn link(
     heads: &mut [u16],
     links: &mut [u16],
     spots: &mut [u16],
+    sources: &mut [u16],
 ) -> usize
     requires { ⌜ Sound (targetLayout (now s) n) k (p + hyperWidth) ⌝ }
     requires { ⌜ p + hyperWidth ≤ length (now s) ⌝ }
-    requires { ⌜ Long n (now heads) (now links) (now spots) ⌝ }
+    requires { ⌜ Long n (now heads) (now links) (now spots) (now sources) ⌝ }
     requires { ⌜ (p ≤ 65535) × (place + k ≤ length (now links)) ⌝ }
     ensures { λ r. ⌜ r ≡ place + k ⌝ }
     ensures { λ _. ⌜ ((middle j : ℕ) → p ≡ end (hyperLayout (now (s .entry)) n) j graphHeader
-        → Linked (now (s .entry)) n middle (j + 1) (items (targetLayout (now (s .entry)) n) k (p + hyperWidth)) 0 place (now (heads .entry)) (now (links .entry)) (now (spots .entry))
-        → Linked (now (s .entry)) n middle (j + 1) [] 0 (place + k) (now (heads .exit)) (now (links .exit)) (now (spots .exit))) ⌝ }
+        → Linked (now (s .entry)) n middle (j + 1) (items (targetLayout (now (s .entry)) n) k (p + hyperWidth)) 0 place (now (heads .entry)) (now (links .entry)) (now (spots .entry)) (now (sources .entry))
+        → Linked (now (s .entry)) n middle (j + 1) [] 0 (place + k) (now (heads .exit)) (now (links .exit)) (now (spots .exit)) (now (sources .exit))) ⌝ }
 {
+    let source = wire::number_at(s, p, Width::Two) as u16;
     let mut i = k;
     let mut q = p + graph::HYPER;
     let mut at = place;
@@ -62,6 +64,7 @@ fn link(
         let head = heads[v];
         links[at] = head;
         spots[at] = p as u16;
+        sources[at] = source;
         at += 1;
         heads[v] = at as u16;
         q += graph::TARGET;
@@ -80,13 +83,14 @@ fn link_hypers(
     heads: &mut [u16],
     links: &mut [u16],
     spots: &mut [u16],
+    sources: &mut [u16],
 ) -> usize
     requires { ⌜ Sound (hyperLayout (now s) n) h graphHeader ⌝ }
     requires { ⌜ middle ≡ end (hyperLayout (now s) n) h graphHeader ⌝ }
     requires { ⌜ (middle ≤ 65535) × (middle ≤ graphHeader + h * hyperWidth + length (now links) * targetWidth) ⌝ }
-    requires { ⌜ Linked (now s) n middle 0 [] 0 0 (now heads) (now links) (now spots) ⌝ }
+    requires { ⌜ Linked (now s) n middle 0 [] 0 0 (now heads) (now links) (now spots) (now sources) ⌝ }
     ensures { λ r. ⌜ middle ≡ graphHeader + h * hyperWidth + r * targetWidth ⌝ }
-    ensures { λ r. ⌜ Linked (now (s .entry)) n middle h [] 0 r (now (heads .exit)) (now (links .exit)) (now (spots .exit)) ⌝ }
+    ensures { λ r. ⌜ Linked (now (s .entry)) n middle h [] 0 r (now (heads .exit)) (now (links .exit)) (now (spots .exit)) (now (sources .exit)) ⌝ }
 {
     let mut j: u32 = 0;
     let mut p: usize = graph::HEADER;
@@ -97,10 +101,10 @@ fn link_hypers(
         let count = wire::number_at(s, p + graph::TARGET_COUNT_AT, Width::Two);
         j += 1;
         if count == last {
-            place = link(s, n, p, last, place, heads, links, spots);
+            place = link(s, n, p, last, place, heads, links, spots, sources);
             p += stride;
         } else {
-            place = link(s, n, p, count, place, heads, links, spots);
+            place = link(s, n, p, count, place, heads, links, spots, sources);
             last = count;
             stride = graph::HYPER + (count as usize) * graph::TARGET;
             p += stride;
@@ -120,11 +124,12 @@ fn link_covers(
     heads: &mut [u16],
     links: &mut [u16],
     spots: &mut [u16],
+    sources: &mut [u16],
 )
     requires { ⌜ Sound (coverLayout (now s) n) c middle ⌝ }
     requires { ⌜ (middle + c * coverWidth ≤ 65535) × (place + c ≤ length (now links)) ⌝ }
-    requires { ⌜ Linked (now s) n middle h [] 0 place (now heads) (now links) (now spots) ⌝ }
-    ensures { λ _. ⌜ Index (now (s .entry)) n h c middle (now (heads .exit)) (now (links .exit)) (now (spots .exit)) ⌝ }
+    requires { ⌜ Linked (now s) n middle h [] 0 place (now heads) (now links) (now spots) (now sources) ⌝ }
+    ensures { λ _. ⌜ Index (now (s .entry)) n h c middle (now (heads .exit)) (now (links .exit)) (now (spots .exit)) (now (sources .exit)) ⌝ }
 {
     let mut j: u32 = 0;
     let mut p = middle;
@@ -134,6 +139,7 @@ fn link_covers(
         let head = heads[target];
         links[at] = head;
         spots[at] = p as u16;
+        sources[at] = wire::number_at(s, p, Width::Two) as u16;
         at += 1;
         heads[target] = at as u16;
         p += graph::COVER;
@@ -141,7 +147,8 @@ fn link_covers(
     }
 }
 
-// Links all places of a graph that is small enough, where none is linked yet.
+// Links all places of a graph that is small enough, where none is linked yet. A place tells the source of its record too: who follows a
+// chain reads it beside the position, and need not wait for the message to say it.
 pub fn link_all(
     s: &[u8],
     n: usize,
@@ -151,13 +158,14 @@ pub fn link_all(
     heads: &mut [u16],
     links: &mut [u16],
     spots: &mut [u16],
+    sources: &mut [u16],
 )
     requires { ⌜ Scannable (now s) n h c ⌝ }
     requires { ⌜ middle ≡ end (hyperLayout (now s) n) h graphHeader ⌝ }
     requires { ⌜ Fits n h c middle (length (now links)) ⌝ }
-    requires { ⌜ Linked (now s) n middle 0 [] 0 0 (now heads) (now links) (now spots) ⌝ }
-    ensures { λ _. ⌜ Index (now (s .entry)) n h c middle (now (heads .exit)) (now (links .exit)) (now (spots .exit)) ⌝ }
+    requires { ⌜ Linked (now s) n middle 0 [] 0 0 (now heads) (now links) (now spots) (now sources) ⌝ }
+    ensures { λ _. ⌜ Index (now (s .entry)) n h c middle (now (heads .exit)) (now (links .exit)) (now (spots .exit)) (now (sources .exit)) ⌝ }
 {
-    let place = link_hypers(s, n, h, middle, heads, links, spots);
-    link_covers(s, n, h, c, middle, place, heads, links, spots);
+    let place = link_hypers(s, n, h, middle, heads, links, spots, sources);
+    link_covers(s, n, h, c, middle, place, heads, links, spots, sources);
 }

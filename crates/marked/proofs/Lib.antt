@@ -1,3 +1,5 @@
 -- Laws of marked records.
---     Marked     what is marked is enough for the next round
+--     Taking     a range of records is taken in, and another behind it
+--     Marked     what is marked, and the long ones, are enough for the next round
+pub mod Taking
 pub mod Marked

@@ -1,13 +1,19 @@
 // Rounds on a graph of any size: a round takes in the records between those that the changed nodes mark.
 ghost use mathlib.Core.Path.{_≡_};
+ghost use mathlib.Core.Bool.{true, false};
 ghost use Prim.Native.Nat.{_+_, _-_, _≤_};
 ghost use lib.ListN.{length};
 ghost use Rattle.wire.specs.Layout.{end};
 ghost use Rattle.graph.specs.Format.{graphHeader};
 ghost use Rattle.graph.specs.Layouts.{hyperLayout, decoded};
 ghost use Rattle.graph.specs.Ready.{Ready};
+ghost use Rattle.halves.specs.Room.{Same};
+ghost use Rattle.notes.specs.Index.{Besides};
+ghost use Rattle.marked.specs.Took.{within, either, spreadOf, Stands, Took};
 ghost use Rattle.turns.specs.Turns.{AtRound};
 ghost use Rattle.turns.specs.Outcome.{outcomeCount, ended, filled};
+use notes::Marks;
+use notes::Span;
 use turns::Outcome;
 
 fn above(a: u32, b: u32) -> u32
@@ -17,6 +23,99 @@ fn above(a: u32, b: u32) -> u32
         return 0;
     }
     a - b
+}
+
+// Takes the records that are marked into the second half from the first.
+fn take_range(s: &[u8], n: usize, h: u32, c: u32, middle: usize, m: Marks, room: &mut [u64]) -> Span
+    requires { ⌜ Ready (now s) n h c ⌝ }
+    requires { ⌜ middle ≡ end (hyperLayout (now s) n) h graphHeader ⌝ }
+    requires { ⌜ n + n ≤ length (now room) ⌝ }
+    requires { ⌜ Stands (now s) n h c m ⌝ }
+    ensures { λ r. ⌜ Took (now (s .entry)) n h c middle (within (m .first) (m .last)) (within (m .low) (m .high)) (now (room .entry)) (now (room .exit)) r ⌝ }
+{
+    let k = above(m.last, m.first);
+    let past = scans::next_round(s, n, k, m.at, c, middle, m.low, m.high, room);
+    let from = sources::hypers_from(s, n, h, m.first, m.last, m.at);
+    let to = sources::hypers_to(s, n, h, m.first, m.last, past);
+    let covers_lo = sources::covers_from(s, n, c, middle, m.low, m.high);
+    let covers_hi = sources::covers_to(s, n, c, middle, m.low, m.high);
+    let lo = sources::nearer(from, covers_lo);
+    let past_all = sources::farther(to, covers_hi);
+    Span {
+        lo: lo,
+        gap: lo,
+        behind: lo,
+        hi: sources::farther(lo, past_all),
+    }
+}
+
+// Two spans in order, with what is between them as the gap; without a gap where they overlap.
+fn spread(lo: usize, hi: usize, from: usize, to: usize) -> Span
+    ensures { λ r. ⌜ r ≡ spreadOf lo hi from to ⌝ }
+{
+    if hi <= from {
+        return Span {
+            lo: lo,
+            gap: hi,
+            behind: from,
+            hi: to,
+        };
+    }
+    if to <= lo {
+        return Span {
+            lo: from,
+            gap: to,
+            behind: lo,
+            hi: hi,
+        };
+    }
+    let least = sources::nearer(lo, from);
+    Span {
+        lo: least,
+        gap: least,
+        behind: least,
+        hi: sources::farther(hi, to),
+    }
+}
+
+// Whether both halves are the same, where they are but for two spans.
+fn unchanged(n: usize, span: Span, room: &[u64]) -> bool
+    requires { ⌜ n + n ≤ length (now room) ⌝ }
+    requires { ⌜ Besides n span (now room) ⌝ }
+    ensures { λ r. ⌜ (r ≡ true → Same n (now (room .entry))) × (r ≡ false → ¬ Same n (now (room .entry))) ⌝ }
+{
+    if !halves::between(n, span.lo, span.gap, room) {
+        return false;
+    }
+    halves::between(n, span.behind, span.hi, room)
+}
+
+// Takes in the records that are marked, and the long ones; all at once where the ones stand among the others.
+fn take_both(
+    s: &[u8],
+    n: usize,
+    h: u32,
+    c: u32,
+    middle: usize,
+    m: Marks,
+    longs: Marks,
+    room: &mut [u64],
+) -> Span
+    requires { ⌜ Ready (now s) n h c ⌝ }
+    requires { ⌜ middle ≡ end (hyperLayout (now s) n) h graphHeader ⌝ }
+    requires { ⌜ n + n ≤ length (now room) ⌝ }
+    requires { ⌜ Stands (now s) n h c m ⌝ }
+    requires { ⌜ Stands (now s) n h c longs ⌝ }
+    ensures { λ r. ⌜ Took (now (s .entry)) n h c middle (either (within (m .first) (m .last)) (within (longs .first) (longs .last))) (within (m .low) (m .high))
+        (now (room .entry)) (now (room .exit)) r ⌝ }
+{
+    if m.first < longs.last && longs.first < m.last {
+        let all = m.more(longs.first, longs.last, longs.at, longs.low, longs.high);
+        return take_range(s, n, h, c, middle, all, room);
+    }
+    let near = take_range(s, n, h, c, middle, m, room);
+    let far = take_range(s, n, h, c, middle, longs, room);
+    spread(near.lo, near.hi, far.lo, far.hi)
 }
 
 // From rounds 1 and 2 on, until a round changes nothing or the budget is spent. The next round is worked out in the second half; then
@@ -41,29 +140,27 @@ pub fn run_on(
     let mut first = [4294967295u32; 512];
     let mut last = [0u32; 512];
     let mut pos = [0usize; 512];
-    notes::note_hypers(s, n, h, &mut first, &mut last, &mut pos);
+    let longs = notes::note_hypers(s, n, h, &mut first, &mut last, &mut pos);
     let mut lows = [4294967295u32; 512];
     let mut highs = [0u32; 512];
     notes::note_covers(s, n, c, middle, &mut lows, &mut highs);
+    let all = notes::mark_all(&first, &last, &pos, &lows, &highs);
     let mut i: u32 = 1;
-    let mut lo: usize = 0;
-    let mut hi = n;
+    let mut span = Span {
+        lo: 0,
+        gap: 0,
+        behind: 0,
+        hi: n,
+    };
     loop {
-        if halves::same(n, lo, hi, room) {
+        if unchanged(n, span, room) {
             break Outcome::Settled(i);
         }
         if i == budget {
             break Outcome::Spent(i);
         }
-        let m = notes::publish(n, lo, hi, &first, &last, &pos, &lows, &highs, room);
-        let k = above(m.last, m.first);
-        let past = scans::next_round(s, n, k, m.at, c, middle, m.low, m.high, room);
-        let from = sources::hypers_from(s, n, h, m.first, m.last, m.at);
-        let to = sources::hypers_to(s, n, h, m.first, m.last, past);
-        let covers_lo = sources::covers_from(s, n, c, middle, m.low, m.high);
-        let covers_hi = sources::covers_to(s, n, c, middle, m.low, m.high);
-        lo = sources::nearer(from, covers_lo);
-        hi = sources::farther(to, covers_hi);
+        let m = notes::advance(n, span, &first, &last, &pos, &lows, &highs, all, room);
+        span = take_both(s, n, h, c, middle, m, longs, room);
         i += 1;
     }
 }

@@ -1,13 +1,13 @@
 -- Noting hyperedges for the slots of their targets: a turn notes the next target. Assumes nothing.
-use Prim.Native.Nat.{ℕ, _+_, _-_, _*_, min, _/_, _%_, _<_, _≤_}
+use Prim.Native.Nat.{ℕ, _+_, _-_, _*_, min, max, _/_, _%_, _<_, _≤_}
 use mathlib.Core.List.{List, [], _∷_, List·Memᴰ·not-nil, List·Memᴰ·cases-cons}
-use mathlib.Core.Bool.{Bool, true, false, cond}
+use mathlib.Core.Bool.{Bool, true, false, cond, true≢false}
 use mathlib.Core.Logic.{_⊎_, inl, inr}
 use mathlib.Core.Path.{_≡_, refl, sym, ap, subst, _∙_}
 use lib.ListN.{length, getD, set, length-set, replicate, length-replicate, getD-replicate}
 use lib.Seq.{getD-set-same, getD-set-other}
-use lib.Dec.{leb}
-use borrow.Author.Tests.{leb-true, leb-false}
+use lib.Dec.{leb, ltb}
+use borrow.Author.Tests.{leb-true, leb-false, ltb-true, ltb-false}
 use native.Mathlib.Decide.{ℕ-discrete, decLt}
 use native.Mathlib.Omega.{arith}
 use Rattle.lists.specs.Lists.{_∈_}
@@ -17,7 +17,8 @@ use Rattle.wire.proofs.Layouts.{items-more}
 use Rattle.graph.specs.Format.{graphHeader, targetWidth, coverTargetAt, coverWidth}
 use Rattle.graph.specs.Layouts.{targetLayout, hyperLayout}
 use Rattle.wire.specs.Bytes.{number}
-use Rattle.notes.specs.Index.{slotOf, unnoted, targetsAt, Spans, Noted, NotedCovers}
+use Rattle.notes.specs.Index.{slotOf, unnoted, targetsAt, longFor, Spans, Noted, Longs, NotedCovers, noMarks, moreMarks}
+use Rattle.notes.specs.declared.Marks.{Marks}
 
 pub slot-below : (n v : ℕ) → slotOf n v < 512
 unfolding slotOf
@@ -54,18 +55,77 @@ module _ (s : List ℕ) (n : ℕ) where
       firsts = d .firsts;
       lasts = d .lasts;
       places = d .places;
-      reach = λ i t l m. go i t l m (decLt i j);
+      reach = λ i t l short m. go i t l short m (decLt i j);
       placed = d .placed;
       within = λ u l. omega (arith, d .within u l);
     }
       where
-        go : (i : ℕ) (t : Target) → i < j + 1 → t ∈ targetsAt s n i → Dec (i < j) → Spans first last (slotOf n (t .node)) i ⊎ ((i + 1 ≡ j + 1) × (t ∈ ts))
-        go i t l m (yes h) = old (d .reach i t h m)
+        go : (i : ℕ) (t : Target) → i < j + 1 → longFor n (length (targetsAt s n i)) ≡ false → t ∈ targetsAt s n i → Dec (i < j) → Spans first last (slotOf n (t .node)) i ⊎ ((i + 1 ≡ j + 1) × (t ∈ ts))
+        go i t l short m (yes h) = old (d .reach i t h short m)
           where
             old : Spans first last (slotOf n (t .node)) i ⊎ ((i + 1 ≡ j) × (t ∈ [])) → Spans first last (slotOf n (t .node)) i ⊎ ((i + 1 ≡ j + 1) × (t ∈ ts))
             old (inl sp) = inl sp
             old (inr q) = absurd (List·Memᴰ·not-nil (q .1))
-        go i t l m (no h) = let same : i ≡ j = omega arith in inr (omega arith, rw (ap (targetsAt s n) same ∙ e) at m)
+        go i t l short m (no h) = let same : i ≡ j = omega arith in inr (omega arith, rw (ap (targetsAt s n) same ∙ e) at m)
+
+    -- one hyperedge more that is long
+    pub noted-long : Noted s n j [] first last pos → longFor n (length (targetsAt s n j)) ≡ true → Noted s n (j + 1) [] first last pos
+    noted-long d long = record {
+      firsts = d .firsts;
+      lasts = d .lasts;
+      places = d .places;
+      reach = λ i t l short m. go i t l short m (decLt i j);
+      placed = d .placed;
+      within = λ u l. omega (arith, d .within u l);
+    }
+      where
+        go : (i : ℕ) (t : Target) → i < j + 1 → longFor n (length (targetsAt s n i)) ≡ false → t ∈ targetsAt s n i → Dec (i < j)
+            → Spans first last (slotOf n (t .node)) i ⊎ ((i + 1 ≡ j + 1) × (t ∈ []))
+        go i t l short m (yes h) = old (d .reach i t h short m)
+          where
+            old : Spans first last (slotOf n (t .node)) i ⊎ ((i + 1 ≡ j) × (t ∈ [])) → Spans first last (slotOf n (t .node)) i ⊎ ((i + 1 ≡ j + 1) × (t ∈ []))
+            old (inl sp) = inl sp
+            old (inr q) = absurd (List·Memᴰ·not-nil (q .1))
+        go i t l short m (no h) =
+            let same : j ≡ i = omega arith in
+            absurd (true≢false (sym long ∙ ap (λ (k : ℕ). longFor n (length (targetsAt s n k))) same ∙ short))
+
+  -- a hyperedge without targets is not long
+  pub none-short : longFor n 0 ≡ false
+  unfolding longFor
+  none-short = refl
+
+  -- long ones: none; one more that is short, or long
+  pub longs-none : Longs s n 0 noMarks
+  longs-none = record { holds = λ i l. absurd (omega arith); upto = omega arith; there = λ l. absurd (omega arith); no-covers = refl }
+
+  module _ {j : ℕ} {m : Marks} (d : Longs s n j m) where
+    pub longs-short : longFor n (length (targetsAt s n j)) ≡ false → Longs s n (j + 1) m
+    longs-short short = record { holds = λ i l long. go i l long (decLt i j); upto = omega (arith, d .upto); there = d .there; no-covers = d .no-covers }
+      where
+        go : (i : ℕ) → i < j + 1 → longFor n (length (targetsAt s n i)) ≡ true → Dec (i < j) → (m .first ≤ i) × (i < m .last)
+        go i l long (yes h) = d .holds i h long
+        go i l long (no h) =
+            let same : j ≡ i = omega arith in
+            absurd (true≢false (sym long ∙ ap (λ (k : ℕ). longFor n (length (targetsAt s n k))) (sym same) ∙ short))
+
+    pub longs-more : j < unnoted → (p : ℕ) → p ≡ end (hyperLayout s n) j graphHeader → Longs s n (j + 1) (moreMarks m j (j + 1) p unnoted 0)
+    longs-more few p at = record {
+      holds = λ i l long. go i l long (decLt i j);
+      upto = omega (arith, d .upto);
+      there = λ l. stands (ltb j (m .first)) refl l;
+      no-covers = omega (arith, d .no-covers);
+    }
+      where
+        go : (i : ℕ) → i < j + 1 → longFor n (length (targetsAt s n i)) ≡ true → Dec (i < j) → (min (m .first) j ≤ i) × (i < max (m .last) (j + 1))
+        go i l long (yes h) = let o = d .holds i h long in (omega (arith, o .0), omega (arith, o .1))
+        go i l long (no h) = (omega arith, omega arith)
+
+        stands : (t : Bool) → ltb j (m .first) ≡ t → min (m .first) j < unnoted → cond (ltb j (m .first)) p (m .at) ≡ end (hyperLayout s n) (min (m .first) j) graphHeader
+        stands true e l = let here : min (m .first) j ≡ j = omega (arith, ltb-true j (m .first) e) in rw (e, here) at
+        stands false e l =
+            let here : min (m .first) j ≡ m .first = omega (arith, ltb-false j (m .first) e) in
+            rw (e, here) (d .there (omega (arith, ltb-false j (m .first) e, few)))
 
   module _ {j : ℕ} {first last pos : List ℕ} (i q : ℕ) (d : Noted s n j (items (targetLayout s n) i q) first last pos) where
     -- the next of the targets left, and none left
@@ -87,7 +147,7 @@ module _ (s : List ℕ) (n : ℕ) where
       firsts = f;
       lasts = l;
       places = p;
-      reach = λ i t h m. go i t (d .reach i t h m);
+      reach = λ i t h short m. go i t (d .reach i t h short m);
       placed = placed;
       within = within;
     }

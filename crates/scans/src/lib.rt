@@ -34,7 +34,7 @@ fn lower(s: &[u8], n: usize, to: usize, at: usize, value: Value, room: &mut [u64
 }
 
 // Takes a hyperedge of k targets at a position into the n values of the next round.
-pub fn take_hyper(s: &[u8], n: usize, from: usize, to: usize, k: u32, at: usize, room: &mut [u64])
+fn take_hyper(s: &[u8], n: usize, from: usize, to: usize, k: u32, at: usize, room: &mut [u64])
     requires { ⌜ HyperOk (now s) n at ⌝ }
     requires { ⌜ k ≡ number 2 (now s) (at + targetCountAt) ⌝ }
     requires { ⌜ Sides n from to ⌝ }
@@ -103,7 +103,7 @@ fn take_hypers(
 }
 
 // Takes k cover edges at a position into the n values of the next round.
-pub fn take_covers(s: &[u8], n: usize, from: usize, to: usize, k: u32, at: usize, room: &mut [u64])
+fn take_covers(s: &[u8], n: usize, from: usize, to: usize, k: u32, at: usize, room: &mut [u64])
     requires { ⌜ Sound (coverLayout (now s) n) k at ⌝ }
     requires { ⌜ Sides n from to ⌝ }
     requires { ⌜ n + n ≤ length (now room) ⌝ }

@@ -16,6 +16,7 @@ pub fn calls() -> Vec<Call> {
         refusals(),
         room_before_budget(),
         large(),
+        many_targets(),
     ];
     parts.into_iter().flatten().collect()
 }
@@ -269,6 +270,103 @@ fn large() -> Vec<Call> {
     calls.push(rounds_on(&full.bytes));
     calls.push(Call::graph(&damage::cut(&full, full.bytes.len() - 1, true)));
     calls
+}
+
+/// More than 4,096 targets, where an implementation may give up a chain for each node: hyperedges with
+/// very many targets before, behind, among and far from short ones; lost at their first target in every
+/// round, or never; one node changes in a round, or all do; 63 and 64 targets, of 128 and 129 nodes.
+fn many_targets() -> Vec<Call> {
+    let mut graphs = vec![];
+    for (lost, heavy) in [(true, false), (false, true)] {
+        let first = ranged(150, &[(0, 30)], 150, lost, heavy);
+        let among: Vec<(usize, usize)> = (1..148).step_by(3).map(|source| (source, 1)).collect();
+        graphs.push(reversed(&first));
+        graphs.push(first);
+        graphs.push(ranged(150, &among, 90, lost, heavy));
+        graphs.push(ranged(1_200, &[(2, 3), (1_150, 3)], 700, lost, heavy));
+    }
+    for nodes in [128, 129] {
+        graphs.push(ranged(nodes, &[(1, 35), (nodes - 5, 35)], 64, true, false));
+        graphs.push(ranged(nodes, &[(1, 35), (nodes - 5, 35)], 63, false, true));
+    }
+    let budgets = |graph: &Graph| [u32::MAX, 5, needs(graph).1 - 1];
+    let calls = |graph: &Graph| {
+        let message = message::graph(graph).bytes;
+        let room = 2 * graph.nodes;
+        budgets(graph).map(|budget| Call::rounds(budget, room, &message))
+    };
+    graphs.iter().flat_map(calls).collect()
+}
+
+/// A chain with cover edges, and at some nodes so many hyperedges of `length` targets, the first of them
+/// the last node. Lost: that one has no value. Heavy: every node has a value at once, which then falls.
+fn ranged(nodes: usize, at: &[(usize, usize)], length: usize, lost: bool, heavy: bool) -> Graph {
+    let last = nodes - 1;
+    let ground = if lost { last - 1 } else { last };
+    let mut hyperedges = vec![];
+    for source in 0..nodes {
+        let many = at.iter().find(|at| at.0 == source).map_or(0, |at| at.1);
+        for index in 0..many {
+            let target = |j: usize| Target {
+                weight: ((index * 31 + j * 17) % 11) as u32,
+                node: if j == 0 {
+                    last
+                } else {
+                    (source + 7 * j) % nodes
+                },
+            };
+            let targets = (0..length).map(target).collect();
+            hyperedges.push(Hyperedge { source, targets });
+        }
+        let one = |weight: usize, node: usize| {
+            let weight = weight as u32;
+            vec![Target { weight, node }]
+        };
+        if heavy && source < ground {
+            let targets = one(1_000 * (nodes - source), ground);
+            hyperedges.push(Hyperedge { source, targets });
+        }
+        let targets = match source {
+            _ if source == ground => vec![],
+            _ if source == last => one(0, last),
+            _ => one(1 + source % 3, source + 1),
+        };
+        hyperedges.push(Hyperedge { source, targets });
+    }
+    let cover = |source: usize| Cover {
+        source,
+        bound: Some(source as u32 % 40),
+        target: (source + 11) % nodes,
+    };
+    let covers = (0..nodes).step_by(13).map(cover).collect();
+    Graph {
+        nodes,
+        hyperedges,
+        covers,
+    }
+}
+
+/// The same graph with its nodes numbered from the other end.
+fn reversed(graph: &Graph) -> Graph {
+    let other = |node: usize| graph.nodes - 1 - node;
+    let target = |target: &Target| Target {
+        weight: target.weight,
+        node: other(target.node),
+    };
+    let hyper = |hyper: &Hyperedge| Hyperedge {
+        source: other(hyper.source),
+        targets: hyper.targets.iter().map(target).collect(),
+    };
+    let cover = |cover: &Cover| Cover {
+        source: other(cover.source),
+        bound: cover.bound,
+        target: other(cover.target),
+    };
+    Graph {
+        nodes: graph.nodes,
+        hyperedges: graph.hyperedges.iter().rev().map(hyper).collect(),
+        covers: graph.covers.iter().rev().map(cover).collect(),
+    }
 }
 
 /// So many cover edges.

@@ -1,70 +1,17 @@
--- `halves::same` meets its contract: the numbers below i are the same.
-use Prim.Native.Nat.{ℕ, _+_, _-_, _≤_, _<_}
-use mathlib.Core.Path.{_≡_, refl}
-use denote.Ref.{now}
+-- `halves::same` meets its contract.
 use native.Mathlib.Omega.{arith}
-use lib.ListN.{getD}
-use borrow.Author.Tests.{not-true, not-false}
-use Rattle.lists.proofs.Tests.{clash}
-use Rattle.halves.proofs.Room.{SameBelow, same-more, same-all}
+use borrow.Author.Needs.{needs}
+use Rattle.halves.proofs.Room.{same-all}
 use Rattle.halves.proofs.same.Statement.{statement}
 use Rattle.halves.proofs.same.Tie as tie
 
-abbrev Inv-loop : tie.InvT-loop
-Inv-loop n lo hi room i₀ i = SameBelow n i room
+between-requires : tie.Need-between-requires
+between-requires c κs = search needs
 
-abbrev μ-loop : tie.MeasureT-loop
-μ-loop n lo hi room i₀ i = hi - i
-
--- the places that the facts below look back to
-abbrev start : tie.Else1 Inv-loop μ-loop → tie.Start Inv-loop μ-loop
-start c = c .before .before .before .before .before .before
-
-loop-holds : tie.Need-loop-holds Inv-loop μ-loop
-loop-holds c = c .before .pre .1 .1 .before
-
-sub-block : tie.Need-sub-block Inv-loop μ-loop
-sub-block c = omega arith
-
-block-requires : tie.Need-block-requires Inv-loop μ-loop
-block-requires c κs = tt
-
-alike-requires : tie.Need-alike-requires Inv-loop μ-loop
-alike-requires c κs = let a = c .before .before .before .before in (omega (arith, a .pre .1 .0), a .pre .0)
-
-returns : tie.Need-returns Inv-loop μ-loop
-returns c = (
-  λ e. clash e refl,
-  λ e all. c .before .alike .ensures .1 (not-true _ (c .if1 .taken)) (λ v h. all _ (omega (arith, c .before .before .block .ensures, c .before .before .before .loop-test .taken))),
-)
-
-add-i : tie.Need-add-i Inv-loop μ-loop
-add-i c = omega arith
-
-loop-less : tie.Need-loop-less Inv-loop μ-loop
-loop-less c = omega arith
-
-loop-again : tie.Need-loop-again Inv-loop μ-loop
-loop-again c =
-    let a = start c .args in
-    let l = c .before .before .before .before .loop in
-    same-more (a .n) (l .i) _ (now (a .room)) (l .inv) (c .before .alike .ensures .0 (not-false _ (c .if1 .left)))
-
-returns-2 : tie.Need-returns-2 Inv-loop μ-loop
-returns-2 c = (λ e. same-all _ (c .before .loop .inv) (c .before .before .before .pre .1 .1) (omega arith), λ e. clash refl e)
+returns : tie.Need-returns
+returns c =
+    let p = c .before .before .pre .1 in
+    (λ e. same-all (c .between .ensures .0 e) (p .1), λ e all. c .between .ensures .1 e (λ v l h. all v (omega (arith, p .0))))
 
 pub same-spec : {M : Type 1} → statement M
-same-spec =
-    tie.close
-    (tie.spec
-    Inv-loop
-    μ-loop
-    loop-holds
-    sub-block
-    block-requires
-    alike-requires
-    returns
-    add-i
-    loop-less
-    loop-again
-    returns-2)
+same-spec = tie.close (tie.spec between-requires returns)

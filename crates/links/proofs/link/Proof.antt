@@ -7,6 +7,7 @@ use lib.ListN.{length}
 use native.Mathlib.Omega.{arith}
 use borrow.Author.Needs.{needs}
 use Rattle.wire.specs.Layout.{items, end, Sound}
+use Rattle.wire.proofs.Bytes.{number-below}
 use Rattle.wire.proofs.Layouts.{sound-more}
 use Rattle.graph.specs.Format.{graphHeader, hyperWidth}
 use Rattle.graph.specs.Layouts.{targetLayout, hyperLayout, TargetOk}
@@ -16,49 +17,63 @@ use Rattle.links.proofs.link.Statement.{statement}
 use Rattle.links.proofs.link.Tie as tie
 
 abbrev Inv-loop : tie.InvT-loop
-Inv-loop s n p k place heads₀ links₀ spots₀ i₀ q₀ at₀ heads links spots i q at =
-    Sound (targetLayout s n) i q × (at + i ≡ place + k) × Kept heads₀ links₀ spots₀ heads links spots
+Inv-loop s n p k place heads₀ links₀ spots₀ sources₀ source i₀ q₀ at₀ heads links spots sources i q at =
+    Sound (targetLayout s n) i q × (at + i ≡ place + k) × Kept heads₀ links₀ spots₀ sources₀ heads links spots sources
     × ((middle j : ℕ) → p ≡ end (hyperLayout s n) j graphHeader
-    → Linked s n middle (j + 1) (items (targetLayout s n) k (p + hyperWidth)) 0 place heads₀ links₀ spots₀
-    → Linked s n middle (j + 1) (items (targetLayout s n) i q) 0 at heads links spots)
+    → Linked s n middle (j + 1) (items (targetLayout s n) k (p + hyperWidth)) 0 place heads₀ links₀ spots₀ sources₀
+    → Linked s n middle (j + 1) (items (targetLayout s n) i q) 0 at heads links spots sources)
 
 abbrev μ-loop : tie.MeasureT-loop
-μ-loop s n p k place heads₀ links₀ spots₀ i₀ q₀ at₀ heads links spots i q at = i
+μ-loop s n p k place heads₀ links₀ spots₀ sources₀ source i₀ q₀ at₀ heads links spots sources i q at = i
 
--- the call, from where the loop begins, and from its test
-abbrev begun : tie.After-slice-known3 Inv-loop μ-loop → tie.Start Inv-loop μ-loop
-begun c = c .before .before .before .before
+-- the message, and the call, from where the source is read; and this and the call, from the loop's test
+abbrev message : tie.After-slice-known4 Inv-loop μ-loop → tie.After-shared-slice-known Inv-loop μ-loop
+message c = c .before .before .before .before
+
+abbrev begun : tie.After-slice-known4 Inv-loop μ-loop → tie.Start Inv-loop μ-loop
+begun c = message c .before
+
+abbrev read : tie.In-loop Inv-loop μ-loop → tie.After-number-at Inv-loop μ-loop
+read c = c .before .before
 
 abbrev start : tie.In-loop Inv-loop μ-loop → tie.Start Inv-loop μ-loop
-start c = begun (c .before .before)
+start c = begun (read c .before)
+
+number-at-requires : tie.Need-number-at-requires Inv-loop μ-loop
+number-at-requires c κs = omega (arith, begun c .pre .1 .0)
+
+cast-source : tie.Need-cast-source Inv-loop μ-loop
+cast-source c =
+    let m = message (c .before) in
+    omega (arith, c .number-at .ensures, number-below 2 (now (m .before .args .s)) (m .before .args .p) (λ i. omega (arith, m .shared-slice-known .given i)))
 
 add-q : tie.Need-add-q Inv-loop μ-loop
-add-q c = omega (arith, begun c .pre .1 .0)
+add-q c = omega (arith, begun (c .before) .pre .1 .0)
 
 loop-holds : tie.Need-loop-holds Inv-loop μ-loop
-loop-holds c = (begun c .pre .0, omega arith, kept-none, λ middle j e d. d)
+loop-holds c = (begun (c .before) .pre .0, omega arith, kept-none, λ middle j e d. d)
 
 -- the next target is sound, and there is a place for it
 here : (c : tie.In-loop Inv-loop μ-loop) → TargetOk (now (start c .args .s)) (start c .args .n) (c .before .loop .q)
 here c = sound-more _ (c .loop-test .taken) (c .before .loop .inv .0) .0
 
-long : (c : tie.In-loop Inv-loop μ-loop) → let l = c .before .loop in Long (start c .args .n) (l .heads) (l .links) (l .spots)
+long : (c : tie.In-loop Inv-loop μ-loop) → let l = c .before .loop in Long (start c .args .n) (l .heads) (l .links) (l .spots) (l .sources)
 long c = kept-long (c .before .loop .inv .2) (start c .pre .1 .1 .0)
 
 free : (c : tie.In-loop Inv-loop μ-loop) → (c .before .loop .at < length (c .before .loop .links)) × (length (c .before .loop .links) ≤ 65535)
 free c = (omega (arith, c .loop-test .taken, c .before .loop .inv .1, start c .pre .1 .1 .1 .1, c .before .loop .inv .2 .links-long), long c .short)
 
-named : (c : tie.After-number-at Inv-loop μ-loop) → c .number-at .result < start (c .before) .args .n
-named c = omega (arith, c .number-at .ensures, here (c .before) .named)
+named : (c : tie.After-number-at2 Inv-loop μ-loop) → c .number-at2 .result < start (c .before) .args .n
+named c = omega (arith, c .number-at2 .ensures, here (c .before) .named)
 
-in-heads : (c : tie.After-number-at Inv-loop μ-loop) → c .number-at .result < length (c .before .before .loop .heads)
+in-heads : (c : tie.After-number-at2 Inv-loop μ-loop) → c .number-at2 .result < length (c .before .before .loop .heads)
 in-heads c = omega (arith, named c, long (c .before) .nodes)
 
 add-number-at : tie.Need-add-number-at Inv-loop μ-loop
 add-number-at c = omega (arith, here c .inside)
 
-number-at-requires : tie.Need-number-at-requires Inv-loop μ-loop
-number-at-requires c κs = omega (arith, here c .inside)
+number-at-requires-2 : tie.Need-number-at-requires-2 Inv-loop μ-loop
+number-at-requires-2 c κs = omega (arith, here c .inside)
 
 cast-v : tie.Need-cast-v Inv-loop μ-loop
 cast-v c = search needs
@@ -73,8 +88,11 @@ same-length-2 c = c .before .before .before .loop .inv .2 .links-long
 same-length-3 : tie.Need-same-length-3 Inv-loop μ-loop
 same-length-3 c = c .before .before .before .loop .inv .2 .spots-long
 
+same-length-4 : tie.Need-same-length-4 Inv-loop μ-loop
+same-length-4 c = c .before .before .before .loop .inv .2 .sources-long
+
 returns : tie.Need-returns Inv-loop μ-loop
-returns c = absurd (omega (arith, c .if1 .taken, c .before .number-at .ensures, here (c .before .before) .named))
+returns c = absurd (omega (arith, c .if1 .taken, c .before .number-at2 .ensures, here (c .before .before) .named))
 
 mul-head : tie.Need-mul-head Inv-loop μ-loop
 mul-head c = omega (arith, in-heads (c .before))
@@ -96,6 +114,12 @@ mul-spots c = omega (arith, free (c .before .before .before))
 
 slice-write-spots : tie.Need-slice-write-spots Inv-loop μ-loop
 slice-write-spots c = let t = c .before .before .before in omega (arith, free t, long t .same)
+
+mul-sources : tie.Need-mul-sources Inv-loop μ-loop
+mul-sources c = omega (arith, free (c .before .before .before))
+
+slice-write-sources : tie.Need-slice-write-sources Inv-loop μ-loop
+slice-write-sources c = let t = c .before .before .before in omega (arith, free t, long t .also)
 
 add-at : tie.Need-add-at Inv-loop μ-loop
 add-at c = omega (arith, free (c .before .before .before))
@@ -124,26 +148,29 @@ loop-again c =
     let l = t .before .loop in (
       sound-more _ (t .loop-test .taken) (l .inv .0) .1,
       omega (arith, t .loop-test .taken, l .inv .1),
-      kept-set (l .inv .2) _ _ _ _ _,
-      λ middle j e d. linked-turn _ _ (l .inv .3 middle j e d) j refl (t .loop-test .taken) (free t .0) _ (c .before .before .number-at .ensures) (named (c .before .before)) _ e,
+      kept-set (l .inv .2) _ _ _ _ _ _,
+      λ middle j e d. linked-turn _ _ (l .inv .3 middle j e d) j refl (t .loop-test .taken) (free t .0) _ (c .before .before .number-at2 .ensures) (named (c .before .before)) _ e _ (read t .number-at .ensures),
     )
 
-same-length-4 : tie.Need-same-length-4 Inv-loop μ-loop
-same-length-4 c = c .before .loop .inv .2 .heads-long
-
 same-length-5 : tie.Need-same-length-5 Inv-loop μ-loop
-same-length-5 c = c .before .loop .inv .2 .links-long
+same-length-5 c = c .before .loop .inv .2 .heads-long
 
 same-length-6 : tie.Need-same-length-6 Inv-loop μ-loop
-same-length-6 c = c .before .loop .inv .2 .spots-long
+same-length-6 c = c .before .loop .inv .2 .links-long
+
+same-length-7 : tie.Need-same-length-7 Inv-loop μ-loop
+same-length-7 c = c .before .loop .inv .2 .spots-long
+
+same-length-8 : tie.Need-same-length-8 Inv-loop μ-loop
+same-length-8 c = c .before .loop .inv .2 .sources-long
 
 returns-2 : tie.Need-returns-2 Inv-loop μ-loop
 returns-2 c =
     let l = c .before .loop in
-    let a = begun (c .before .before) .args in
+    let a = begun (c .before .before .before) .args in
     let all : l .at ≡ a .place + a .k = omega (arith, l .inv .1) in (
       all,
-      λ middle j e d. subst (λ (places : ℕ). Linked (now (a .s)) (a .n) middle (j + 1) [] 0 places (l .heads) (l .links) (l .spots)) all (linked-end _ _ (l .inv .3 middle j e d) (omega arith)),
+      λ middle j e d. subst (λ (places : ℕ). Linked (now (a .s)) (a .n) middle (j + 1) [] 0 places (l .heads) (l .links) (l .spots) (l .sources)) all (linked-end _ _ (l .inv .3 middle j e d) (omega arith)),
     )
 
 pub link-spec : {M : Type 1} → statement M
@@ -152,14 +179,17 @@ link-spec =
     (tie.spec
     Inv-loop
     μ-loop
+    number-at-requires
+    cast-source
     add-q
     loop-holds
     add-number-at
-    number-at-requires
+    number-at-requires-2
     cast-v
     same-length
     same-length-2
     same-length-3
+    same-length-4
     returns
     mul-head
     slice-read-head
@@ -168,6 +198,8 @@ link-spec =
     cast-spots
     mul-spots
     slice-write-spots
+    mul-sources
+    slice-write-sources
     add-at
     cast-heads
     mul-heads
@@ -176,7 +208,8 @@ link-spec =
     sub-i
     loop-less
     loop-again
-    same-length-4
     same-length-5
     same-length-6
+    same-length-7
+    same-length-8
     returns-2)

@@ -7,6 +7,7 @@ use lib.ListN.{length}
 use native.Mathlib.Omega.{arith}
 use borrow.Author.Needs.{needs}
 use Rattle.wire.specs.Bytes.{number}
+use Rattle.wire.proofs.Bytes.{number-below}
 use Rattle.wire.proofs.Layouts.{end-none}
 use Rattle.wire.proofs.Stride.{end-wide}
 use Rattle.wire.proofs.Parts.{end-next, sound-at}
@@ -18,19 +19,28 @@ use Rattle.links.proofs.link_covers.Statement.{statement}
 use Rattle.links.proofs.link_covers.Tie as tie
 
 abbrev Inv-loop : tie.InvT-loop
-Inv-loop s n h c middle place heads₀ links₀ spots₀ j₀ p₀ at₀ heads links spots j p at =
-    (j ≤ c) × (at ≡ place + j) × (p ≡ coverAt s n middle j) × Linked s n middle h [] j at heads links spots
-    × Kept heads₀ links₀ spots₀ heads links spots
+Inv-loop s n h c middle place heads₀ links₀ spots₀ sources₀ j₀ p₀ at₀ heads links spots sources j p at =
+    (j ≤ c) × (at ≡ place + j) × (p ≡ coverAt s n middle j) × Linked s n middle h [] j at heads links spots sources
+    × Kept heads₀ links₀ spots₀ sources₀ heads links spots sources
 
 abbrev μ-loop : tie.MeasureT-loop
-μ-loop s n h c middle place heads₀ links₀ spots₀ j₀ p₀ at₀ heads links spots j p at = c - j
+μ-loop s n h c middle place heads₀ links₀ spots₀ sources₀ j₀ p₀ at₀ heads links spots sources j p at = c - j
 
--- the call, from where the loop begins, and from its test
-abbrev begun : tie.After-slice-known3 Inv-loop μ-loop → tie.Start Inv-loop μ-loop
-begun c = c .before .before .before .before
+-- the message, and the call, from where the loop begins, and from its test; and the test, from where the source is read
+abbrev opened : tie.After-slice-known4 Inv-loop μ-loop → tie.After-shared-slice-known Inv-loop μ-loop
+opened c = c .before .before .before .before
+
+abbrev begun : tie.After-slice-known4 Inv-loop μ-loop → tie.Start Inv-loop μ-loop
+begun c = opened c .before
+
+abbrev message : tie.In-loop Inv-loop μ-loop → tie.After-shared-slice-known Inv-loop μ-loop
+message c = opened (c .before .before)
 
 abbrev start : tie.In-loop Inv-loop μ-loop → tie.Start Inv-loop μ-loop
-start c = begun (c .before .before)
+start c = message c .before
+
+abbrev turn : tie.After-number-at2 Inv-loop μ-loop → tie.In-loop Inv-loop μ-loop
+turn c = c .before .before .before
 
 loop-holds : tie.Need-loop-holds Inv-loop μ-loop
 loop-holds c = (omega arith, omega arith, sym (end-none _ 0 _ refl), begun c .pre .1 .1, kept-none)
@@ -88,38 +98,52 @@ mul-spots c = omega (arith, free (c .before .before))
 slice-write-spots : tie.Need-slice-write-spots Inv-loop μ-loop
 slice-write-spots c = let t = c .before .before in omega (arith, free t, t .before .loop .inv .3 .long .same)
 
+number-at-requires-2 : tie.Need-number-at-requires-2 Inv-loop μ-loop
+number-at-requires-2 c κs = omega (arith, here (c .before .before) .inside)
+
+cast-sources : tie.Need-cast-sources Inv-loop μ-loop
+cast-sources c =
+    let m = message (turn c) in
+    omega (arith, c .number-at2 .ensures, number-below 2 (now (m .before .args .s)) (turn c .before .loop .p) (λ i. omega (arith, m .shared-slice-known .given i)))
+
+mul-sources : tie.Need-mul-sources Inv-loop μ-loop
+mul-sources c = omega (arith, free (turn c))
+
+slice-write-sources : tie.Need-slice-write-sources Inv-loop μ-loop
+slice-write-sources c = omega (arith, free (turn c), turn c .before .loop .inv .3 .long .also)
+
 add-at : tie.Need-add-at Inv-loop μ-loop
-add-at c = omega (arith, free (c .before .before))
+add-at c = omega (arith, free (turn c))
 
 cast-heads : tie.Need-cast-heads Inv-loop μ-loop
-cast-heads c = omega (arith, free (c .before .before))
+cast-heads c = omega (arith, free (turn c))
 
 mul-heads : tie.Need-mul-heads Inv-loop μ-loop
-mul-heads c = omega (arith, in-heads (c .before))
+mul-heads c = omega (arith, in-heads (c .before .before))
 
 slice-write-heads : tie.Need-slice-write-heads Inv-loop μ-loop
-slice-write-heads c = omega (arith, in-heads (c .before))
+slice-write-heads c = omega (arith, in-heads (c .before .before))
 
 add-p : tie.Need-add-p Inv-loop μ-loop
-add-p c = omega (arith, low (c .before .before))
+add-p c = omega (arith, low (turn c))
 
 add-j : tie.Need-add-j Inv-loop μ-loop
-add-j c = let t = c .before .before in omega (arith, t .loop-test .taken, start t .fits .c)
+add-j c = omega (arith, turn c .loop-test .taken, start (turn c) .fits .c)
 
 loop-less : tie.Need-loop-less Inv-loop μ-loop
-loop-less c = omega (arith, c .before .before .loop-test .taken)
+loop-less c = omega (arith, turn c .loop-test .taken)
 
 loop-again : tie.Need-loop-again Inv-loop μ-loop
 loop-again c =
-    let t = c .before .before in
+    let t = turn c in
     let a = start t .args in
     let l = t .before .loop in
     let L = coverLayout (now (a .s)) (a .n) in (
       omega (arith, t .loop-test .taken),
       omega (arith, l .inv .1),
       ap (L .next) (l .inv .2) ∙ sym (end-next L (l .j) (a .middle)),
-      linked-cover (l .inv .3) (free t .0) _ (c .before .number-at .ensures ∙ ap (λ (p : ℕ). number 2 (now (a .s)) (p + coverTargetAt)) (l .inv .2)) (named (c .before)) _ (l .inv .2),
-      kept-set (l .inv .4) _ _ _ _ _,
+      linked-cover (l .inv .3) (free t .0) _ (c .before .before .number-at .ensures ∙ ap (λ (p : ℕ). number 2 (now (a .s)) (p + coverTargetAt)) (l .inv .2)) (named (c .before .before)) _ (l .inv .2) _ (c .number-at2 .ensures),
+      kept-set (l .inv .4) _ _ _ _ _ _,
     )
 
 same-length : tie.Need-same-length Inv-loop μ-loop
@@ -130,6 +154,9 @@ same-length-2 c = c .before .loop .inv .4 .links-long
 
 same-length-3 : tie.Need-same-length-3 Inv-loop μ-loop
 same-length-3 c = c .before .loop .inv .4 .spots-long
+
+same-length-4 : tie.Need-same-length-4 Inv-loop μ-loop
+same-length-4 c = c .before .loop .inv .4 .sources-long
 
 returns : tie.Need-returns Inv-loop μ-loop
 returns c =
@@ -155,6 +182,10 @@ link-covers-spec =
     cast-spots
     mul-spots
     slice-write-spots
+    number-at-requires-2
+    cast-sources
+    mul-sources
+    slice-write-sources
     add-at
     cast-heads
     mul-heads
@@ -166,4 +197,5 @@ link-covers-spec =
     same-length
     same-length-2
     same-length-3
+    same-length-4
     returns)

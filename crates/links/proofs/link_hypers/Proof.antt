@@ -18,31 +18,37 @@ use Rattle.links.proofs.link_hypers.Statement.{statement}
 use Rattle.links.proofs.link_hypers.Tie as tie
 
 abbrev Inv-loop : tie.InvT-loop
-Inv-loop s n h middle heads₀ links₀ spots₀ j₀ p₀ place₀ last₀ stride₀ heads links spots j p place last stride =
-    (j ≤ h) × (p ≡ hyperAt s n j) × (p ≡ graphHeader + j * hyperWidth + place * targetWidth) × Linked s n middle j [] 0 place heads links spots
-    × (stride ≡ hyperWidth + last * targetWidth) × Kept heads₀ links₀ spots₀ heads links spots
+Inv-loop s n h middle heads₀ links₀ spots₀ sources₀ j₀ p₀ place₀ last₀ stride₀ heads links spots sources j p place last stride =
+    (j ≤ h) × (p ≡ hyperAt s n j) × (p ≡ graphHeader + j * hyperWidth + place * targetWidth) × Linked s n middle j [] 0 place heads links spots sources
+    × (stride ≡ hyperWidth + last * targetWidth) × Kept heads₀ links₀ spots₀ sources₀ heads links spots sources
 
 abbrev μ-loop : tie.MeasureT-loop
-μ-loop s n h middle heads₀ links₀ spots₀ j₀ p₀ place₀ last₀ stride₀ heads links spots j p place last stride = h - j
+μ-loop s n h middle heads₀ links₀ spots₀ sources₀ j₀ p₀ place₀ last₀ stride₀ heads links spots sources j p place last stride = h - j
 
--- the call, from where the loop begins, and from its test; the link, and the count, from behind either arm
-abbrev begun : tie.After-slice-known3 Inv-loop μ-loop → tie.Start Inv-loop μ-loop
-begun c = c .before .before .before .before
+-- the call, from where the loop begins, and from its test; each arm, from where it calls; and the link, and the count, from behind
+abbrev begun : tie.After-slice-known4 Inv-loop μ-loop → tie.Start Inv-loop μ-loop
+begun c = c .before .before .before .before .before
 
 abbrev start : tie.In-loop Inv-loop μ-loop → tie.Start Inv-loop μ-loop
 start c = begun (c .before .before)
 
+abbrev arm : tie.After-link-arg4 Inv-loop μ-loop → tie.Then1 Inv-loop μ-loop
+arm c = c .before .before .before .before
+
 abbrev same : tie.After-link Inv-loop μ-loop → tie.After-number-at Inv-loop μ-loop
-same c = c .before .before .before .before .before
+same c = arm (c .before) .before
 
-abbrev called : tie.After-slice-known6 Inv-loop μ-loop → tie.After-link Inv-loop μ-loop
-called c = c .before .before .before .before .before .before
+abbrev called : tie.After-slice-known8 Inv-loop μ-loop → tie.After-link Inv-loop μ-loop
+called c = c .before .before .before .before .before .before .before .before
 
-abbrev called2 : tie.After-slice-known9 Inv-loop μ-loop → tie.After-link2 Inv-loop μ-loop
-called2 c = c .before .before .before .before .before .before
+abbrev called2 : tie.After-slice-known12 Inv-loop μ-loop → tie.After-link2 Inv-loop μ-loop
+called2 c = c .before .before .before .before .before .before .before .before
+
+abbrev arm2 : tie.After-link-arg8 Inv-loop μ-loop → tie.Else1 Inv-loop μ-loop
+arm2 c = c .before .before .before .before
 
 abbrev other : tie.After-link2 Inv-loop μ-loop → tie.After-number-at Inv-loop μ-loop
-other c = c .before .before .before .before .before
+other c = arm2 (c .before) .before
 
 loop-holds : tie.Need-loop-holds Inv-loop μ-loop
 loop-holds c = (omega arith, sym (end-none _ 0 graphHeader refl), omega arith, begun c .pre .1 .1 .1, refl, kept-none)
@@ -80,14 +86,14 @@ add-j c = omega (arith, c .before .loop-test .taken, start (c .before) .fits .h)
 
 -- what is asked for the targets of the next hyperedge, and what stands behind it, by its count
 asked : (t : tie.In-loop Inv-loop μ-loop) {k : ℕ} → let a = start t .args in let l = t .before .loop in k ≡ number 2 (now (a .s)) (l .p + targetCountAt)
-    → Sound (targetLayout (now (a .s)) (a .n)) k (l .p + hyperWidth) × ((l .p + hyperWidth ≤ length (now (a .s))) × (Long (a .n) (l .heads) (l .links) (l .spots) × ((l .p ≤ 65535) × (l .place + k ≤ length (l .links)))))
+    → Sound (targetLayout (now (a .s)) (a .n)) k (l .p + hyperWidth) × ((l .p + hyperWidth ≤ length (now (a .s))) × (Long (a .n) (l .heads) (l .links) (l .spots) (l .sources) × ((l .p ≤ 65535) × (l .place + k ≤ length (l .links)))))
 asked t is =
     let a = start t in
     let l = t .before .loop .inv in
     (rw is (here t .sound), (omega (arith, here t .inside), (l .3 .long, (omega (arith, far t, a .pre .1 .1 .0 .0), omega (arith, far t, is, l .2, l .5 .links-long, t .loop-test .taken, a .pre .1 .1 .0 .1)))))
 
 opened : (t : tie.In-loop Inv-loop μ-loop) {k : ℕ} → let a = start t .args in let l = t .before .loop in k ≡ number 2 (now (a .s)) (l .p + targetCountAt)
-    → Linked (now (a .s)) (a .n) (a .middle) (l .j + 1) (items (targetLayout (now (a .s)) (a .n)) k (l .p + hyperWidth)) 0 (l .place) (l .heads) (l .links) (l .spots)
+    → Linked (now (a .s)) (a .n) (a .middle) (l .j + 1) (items (targetLayout (now (a .s)) (a .n)) k (l .p + hyperWidth)) 0 (l .place) (l .heads) (l .links) (l .spots) (l .sources)
 opened t is =
     let a = start t .args in
     let l = t .before .loop in
@@ -98,13 +104,13 @@ is-last : (c : tie.Then1 Inv-loop μ-loop) → let a = start (c .before .before)
 is-last c = sym (c .if1 .taken) ∙ c .before .number-at .ensures
 
 link-requires : tie.Need-link-requires Inv-loop μ-loop
-link-requires c κs = let f = c .before .before .before in asked (f .before .before) (is-last f)
+link-requires c κs = let f = arm c in asked (f .before .before) (is-last f)
 
 add-p : tie.Need-add-p Inv-loop μ-loop
 add-p c =
     let k = called c in
     let t = same k .before in
-    omega (arith, far t, is-last (k .before .before .before .before), t .before .loop .inv .4, start t .pre .1 .1 .0 .0)
+    omega (arith, far t, is-last (arm (k .before)), t .before .loop .inv .4, start t .pre .1 .1 .0 .0)
 
 loop-less : tie.Need-loop-less Inv-loop μ-loop
 loop-less c = omega (arith, same (called c) .before .loop-test .taken)
@@ -114,18 +120,19 @@ loop-again c =
     let k = called c in
     let t = same k .before in
     let l = t .before .loop in
-    let is = is-last (k .before .before .before .before) in
-    let stride = l .inv .4 in (
+    let is = is-last (arm (k .before)) in
+    let stride = l .inv .4 in
+    let as-long = k .link .kept .1 .1 .1 .1 .1 in (
       omega (arith, t .loop-test .taken),
       omega (arith, next t, is, stride),
       omega (arith, l .inv .2, k .link .ensures .0, stride),
       rw (k .link .ensures .0) (k .link .ensures .1 (start t .args .middle) (l .j) (l .inv .1) (opened t is)),
       stride,
-      kept-on (l .inv .5) (k .link .kept .1 .1 .1 .1 .1 .0) (k .link .kept .1 .1 .1 .1 .1 .1 .0) (k .link .kept .1 .1 .1 .1 .1 .1 .1 .0),
+      kept-on (l .inv .5) (as-long .0) (as-long .1 .0) (as-long .1 .1 .0) (as-long .1 .1 .1 .0),
     )
 
 link-requires-2 : tie.Need-link-requires-2 Inv-loop μ-loop
-link-requires-2 c κs = let m = c .before .before .before .before in asked (m .before) (m .number-at .ensures)
+link-requires-2 c κs = let m = arm2 c .before in asked (m .before) (m .number-at .ensures)
 
 cast-stride : tie.Need-cast-stride Inv-loop μ-loop
 cast-stride c = search needs
@@ -147,13 +154,14 @@ loop-again-2 c =
     let k = called2 c in
     let t = other k .before in
     let l = t .before .loop in
-    let is = other k .number-at .ensures in (
+    let is = other k .number-at .ensures in
+    let as-long = k .link2 .kept .1 .1 .1 .1 .1 in (
       omega (arith, t .loop-test .taken),
       omega (arith, next t, is),
       omega (arith, l .inv .2, k .link2 .ensures .0),
       rw (k .link2 .ensures .0) (k .link2 .ensures .1 (start t .args .middle) (l .j) (l .inv .1) (opened t is)),
       refl,
-      kept-on (l .inv .5) (k .link2 .kept .1 .1 .1 .1 .1 .0) (k .link2 .kept .1 .1 .1 .1 .1 .1 .0) (k .link2 .kept .1 .1 .1 .1 .1 .1 .1 .0),
+      kept-on (l .inv .5) (as-long .0) (as-long .1 .0) (as-long .1 .1 .0) (as-long .1 .1 .1 .0),
     )
 
 same-length : tie.Need-same-length Inv-loop μ-loop
@@ -164,6 +172,9 @@ same-length-2 c = c .before .loop .inv .5 .links-long
 
 same-length-3 : tie.Need-same-length-3 Inv-loop μ-loop
 same-length-3 c = c .before .loop .inv .5 .spots-long
+
+same-length-4 : tie.Need-same-length-4 Inv-loop μ-loop
+same-length-4 c = c .before .loop .inv .5 .sources-long
 
 returns : tie.Need-returns Inv-loop μ-loop
 returns c =
@@ -196,4 +207,5 @@ link-hypers-spec =
     same-length
     same-length-2
     same-length-3
+    same-length-4
     returns)

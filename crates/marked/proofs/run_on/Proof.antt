@@ -6,52 +6,57 @@ use native.Mathlib.Omega.{arith}
 use lib.ListN.{length}
 use Rattle.wire.specs.Layout.{Sound}
 use Rattle.graph.specs.Layouts.{coverLayout, decoded}
-use Rattle.halves.specs.Room.{Beside}
+use Rattle.notes.specs.Index.{Besides}
 use Rattle.turns.specs.Turns.{AtRound}
 use Rattle.notes.proofs.Noting.{noted-none, covers-none}
 use Rattle.turns.proofs.Loop.{holds-filled, ends-settled, ends-spent, goes-on}
-use Rattle.marked.proofs.Marked.{Marking, upto, there, marked-sound, marked-past, covers-climb, covers-upto, marked-part, marked-beside}
+use Rattle.marked.proofs.Marked.{Marking, marks-stand, longs-stand, took-part, took-besides}
 use Rattle.marked.proofs.run_on.Statement.{statement}
 use Rattle.marked.proofs.run_on.Tie as tie
 
 abbrev Inv-loop : tie.InvT-loop
-Inv-loop s n h c middle budget room₀ first last pos lows highs i₀ lo₀ hi₀ room i lo hi =
-    AtRound (decoded s n h c) budget i room₀ room × ((lo ≤ n) × (hi ≤ n)) × Beside n lo hi room
+Inv-loop s n h c middle budget room₀ first last pos longs lows highs all i₀ span₀ room i span =
+    AtRound (decoded s n h c) budget i room₀ room × Besides n span room
 
 abbrev μ-loop : tie.MeasureT-loop
-μ-loop s n h c middle budget room₀ first last pos lows highs i₀ lo₀ hi₀ room i lo hi = budget - i
+μ-loop s n h c middle budget room₀ first last pos longs lows highs all i₀ span₀ room i span = budget - i
 
--- the places that the facts below look back to
-abbrev start-of-pos : tie.After-pos Inv-loop μ-loop → tie.Start Inv-loop μ-loop
-start-of-pos c = c .before .before .before .before .before
+-- places, from the last to the first: the records taken in, what was published, the turn, the marks of all, what was noted, the call
+abbrev taken : tie.After-slice-known3 Inv-loop μ-loop → tie.After-take-both Inv-loop μ-loop
+taken c = c .before .before
 
-abbrev else2 : tie.After-publish-arg Inv-loop μ-loop → tie.Else2 Inv-loop μ-loop
-else2 c = c .before .before .before .before .before .before
+abbrev published : tie.After-take-both-arg Inv-loop μ-loop → tie.After-advance Inv-loop μ-loop
+published c = c .before .before .before
 
--- places, from the last to the first: the bounds of the sources, the round taken in, what was published, the turn, what was noted, the call
-abbrev bounded : tie.After-farther Inv-loop μ-loop → tie.After-hypers-from Inv-loop μ-loop
-bounded c = c .before .before .before .before .before
+abbrev turning : tie.After-advance-arg Inv-loop μ-loop → tie.Else2 Inv-loop μ-loop
+turning c = c .before .before .before .before .before .before
 
-abbrev taken : tie.After-hypers-from Inv-loop μ-loop → tie.After-next-round Inv-loop μ-loop
-taken c = c .before .before .before
-
-abbrev published : tie.After-next-round-arg Inv-loop μ-loop → tie.After-publish Inv-loop μ-loop
-published c = c .before .before .before .before
-
-abbrev unspent : tie.After-publish Inv-loop μ-loop → tie.Else2 Inv-loop μ-loop
-unspent c = c .before .before .before .before .before .before .before
+abbrev unspent : tie.After-advance Inv-loop μ-loop → tie.Else2 Inv-loop μ-loop
+unspent c = turning (c .before)
 
 abbrev turn : tie.Else2 Inv-loop μ-loop → tie.At-loop Inv-loop μ-loop
 turn c = c .before .before .before .before
 
-abbrev noted : tie.At-loop Inv-loop μ-loop → tie.After-note-hypers Inv-loop μ-loop
-noted c = c .before .before .before .before
+abbrev laid : tie.After-mark-all Inv-loop μ-loop → tie.After-note-covers Inv-loop μ-loop
+laid c = c .before .before .before .before .before .before
+
+abbrev covered : tie.At-loop Inv-loop μ-loop → tie.After-note-covers Inv-loop μ-loop
+covered c = laid (c .before)
+
+abbrev noted : tie.After-note-covers Inv-loop μ-loop → tie.After-note-hypers Inv-loop μ-loop
+noted c = c .before .before .before
 
 abbrev start : tie.After-note-hypers Inv-loop μ-loop → tie.Start Inv-loop μ-loop
 start c = c .before .before .before .before .before .before
 
+abbrev begun : tie.At-loop Inv-loop μ-loop → tie.Start Inv-loop μ-loop
+begun c = start (noted (covered c))
+
+abbrev opened : tie.After-pos Inv-loop μ-loop → tie.Start Inv-loop μ-loop
+opened c = c .before .before .before .before .before
+
 note-hypers-requires : tie.Need-note-hypers-requires Inv-loop μ-loop
-note-hypers-requires c κs = (start-of-pos c .pre .0 .sound .hypers, noted-none _ _)
+note-hypers-requires c κs = (opened c .pre .0 .sound .hypers, noted-none _ _)
 
 -- the cover edges stand behind the hyperedges
 covers-sound : (c : tie.Start Inv-loop μ-loop) → Sound (coverLayout (now (c .args .s)) (c .args .n)) (c .args .c) (c .args .middle)
@@ -60,108 +65,79 @@ covers-sound c = subst (Sound (coverLayout (now (c .args .s)) (c .args .n)) (c .
 note-covers-requires : tie.Need-note-covers-requires Inv-loop μ-loop
 note-covers-requires c κs = (covers-sound (start (c .before .before)), covers-none _ _ _)
 
+mark-all-requires : tie.Need-mark-all-requires Inv-loop μ-loop
+mark-all-requires c κs = tt
+
 -- the room is as long as it was
-long : (c : tie.At-loop Inv-loop μ-loop) → start (noted c) .args .n + start (noted c) .args .n ≤ length (c .loop .room)
-long c = rw (c .loop .inv .0 .same-length) (start (noted c) .pre .1 .1 .0)
+long : (c : tie.At-loop Inv-loop μ-loop) → begun c .args .n + begun c .args .n ≤ length (c .loop .room)
+long c = rw (c .loop .inv .0 .same-length) (begun c .pre .1 .1 .0)
 
 -- what the turn has at hand
-marking : (c : tie.After-publish Inv-loop μ-loop) →
-    let k = noted (turn (unspent c)) in
+marking : (c : tie.After-advance Inv-loop μ-loop) →
+    let v = covered (turn (unspent c)) in
+    let k = noted v in
     let a = start k .args in
     let hypers = k .note-hypers .last .1 .1 .1 in
-    let covers = turn (unspent c) .before .note-covers .last .1 .1 .1 .1 in
+    let covers = v .note-covers .last .1 .1 .1 .1 in
     Marking (now (a .s)) (a .n) (a .h) (a .c) (a .middle) (hypers .0) (hypers .1 .0) (hypers .1 .1 .0) (covers .0) (covers .1 .0)
-    (turn (unspent c) .loop .room) (c .publish .last .1 .1 .1 .1 .1 .1 .1 .1 .0) (c .publish .result)
+    (turn (unspent c) .loop .room) (c .advance .last .1 .1 .1 .1 .1 .1 .1 .1 .0) (c .advance .result) (k .note-hypers .result)
 marking c =
-    let k = noted (turn (unspent c)) in
+    let v = covered (turn (unspent c)) in
+    let k = noted v in
     record {
       ready = start k .pre .0;
       behind = start k .pre .1 .0;
       few = omega (arith, start k .fits .h);
-      noted = k .note-hypers .ensures;
-      noted-covers = turn (unspent c) .before .note-covers .ensures;
-      published = c .publish .ensures;
+      noted = k .note-hypers .ensures .0;
+      longs = k .note-hypers .ensures .1;
+      noted-covers = v .note-covers .ensures;
+      published = c .advance .ensures;
     }
 
 loop-holds : tie.Need-loop-holds Inv-loop μ-loop
-loop-holds c = (start (c .before .before .before) .pre .1 .1 .1, (omega arith, omega arith), record { before = λ v l h. absurd (omega arith); behind = λ v l h. absurd (omega arith) })
+loop-holds c = (
+  start (noted (laid c)) .pre .1 .1 .1,
+  record {
+    in-order = (omega arith, omega arith, omega arith, omega arith);
+    beside = record { before = λ v l h. absurd (omega arith); behind = λ v l h. absurd (omega arith) };
+    among = λ v l h. absurd (omega arith);
+  },
+)
 
-same-requires : tie.Need-same-requires Inv-loop μ-loop
-same-requires c κs = let l = c .before .loop .inv in (long (c .before), (l .1 .1, l .2))
+unchanged-requires : tie.Need-unchanged-requires Inv-loop μ-loop
+unchanged-requires c κs = (long (c .before), c .before .loop .inv .1)
 
-publish-requires : tie.Need-publish-requires Inv-loop μ-loop
-publish-requires c κs = let t = turn (else2 c) in (long t, (t .loop .inv .1, t .loop .inv .2))
+advance-requires : tie.Need-advance-requires Inv-loop μ-loop
+advance-requires c κs = let t = turn (turning c) in (long t, (t .loop .inv .1, t .before .mark-all .ensures))
 
-above-requires : tie.Need-above-requires Inv-loop μ-loop
-above-requires c κs = tt
-
-next-round-requires : tie.Need-next-round-requires Inv-loop μ-loop
-next-round-requires c κs =
+take-both-requires : tie.Need-take-both-requires Inv-loop μ-loop
+take-both-requires c κs =
     let p = published c in
     let t = turn (unspent p) in
-    (marked-sound (marking p) (c .before .above .ensures), (covers-sound (start (noted t)), (covers-upto (marking p), rw (p .publish .ensures .raised .same-length) (long t))))
-
-hypers-from-requires : tie.Need-hypers-from-requires Inv-loop μ-loop
-hypers-from-requires c κs =
-    let p = published (c .before .before .before) in
-    let ready = marking p .ready in
-    (ready .sound .hypers, (ready .hypers-climb, (upto (marking p), there (marking p))))
-
-hypers-to-requires : tie.Need-hypers-to-requires Inv-loop μ-loop
-hypers-to-requires c κs =
-    let r = taken c in
-    let p = published (r .before) in
-    let ready = marking p .ready in
-    (ready .sound .hypers, (ready .hypers-climb, (upto (marking p), marked-past (marking p) (r .before .before .above .ensures) (r .next-round .ensures .0))))
-
-covers-from-requires : tie.Need-covers-from-requires Inv-loop μ-loop
-covers-from-requires c κs =
-    let p = published (taken (c .before) .before) in
-    (covers-sound (start (noted (turn (unspent p)))), (covers-climb (marking p), covers-upto (marking p)))
-
-covers-to-requires : tie.Need-covers-to-requires Inv-loop μ-loop
-covers-to-requires c κs =
-    let p = published (taken (c .before .before) .before) in
-    (covers-sound (start (noted (turn (unspent p)))), (covers-climb (marking p), covers-upto (marking p)))
-
-nearer-requires : tie.Need-nearer-requires Inv-loop μ-loop
-nearer-requires c κs = tt
-
-farther-requires : tie.Need-farther-requires Inv-loop μ-loop
-farther-requires c κs = tt
+    let a = begun t .pre in
+    (a .0, (a .1 .0, (rw (p .advance .ensures .raised .same-length) (long t), (marks-stand (marking p), longs-stand (marking p)))))
 
 -- the budget allows a turn more
-allows : (c : tie.Else2 Inv-loop μ-loop) → turn c .loop .i + 1 ≤ start (noted (turn c)) .args .budget
+allows : (c : tie.Else2 Inv-loop μ-loop) → turn c .loop .i + 1 ≤ begun (turn c) .args .budget
 allows c = omega (arith, turn c .loop .inv .0 .within, c .if2 .left)
 
 add-i : tie.Need-add-i Inv-loop μ-loop
-add-i c = let t = unspent (published (taken (bounded c) .before)) in omega (arith, allows t, start (noted (turn t)) .fits .budget)
+add-i c = let t = unspent (published (taken c .before)) in omega (arith, allows t, begun (turn t) .fits .budget)
 
 loop-less : tie.Need-loop-less Inv-loop μ-loop
-loop-less c = omega (arith, allows (unspent (published (taken (bounded c) .before))))
+loop-less c = omega (arith, allows (unspent (published (taken c .before))))
 
 loop-again : tie.Need-loop-again Inv-loop μ-loop
 unfolding decoded
 loop-again c =
-    let r = taken (bounded c) in
+    let r = taken c in
     let p = published (r .before) in
     let t = unspent p in
     let ready = marking p .ready in
     let w = turn t .loop .inv .0 in
-    let next = goes-on _ (ready .closed) (ready .storable) w (t .before .before .same .ensures .1 (t .before .if1 .left)) (t .if2 .left) (p .publish .ensures .raised) _ (marked-part (marking p) w (r .before .before .above .ensures)) (r .next-round .ensures .1) in
-    let hf = bounded c .hypers-from .ensures in
-    let ht = c .before .before .before .before .hypers-to .ensures in
-    let cf = c .before .before .before .covers-from .ensures in
-    let ct = c .before .before .covers-to .ensures in
-    let near = c .before .nearer .ensures in
-    let far = c .farther .ensures in (
-      next,
-      (omega (arith, near, hf .0), omega (arith, far, ht .0, ct .0)),
-      marked-beside (marking p) w
-          (λ j l h. (omega (arith, near, hf .1 j l h), omega (arith, far, ht .1 j l h)))
-          (λ j l h. (omega (arith, near, cf .1 j l h), omega (arith, far, ct .1 j l h)))
-          next,
-    )
+    let took = r .take-both .ensures in
+    let next = goes-on _ (ready .closed) (ready .storable) w (t .before .before .unchanged .ensures .1 (t .before .if1 .left)) (t .if2 .left) (p .advance .ensures .raised) _ (took-part (marking p) w took) (took .room) in
+    (next, took-besides (marking p) w took next)
 
 same-length : tie.Need-same-length Inv-loop μ-loop
 same-length c = c .before .before .before .loop .inv .0 .same-length
@@ -170,8 +146,8 @@ returns : tie.Need-returns Inv-loop μ-loop
 unfolding decoded
 returns c =
     let t = c .before .before .before in
-    let a = start (noted t) in
-    (ends-settled _ (a .pre .0 .closed) (a .pre .0 .storable) (t .loop .inv .0) (c .before .same .ensures .0 (c .if1 .taken)), holds-filled (a .pre .1 .1 .0) (t .loop .inv .0))
+    let a = begun t in
+    (ends-settled _ (a .pre .0 .closed) (a .pre .0 .storable) (t .loop .inv .0) (c .before .unchanged .ensures .0 (c .if1 .taken)), holds-filled (a .pre .1 .1 .0) (t .loop .inv .0))
 
 same-length-2 : tie.Need-same-length-2 Inv-loop μ-loop
 same-length-2 c = c .before .before .before .before .loop .inv .0 .same-length
@@ -180,8 +156,8 @@ returns-2 : tie.Need-returns-2 Inv-loop μ-loop
 unfolding decoded
 returns-2 c =
     let t = c .before .before .before .before in
-    let a = start (noted t) in
-    (ends-spent _ (a .pre .0 .closed) (a .pre .0 .storable) (t .loop .inv .0) (c .before .before .same .ensures .1 (c .before .if1 .left)) (c .if2 .taken), holds-filled (a .pre .1 .1 .0) (t .loop .inv .0))
+    let a = begun t in
+    (ends-spent _ (a .pre .0 .closed) (a .pre .0 .storable) (t .loop .inv .0) (c .before .before .unchanged .ensures .1 (c .before .if1 .left)) (c .if2 .taken), holds-filled (a .pre .1 .1 .0) (t .loop .inv .0))
 
 pub run-on-spec : {M : Type 1} → statement M
 run-on-spec =
@@ -191,17 +167,11 @@ run-on-spec =
     μ-loop
     note-hypers-requires
     note-covers-requires
+    mark-all-requires
     loop-holds
-    same-requires
-    publish-requires
-    above-requires
-    next-round-requires
-    hypers-from-requires
-    hypers-to-requires
-    covers-from-requires
-    covers-to-requires
-    nearer-requires
-    farther-requires
+    unchanged-requires
+    advance-requires
+    take-both-requires
     add-i
     loop-less
     loop-again

@@ -1,96 +1,42 @@
--- `notes::publish` meets its contract: those below v are brought up.
-use Prim.Native.Nat.{_+_, _-_, _≤_, _<_}
-use mathlib.Core.Path.{_≡_, refl, ap}
-use borrow.Author.Tests.{not-false}
+-- `notes::publish` meets its contract: the first span, then the second.
+use denote.Ref.{now}
 use native.Mathlib.Omega.{arith}
-use lib.ListN.{length}
-use Rattle.notes.specs.Index.{Published}
-use Rattle.notes.proofs.Publishing.{published-begin, published-rest, published-alike}
+use borrow.Author.Needs.{needs}
+use Rattle.notes.proofs.Publishing.{published-begin, published-over, published-rest}
 use Rattle.notes.proofs.publish.Statement.{statement}
 use Rattle.notes.proofs.publish.Tie as tie
 
-abbrev Inv-loop : tie.InvT-loop
-Inv-loop n lo hi first last pos lows highs room₀ m₀ v₀ room m v = (v ≤ n) × Published n v first last pos lows highs room₀ room m
+-- where the first span is brought up, seen from behind the second; and the call
+abbrev first : tie.After-publish-range2 → tie.After-publish-range
+first c = c .before .before .before .before
 
-abbrev μ-loop : tie.MeasureT-loop
-μ-loop n lo hi first last pos lows highs room₀ m₀ v₀ room m v = hi - v
+abbrev start : tie.After-publish-range → tie.Start
+start c = c .before .before .before .before
 
--- the places that the facts below look back to
-abbrev after-block : tie.After-slice-known2 Inv-loop μ-loop → tie.After-block Inv-loop μ-loop
-after-block c = c .before .before .before .before .before .before .before
+none-requires : tie.Need-none-requires
+none-requires c κs = search needs
 
--- the call, from a turn
-abbrev start : tie.At-loop Inv-loop μ-loop → tie.Start Inv-loop μ-loop
-start c = c .before .before .before
+publish-range-requires : tie.Need-publish-range-requires
+publish-range-requires c κs = let p = c .before .before .before .pre in let o = p .1 .in-order in (p .0, (o .0, omega (arith, o)))
 
-none-requires : tie.Need-none-requires Inv-loop μ-loop
-none-requires c κs = tt
+publish-range-requires-2 : tie.Need-publish-range-requires-2
+publish-range-requires-2 c κs =
+    let r = c .before .before .before in
+    let p = start r .pre in
+    let o = p .1 .in-order in
+    (rw (r .publish-range .kept .1 .1 .1 .1 .1 .1 .1 .1 .1 .0) (p .0), (o .2, o .3))
 
-loop-holds : tie.Need-loop-holds Inv-loop μ-loop
-loop-holds c = let p = c .before .before .pre .1 in (p .0 .0, rw (c .none .ensures) (published-begin (p .0 .0) (p .1)))
+same-length : tie.Need-same-length
+same-length c = search needs
 
--- the room is as long as it was
-long : (c : tie.At-loop Inv-loop μ-loop) → start c .args .n + start c .args .n ≤ length (c .loop .room)
-long c = rw (c .loop .inv .1 .raised .same-length) (start c .pre .0)
-
-sub-block : tie.Need-sub-block Inv-loop μ-loop
-sub-block c = omega arith
-
-block-requires : tie.Need-block-requires Inv-loop μ-loop
-block-requires c κs = tt
-
-add-v : tie.Need-add-v Inv-loop μ-loop
-add-v c = omega (arith, c .block .ensures)
-
--- a block is not empty, and ends within
-stops : (c : tie.After-block Inv-loop μ-loop) → let l = c .before .before .loop in let a = start (c .before .before) .args in
-    (l .v < l .v + c .block .result) × (l .v + c .block .result ≤ a .hi) × (a .hi ≤ a .n)
-stops c = (omega (arith, c .block .ensures), omega (arith, c .block .ensures), start (c .before .before) .pre .1 .0 .1)
-
-alike-requires : tie.Need-alike-requires Inv-loop μ-loop
-alike-requires c κs = (omega (arith, stops (c .before)), long (c .before .before .before))
-
-publish-block-requires : tie.Need-publish-block-requires Inv-loop μ-loop
-publish-block-requires c κs = let b = c .before .before .before .before in (long (b .before .before), (omega arith, omega (arith, stops b)))
-
-loop-less : tie.Need-loop-less Inv-loop μ-loop
-loop-less c = let b = after-block c in omega (arith, stops b)
-
-loop-again : tie.Need-loop-again Inv-loop μ-loop
-loop-again c =
-    let b = after-block c in
-    (omega (arith, stops b), c .before .before .publish-block .ensures _ (start (b .before .before) .pre .0) (b .before .before .loop .inv .1))
-
-loop-less-2 : tie.Need-loop-less-2 Inv-loop μ-loop
-loop-less-2 c = omega (arith, stops (c .before .before .before))
-
-loop-again-2 : tie.Need-loop-again-2 Inv-loop μ-loop
-loop-again-2 c =
-    let b = c .before .before .before in
-    (omega (arith, stops b), published-alike (b .before .before .loop .inv .1) _ (c .before .alike .ensures .0 (not-false _ (c .if1 .left))))
-
-same-length : tie.Need-same-length Inv-loop μ-loop
-same-length c = c .before .loop .inv .1 .raised .same-length
-
-returns : tie.Need-returns Inv-loop μ-loop
-returns c = published-rest (omega arith) (c .before .loop .inv .0) (start (c .before) .pre .1 .1) (c .before .loop .inv .1)
+returns : tie.Need-returns
+returns c =
+    let r = c .before .before in
+    let f = first r in
+    let p = start f .pre in
+    published-rest (p .1) (r .publish-range2 .ensures _ (p .0) (published-over (p .1) (f .publish-range .ensures _ (p .0) (published-begin (p .1) (f .before .before .none .ensures)))))
 
 pub publish-spec : {M : Type 1} → statement M
 publish-spec =
     tie.close
-    (tie.spec
-    Inv-loop
-    μ-loop
-    none-requires
-    loop-holds
-    sub-block
-    block-requires
-    add-v
-    alike-requires
-    publish-block-requires
-    loop-less
-    loop-again
-    loop-less-2
-    loop-again-2
-    same-length
-    returns)
+    (tie.spec none-requires publish-range-requires publish-range-requires-2 same-length returns)

@@ -1,16 +1,19 @@
 -- `targets::below_infinite` meets its contract.
-use Prim.Native.Nat.{ℕ, _+_, _<_, min}
-use mathlib.Core.Path.{_≡_, ap, _∙_}
+use Prim.Native.Nat.{ℕ, _+_, _-_, _<_, min}
+use mathlib.Core.Path.{_≡_, ap}
 use denote.Ref.{now}
 use native.Mathlib.Omega.{arith}
 use lib.ListN.{getD}
 use borrow.Author.Needs.{needs}
-use Rattle.value.specs.Value.{plus}
-use Rattle.value.specs.Stored.{stored, infinite}
+use Rattle.value.specs.Stored.{infinite}
 use Rattle.value.proofs.Stored.{stored-plus}
 use Rattle.wire.specs.Bytes.{number}
+use Rattle.wire.specs.Layout.{items}
 use Rattle.graph.specs.Format.{nodeAt}
+use Rattle.graph.specs.Layouts.{targetLayout}
 use Rattle.halves.specs.Held.{held}
+use Rattle.targets.specs.Below.{below}
+use Rattle.targets.proofs.Below.{below-one}
 use Rattle.targets.proofs.below_infinite.Statement.{statement}
 use Rattle.targets.proofs.below_infinite.Tie as tie
 
@@ -52,15 +55,15 @@ sub-below c = omega (arith, c .before .shared-slice-known3 .given (named c .numb
 
 -- the sum is stored as it is, or infinite where 64 bits don't hold it
 sum : (c : tie.After-struct-known) → let a = start (named c .before) .args in
-    stored (plus (number 4 (now (a .s)) (a .at)) (held (now (a .x)) (number 2 (now (a .s)) (a .at + nodeAt))))
-    ≡ min (named c .before .number-at .result + getD (now (a .x)) (named c .number-at2 .result) 0) infinite
+    below (held (now (a .x))) (items (targetLayout (now (a .s)) (a .n)) 1 (a .at))
+    ≡ infinite - min (named c .before .number-at .result + getD (now (a .x)) (named c .number-at2 .result) 0) infinite
 sum c =
     let a = start (named c .before) .args in
     let x = now (a .x) in
     let node = number 2 (now (a .s)) (a .at + nodeAt) in
     let stored-sum = stored-plus (number 4 (now (a .s)) (a .at)) (getD x node 0) (omega (arith, c .before .shared-slice-known3 .given node)) in
     let same = ap (λ (v : ℕ). getD x v 0) (named c .number-at2 .ensures) in
-    omega (arith, stored-sum, same, named c .before .number-at .ensures)
+    omega (arith, below-one (now (a .s)) (a .n) (held x) (a .at), stored-sum, same, named c .before .number-at .ensures)
 
 returns : tie.Need-returns
 returns c = omega (arith, sum (c .before), c .if1 .taken, c .before .before .shared-slice-known3 .given (named (c .before) .number-at2 .result))

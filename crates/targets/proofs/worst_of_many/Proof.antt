@@ -1,106 +1,94 @@
--- `targets::worst_of_many` meets its contract: how far the greatest so far is below infinity, and the targets left, make the whole.
-use Prim.Native.Nat.{ℕ, _+_, _-_, _≤_, _<_, max}
-use mathlib.Core.Path.{_≡_, _∙_}
+-- `targets::worst_of_many` meets its contract: the least over the fours, and over those left, is how far the greatest stays below infinity.
+use Prim.Native.Nat.{ℕ, _+_, _-_, _*_, _/_, min}
+use mathlib.Core.List.{List}
+use mathlib.Core.Path.{_≡_, refl, ap, _∙_}
 use denote.Ref.{now}
 use native.Mathlib.Omega.{arith}
-use Rattle.value.specs.Value.{plus}
-use Rattle.value.specs.Stored.{stored, infinite}
-use Rattle.value.proofs.Stored.{stored-le}
-use Rattle.wire.specs.Bytes.{number}
+use Rattle.value.specs.Stored.{infinite}
 use Rattle.wire.specs.Layout.{items, Sound}
-use Rattle.wire.proofs.Layouts.{sound-more}
-use Rattle.rules.specs.Rounds as rules
-use Rattle.graph.specs.Format.{nodeAt, targetWidth}
-use Rattle.graph.specs.Layouts.{targetLayout, TargetOk}
-use Rattle.graph.proofs.Worst.{worst-turn, worst-end}
+use Rattle.rules.specs.Graph.{Target}
+use Rattle.graph.specs.Format.{targetWidth}
+use Rattle.graph.specs.Layouts.{targetLayout}
 use Rattle.halves.specs.Held.{held}
+use Rattle.targets.specs.Below.{below}
+use Rattle.targets.proofs.Below.{sound-inside, sound-parts, below-parts, below-worst, below-le}
 use Rattle.targets.proofs.worst_of_many.Statement.{statement}
 use Rattle.targets.proofs.worst_of_many.Tie as tie
 
-abbrev Inv-loop : tie.InvT-loop
-Inv-loop s n x k at least₀ i₀ p₀ least i p =
-    let L = targetLayout s n in
-    Sound L i p × (least ≤ infinite) × (max (infinite - least) (stored (rules.worst (held x) (items L i p))) ≡ stored (rules.worst (held x) (items L k at)))
+-- the call, seen from its end
+abbrev start : tie.After-struct-known → tie.Start
+start c = c .before .before .before .before .before .before
 
-abbrev μ-loop : tie.MeasureT-loop
-μ-loop s n x k at least₀ i₀ p₀ least i p = i
+-- the targets
+abbrev given : tie.Start → List Target
+given c = items (targetLayout (now (c .args .s)) (c .args .n)) (c .args .k) (c .args .at)
 
-loop-holds : tie.Need-loop-holds Inv-loop μ-loop
-loop-holds c = (c .before .before .pre .0, omega arith, omega arith)
+-- the fours are sound, and so are the targets left
+sound : (c : tie.Start) → let a = c .args in let L = targetLayout (now (a .s)) (a .n) in
+    Sound L (a .k / 4 * 4) (a .at) × Sound L (a .k - a .k / 4 * 4) (a .at + a .k / 4 * (4 * targetWidth))
+sound c = let a = c .args in sound-parts _ _ (a .k / 4 * 4) (a .k) (a .at) (a .k - a .k / 4 * 4) (a .at + a .k / 4 * (4 * targetWidth)) (omega arith) (omega arith) (c .pre .0)
 
--- the call, from the loop's test
-abbrev start : tie.In-loop Inv-loop μ-loop → tie.Start Inv-loop μ-loop
-start c = c .before .before .before .before
+-- the whole, from both
+whole : (c : tie.Start) → let a = c .args in let L = targetLayout (now (a .s)) (a .n) in let x = held (now (a .x)) in
+    below x (given c) ≡ min (below x (items L (a .k / 4 * 4) (a .at))) (below x (items L (a .k - a .k / 4 * 4) (a .at + a .k / 4 * (4 * targetWidth))))
+whole c =
+    let a = c .args in
+    below-parts (now (a .s)) (a .n) (a .k / 4 * 4) (a .k) (a .at) (a .k - a .k / 4 * 4) (a .at + a .k / 4 * (4 * targetWidth)) (omega arith) (omega arith) (held (now (a .x)))
 
--- the next target is sound, and so are those behind it
-here : (c : tie.In-loop Inv-loop μ-loop) → let a = start c .args in
-    TargetOk (now (a .s)) (a .n) (c .before .loop .p) × Sound (targetLayout (now (a .s)) (a .n)) (c .before .loop .i - 1) (c .before .loop .p + targetWidth)
-here c = sound-more _ (c .loop-test .taken) (c .before .loop .inv .0)
+cast-left : tie.Need-cast-left
+cast-left c = omega arith
 
-below-infinite-requires : tie.Need-below-infinite-requires Inv-loop μ-loop
-below-infinite-requires c κs = (here c .0, start c .pre .1)
+mul-left : tie.Need-mul-left
+mul-left c = omega arith
 
--- with it, those left make the whole
-turn : (c : tie.After-below-infinite Inv-loop μ-loop) (next : ℕ) → let t = c .before in let a = start t .args in let l = t .before .loop in
-    next ≡ max (infinite - l .least) (infinite - c .below-infinite .result)
-    → max next (stored (rules.worst (held (now (a .x))) (items (targetLayout (now (a .s)) (a .n)) (l .i - 1) (l .p + targetWidth))))
-    ≡ stored (rules.worst (held (now (a .x))) (items (targetLayout (now (a .s)) (a .n)) (a .k) (a .at)))
-turn c next e =
-    let t = c .before in
-    let a = start t .args in
-    let l = t .before .loop in
-    let v = plus (number 4 (now (a .s)) (l .p)) (held (now (a .x)) (number 2 (now (a .s)) (l .p + nodeAt))) in
-    worst-turn (now (a .s)) (a .n) (held (now (a .x))) (l .i) (l .p) (infinite - l .least) next _ (l .inv .2) (t .loop-test .taken) (omega (arith, e, c .below-infinite .ensures, stored-le v))
+add-left : tie.Need-add-left
+add-left c = let b = c .before .before in omega (arith, sound-inside _ _ (b .args .k / 4 * 4) (b .args .at) (sound b .0))
 
-returns : tie.Need-returns Inv-loop μ-loop
+least-of-fours-requires : tie.Need-least-of-fours-requires
+least-of-fours-requires c κs = let b = c .before .before in ((b .args .k / 4, refl, sound b .0), b .pre .1)
+
+-- what the fours give
+fours : (c : tie.After-least-of-fours) → let a = c .before .before .before .args in
+    c .least-of-fours .result ≡ below (held (now (a .x))) (items (targetLayout (now (a .s)) (a .n)) (a .k / 4 * 4) (a .at))
+fours c = c .least-of-fours .ensures (c .before .before .before .args .k / 4) refl
+
+returns : tie.Need-returns
 returns c =
-    let t = c .before .before in
-    let a = start t .args in
-    let whole = rules.worst (held (now (a .x))) (items (targetLayout (now (a .s)) (a .n)) (a .k) (a .at)) in
-    omega (arith, turn (c .before) infinite (omega (arith, c .if1 .taken)), stored-le whole)
+    let b = c .before .before .before .before in
+    omega (arith, below-worst (held (now (b .args .x))) (given b), whole b, fours (c .before), c .if1 .taken)
 
-add-p : tie.Need-add-p Inv-loop μ-loop
-add-p c = omega (arith, here (c .before .before) .0 .inside)
+mul-end : tie.Need-mul-end
+mul-end c = omega arith
 
-sub-i : tie.Need-sub-i Inv-loop μ-loop
-sub-i c = omega arith
+add-end : tie.Need-add-end
+add-end c = let b = c .before .before .before .before in omega (arith, sound-inside _ _ (b .args .k) (b .args .at) (b .pre .0))
 
-loop-less : tie.Need-loop-less Inv-loop μ-loop
-loop-less c = omega arith
+least-with-requires : tie.Need-least-with-requires
+least-with-requires c κs = let b = c .before .before .before .before in ((b .args .k - b .args .k / 4 * 4, omega arith, sound b .1), b .pre .1)
 
-loop-again : tie.Need-loop-again Inv-loop μ-loop
-loop-again c =
-    let judged = c .before .before in
-    (here (judged .before) .1, omega (arith, judged .below-infinite .ensures), turn judged _ (omega (arith, c .if2 .taken)))
+-- what both loops give
+least : (c : tie.After-struct-known) → let a = start c .args in c .before .least-with .result ≡ below (held (now (a .x))) (given (start c))
+least c =
+    let a = start c .args in
+    omega (arith, c .before .least-with .ensures (a .k - a .k / 4 * 4) (omega arith), fours (c .before .before .before), whole (start c))
 
-loop-less-2 : tie.Need-loop-less-2 Inv-loop μ-loop
-loop-less-2 c = omega arith
+sub-most : tie.Need-sub-most
+sub-most c = let b = start c in omega (arith, least c, below-le (held (now (b .args .x))) (given b))
 
-loop-again-2 : tie.Need-loop-again-2 Inv-loop μ-loop
-loop-again-2 c =
-    let judged = c .before .before in
-    (here (judged .before) .1, judged .before .before .loop .inv .1, turn judged _ (omega (arith, c .if2 .left)))
-
-sub-most : tie.Need-sub-most Inv-loop μ-loop
-sub-most c = c .before .before .loop .inv .1
-
-returns-2 : tie.Need-returns-2 Inv-loop μ-loop
-returns-2 c = worst-end _ _ _ _ _ _ _ (c .before .before .loop .inv .2) (omega arith)
+returns-2 : tie.Need-returns-2
+returns-2 c = let b = start c in ap (λ (v : ℕ). infinite - v) (least c) ∙ below-worst (held (now (b .args .x))) (given b)
 
 pub worst-of-many-spec : {M : Type 1} → statement M
 worst-of-many-spec =
     tie.close
     (tie.spec
-    Inv-loop
-    μ-loop
-    loop-holds
-    below-infinite-requires
+    cast-left
+    mul-left
+    add-left
+    least-of-fours-requires
     returns
-    add-p
-    sub-i
-    loop-less
-    loop-again
-    loop-less-2
-    loop-again-2
+    mul-end
+    add-end
+    least-with-requires
     sub-most
     returns-2)

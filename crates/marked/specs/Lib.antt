@@ -1,0 +1,2 @@
+-- Definitions: what a turn takes in.
+pub mod Took

@@ -1,0 +1,2 @@
+-- Definitions: how far what targets give stays below infinity.
+pub mod Below
