@@ -223,7 +223,7 @@ pub struct Span {
     pub hi: usize,
 }
 
-// The same from a node to before another, in blocks of which most are alike.
+// Brings the first half up to the second from a node to before another, in blocks of which most are alike, and marks as `publish_block`.
 fn publish_range(
     n: usize,
     from: usize,
