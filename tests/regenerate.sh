@@ -8,7 +8,7 @@ set -eu
 . "$(dirname "$0")/common.sh"
 
 seed=1
-calls=15000
+calls=16000
 
 [ $# -eq 0 ] || [ "$*" = --write ] || die "usage: regenerate.sh [--write]"
 store=$root/crates/trials

@@ -3,6 +3,7 @@
 --     Judging    the tests of a row's fields, in terms of the row
 --     Using      how a field that is used, or not, is read
 --     Good       what a good reading says of the bytes
+--     Bits       the bits of a number: one more that is set, and all below a place set
 --     Marks      how often rows are operands: marks, and the rule of use
 --     Begun      what a loop over rows has read, and what is left
 --     Accepted   what an accepted message holds, by position
@@ -16,6 +17,7 @@ pub mod Spelt
 pub mod Judging
 pub mod Using
 pub mod Good
+pub mod Bits
 pub mod Marks
 pub mod Begun
 pub mod Accepted

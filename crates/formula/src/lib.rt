@@ -2,7 +2,7 @@
 ghost use mathlib.Core.Path.{_≡_};
 ghost use Prim.Native.Nat.{ℕ, _+_, _≤_, _<_};
 ghost use mathlib.Core.List.{List, [], _∷_, _++_};
-ghost use lib.ListN.{length, getD};
+ghost use lib.ListN.{length};
 ghost use Rattle.lists.specs.Lists.{_∈_};
 ghost use Rattle.syntax.specs.Format.{formulaLength};
 ghost use Rattle.syntax.specs.Message as m;
@@ -91,66 +91,62 @@ fn header(s: &[u8]) -> Checked
     Checked::Formula(f)
 }
 
-// How many uses rows make of others, and how many of them are of a row that was used before: so no pass over the rows is left at the end.
+// How many uses rows make of others, and which rows were used: row i is bit i of one number, which stays in a register.
 struct Uses {
     total: u32,
-    again: u32,
+    rows: u64,
 }
 
-// One use more of a row; the rows used so far are marked.
-fn count_use(marks: &mut [u8], row: u32, uses: Uses) -> Uses
-    requires { ⌜ (row < length (now marks)) × (uses .total < 256) × (uses .again < 65536) ⌝ }
-    ensures { λ r. ⌜ (r .total ≡ uses .total + 1) × (r .again < uses .again + 256) ⌝ }
-    ensures { λ r. ⌜ ((ls : List ℕ) → Marked (now (marks .entry)) uses ls → Marked (now (marks .exit)) r (ls ++ (row ∷ []))) ⌝ }
+// One use more of a row, whose bit is set.
+fn count_use(row: u32, uses: Uses) -> Uses
+    requires { ⌜ (row < 64) × (uses .total < 256) ⌝ }
+    ensures { λ r. ⌜ r .total ≡ uses .total + 1 ⌝ }
+    ensures { λ r. ⌜ ((ls : List ℕ) → Marked uses ls → Marked r (ls ++ (row ∷ []))) ⌝ }
 {
-    let k = row as usize;
-    let before = marks[k];
-    marks[k] = 1;
     Uses {
         total: uses.total + 1,
-        again: uses.again + (before as u32),
+        rows: uses.rows | (1u64 << row),
     }
 }
 
 // The uses that a row makes of others.
-fn count_row(marks: &mut [u8], row: Operands, uses: Uses) -> Uses
-    requires { ⌜ ((l : ℕ) → l ∈ listed row → l < length (now marks)) × (uses .total < 255) × (uses .again < 255) ⌝ }
-    ensures { λ r. ⌜ ((ls : List ℕ) → Marked (now (marks .entry)) uses ls → Marked (now (marks .exit)) r (ls ++ listed row)) ⌝ }
+fn count_row(row: Operands, uses: Uses) -> Uses
+    requires { ⌜ ((l : ℕ) → l ∈ listed row → l < 64) × (uses .total < 255) ⌝ }
+    ensures { λ r. ⌜ ((ls : List ℕ) → Marked uses ls → Marked r (ls ++ listed row)) ⌝ }
 {
     match row {
         Operands::None => uses,
-        Operands::One(l) => count_use(marks, l, uses),
+        Operands::One(l) => count_use(l, uses),
         Operands::Both(l, r) => {
-            let first = count_use(marks, l, uses);
-            count_use(marks, r, first)
+            let first = count_use(l, uses);
+            count_use(r, first)
         }
     }
 }
 
-// The f rows, and how often each is an operand: every one but the last exactly once, so that f - 1 uses are made and none is a second one.
+// The f rows, and how often each is an operand: every one but the last exactly once, so that f - 1 uses are made and these rows are all used.
 // The header has fixed the length, so each row is a part of the message.
-fn all_rows(s: &[u8], p: u32, f: u32, marks: &mut [u8]) -> Checked
+fn all_rows(s: &[u8], p: u32, f: u32) -> Checked
     requires { ⌜ (length (now s) ≡ formulaLength f) × (1 ≤ f) × (f ≤ 64) ⌝ }
-    requires { ⌜ (length (now marks) ≡ 64) × ((i : ℕ) → getD (now marks) i 0 ≡ 0) ⌝ }
     ensures { λ r. ⌜ r ≡ answers.checked (m.readRows (now (s .entry)) p f) ⌝ }
 {
     let mut at = HEADER;
     let mut place = 0;
-    let mut uses = Uses { total: 0, again: 0 };
+    let mut uses = Uses { total: 0, rows: 0 };
     while place < f {
         let end = at + ROW;
         let row = match operands::read_row(&s[at..end], at, p, place) {
             Judged::Fine(row) => row,
             Judged::Refused(e) => return Checked::Refused(e),
         };
-        uses = count_row(marks, row, uses);
+        uses = count_row(row, uses);
         at = end;
         place += 1;
     }
-    if uses.again != 0 {
+    if uses.total + 1 != f {
         return Checked::Refused(MISUSED);
     }
-    if uses.total + 1 == f {
+    if uses.rows + 1 == (1u64 << (f - 1)) {
         return Checked::Formula(f);
     }
     Checked::Refused(MISUSED)
@@ -167,6 +163,5 @@ pub fn check(s: &[u8], p: u32) -> Checked
     let Checked::Formula(f) = head else {
         return head;
     };
-    let mut marks = [0u8; 64];
-    all_rows(s, p, f, &mut marks)
+    all_rows(s, p, f)
 }

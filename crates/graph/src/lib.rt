@@ -4,9 +4,11 @@ ghost use Prim.Native.Nat.{_+_, _*_, _≤_};
 ghost use lib.ListN.{length};
 ghost use Rattle.wire.specs.Reader.{one, run};
 ghost use Rattle.wire.specs.Step.{step};
+ghost use Rattle.wire.specs.Start.{openedOf};
 ghost use Rattle.graph.specs.Message as m;
 ghost use Rattle.graph.specs.Answers as answers;
-ghost use Rattle.graph.specs.Format.{mostTargets, hyperWidth, targetWidth};
+ghost use Rattle.graph.specs.Names.{targetNamed, allNamed, pastFours, fourWidth, coversInOrder, coversToEnd};
+ghost use Rattle.graph.specs.Format.{nodesCount, mostTargets, hyperWidth, nodeAt, targetWidth};
 use refusal::Fault;
 use refusal::Refusal;
 use wire::Count;
@@ -65,10 +67,12 @@ pub const TARGET_COUNT_AT: usize = 2;
 
 pub const HYPER: usize = TARGET_COUNT_AT + 2;
 
-// Where the node of a target stands, and how wide it is.
+// Where the node of a target stands, how wide a target is, and how wide four are.
 pub const NODE_AT: usize = 4;
 
 pub const TARGET: usize = NODE_AT + 2;
+
+const FOUR: usize = 4 * TARGET;
 
 // Where the bound and the target of a cover edge stand, and how wide it is.
 pub const COVER_BOUND_AT: usize = 2;
@@ -128,33 +132,78 @@ fn target(s: &[u8], n: u32, st: State) -> Step
     })
 }
 
-// k targets, whose bytes fit, two in a turn. The loop moves the position, so what stands behind them need not wait for their count.
+// Whether the target here names a node. It is read with the two bytes behind it, for the same reason as a target in `wire::in_order`.
+fn named(s: &[u8], n: u32, at: usize) -> bool
+    requires { ⌜ (n ≤ nodesCount .most) × (at + nodeAt + 4 ≤ length (now s)) ⌝ }
+    ensures { λ r. ⌜ r ≡ targetNamed (now (s .entry)) n at ⌝ }
+{
+    let node_at = at + NODE_AT;
+    wire::number_at(s, node_at, Width::Four) < n * wire::TWO_MORE
+}
+
+// Whether four targets do. The last is read alone, since nothing need stand behind it.
+fn four_named(s: &[u8], n: u32, at: usize) -> bool
+    requires { ⌜ (n ≤ nodesCount .most) × (at + fourWidth ≤ length (now s)) ⌝ }
+    ensures { λ r. ⌜ r ≡ allNamed (now (s .entry)) n 4 at ⌝ }
+{
+    let second = at + TARGET;
+    let third = second + TARGET;
+    let last = third + TARGET;
+    if !named(s, n, at) {
+        return false;
+    }
+    if !named(s, n, second) {
+        return false;
+    }
+    if !named(s, n, third) {
+        return false;
+    }
+    let node_at = last + NODE_AT;
+    wire::number_at(s, node_at, Width::Two) < n
+}
+
+// The position behind all fours of targets that fit, if all of these name nodes, and else the first. The place that was reached is not given
+// back: to have it, the compiler would take a read apart.
+fn past_fours(s: &[u8], n: u32, first: usize, end: usize) -> usize
+    requires { ⌜ (n ≤ nodesCount .most) × (first ≤ end) × (end ≤ length (now s)) ⌝ }
+    ensures { λ r. ⌜ r ≡ pastFours (now (s .entry)) n first end ⌝ }
+{
+    let mut at = first;
+    while at + FOUR <= end {
+        if !four_named(s, n, at) {
+            return first;
+        }
+        at += FOUR;
+    }
+    at
+}
+
+// k targets, whose bytes fit: fours that name nodes are passed, and the rest is taken one by one, which finds the first fault. The loops move
+// the position, so what stands behind them need not wait for their count.
 fn targets(s: &[u8], n: u32, k: u32, first: State) -> Step
-    requires { ⌜ first .at + k * targetWidth ≤ length (now s) ⌝ }
+    requires { ⌜ (first .at + k * targetWidth ≤ length (now s)) × (n ≤ nodesCount .most) ⌝ }
     ensures { λ r. ⌜ r ≡ step (run (m.targets (now (s .entry)) n) k first) ⌝ }
 {
     let end = first.at + (k as usize) * TARGET;
-    let mut st = first;
-    while st.at + TARGET < end {
-        let one = target(s, n, st);
-        let Step::Next(behind) = one else {
-            return one;
-        };
-        let other = target(s, n, behind);
-        let Step::Next(next) = other else {
-            return other;
+    let at = past_fours(s, n, first.at, end);
+    let mut st = State {
+        at,
+        prev: first.prev,
+        seen: first.seen,
+    };
+    while st.at < end {
+        let read = target(s, n, st);
+        let Step::Next(next) = read else {
+            return read;
         };
         st = next;
-    }
-    if st.at < end {
-        return target(s, n, st);
     }
     Step::Next(st)
 }
 
 // One hyperedge: its fixed bytes fit, then its source, then its count, which has what is left of the limit of all targets.
 fn hyper(s: &[u8], n: u32, st: State) -> Step
-    requires { ⌜ (st .at ≤ length (now s)) × (st .seen ≤ mostTargets) × (st .prev ≤ n) ⌝ }
+    requires { ⌜ (st .at ≤ length (now s)) × (st .seen ≤ mostTargets) × (st .prev ≤ n) × (n ≤ nodesCount .most) ⌝ }
     ensures { λ r. ⌜ r ≡ step (one (m.hypers (now (s .entry)) n) st) ⌝ }
 {
     let at = st.at;
@@ -181,7 +230,7 @@ fn hyper(s: &[u8], n: u32, st: State) -> Step
 
 // The targets of a hyperedge of this source and so many targets, which are not too many.
 fn hyper_targets(s: &[u8], n: u32, st: State, source: u32, count: u32) -> Step
-    requires { ⌜ (st .at + hyperWidth ≤ length (now s)) × (st .seen + count ≤ mostTargets) ⌝ }
+    requires { ⌜ (st .at + hyperWidth ≤ length (now s)) × (st .seen + count ≤ mostTargets) × (n ≤ nodesCount .most) ⌝ }
     ensures { λ r. ⌜ r ≡ step (m.afterTargets (now (s .entry)) n st source count) ⌝ }
 {
     let seen = st.seen;
@@ -213,7 +262,7 @@ fn hyper_targets(s: &[u8], n: u32, st: State, source: u32, count: u32) -> Step
 
 // k hyperedges.
 fn hypers(s: &[u8], n: u32, k: u32, first: State) -> Step
-    requires { ⌜ (first .at ≤ length (now s)) × (first .seen ≤ mostTargets) × (first .prev ≤ n) ⌝ }
+    requires { ⌜ (first .at ≤ length (now s)) × (first .seen ≤ mostTargets) × (first .prev ≤ n) × (n ≤ nodesCount .most) ⌝ }
     ensures { λ r. ⌜ r ≡ step (run (m.hypers (now (s .entry)) n) k first) ⌝ }
 {
     let mut st = first;
@@ -277,6 +326,45 @@ fn covers(s: &[u8], n: u32, k: u32, first: State) -> Step
     Step::Next(st)
 }
 
+// Whether the message ends behind c cover edges that are in order.
+fn covers_in_order(s: &[u8], n: u32, c: u32, first: usize) -> bool
+    requires { ⌜ (n ≤ nodesCount .most) × (first ≤ length (now s)) ⌝ }
+    ensures { λ r. ⌜ r ≡ coversInOrder (now (s .entry)) n c first ⌝ }
+{
+    let end = first + (c as usize) * COVER;
+    if s.len() != end {
+        return false;
+    }
+    wire::in_order(s, n, COVER_TARGET_AT, c, first)
+}
+
+// The c cover edges, and nothing left over. They are read one by one only where they are not in order, which finds the first fault.
+fn covers_to_end(s: &[u8], n: u32, c: u32, first: usize) -> Opened
+    requires { ⌜ (n ≤ nodesCount .most) × (first ≤ length (now s)) ⌝ }
+    ensures { λ r. ⌜ r ≡ openedOf (coversToEnd (now (s .entry)) n c first) ⌝ }
+{
+    if covers_in_order(s, n, c, first) {
+        return Opened::Open;
+    }
+    let end = match covers(
+        s,
+        n,
+        c,
+        State {
+            at: first,
+            prev: 0,
+            seen: 0,
+        },
+    ) {
+        Step::Next(st) => st.at,
+        Step::Refused(e) => return Opened::Refused(e),
+    };
+    if end != s.len() {
+        return Opened::Refused(wire::SHORT);
+    }
+    Opened::Open
+}
+
 // The header: its counts, and no target yet.
 pub fn header(s: &[u8]) -> Checked
     ensures { λ r. ⌜ r ≡ answers.counted (m.readHeader (now (s .entry))) ⌝ }
@@ -320,22 +408,8 @@ pub fn check(s: &[u8]) -> Checked
         Step::Next(st) => st,
         Step::Refused(e) => return Checked::Refused(e),
     };
-    let middle = last.at;
-    let end = match covers(
-        s,
-        n,
-        c,
-        State {
-            at: middle,
-            prev: 0,
-            seen: 0,
-        },
-    ) {
-        Step::Next(st) => st.at,
-        Step::Refused(e) => return Checked::Refused(e),
-    };
-    if end != s.len() {
-        return Checked::Refused(wire::SHORT);
+    if let Opened::Refused(e) = covers_to_end(s, n, c, last.at) {
+        return Checked::Refused(e);
     }
     Checked::Graph(n, h, c, last.seen as u32)
 }

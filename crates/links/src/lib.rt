@@ -30,8 +30,8 @@ pub fn fit(n: usize, h: u32, c: u32, middle: usize, most: u16) -> bool
     middle + covers * graph::TARGET <= graph::HEADER + hypers + places * graph::TARGET
 }
 
-// Links the k targets of the hyperedge at position p, from a place on, and gives the place behind them. All of them are nodes: the test
-// of it never fails, but where it stands the compiler reads a node as one number, and not as two bytes.
+// Links the k targets of the hyperedge at position p, from a place on, and gives the place behind them, where the loop over their positions
+// comes to. All of them are nodes: the test of it never fails, but where it stands the compiler reads a node as one number, and not as two bytes.
 fn link(
     s: &[u8],
     n: usize,
@@ -53,10 +53,10 @@ fn link(
         → Linked (now (s .entry)) n middle (j + 1) [] 0 (place + k) (now (heads .exit)) (now (links .exit)) (now (spots .exit)) (now (sources .exit))) ⌝ }
 {
     let source = wire::number_at(s, p, Width::Two) as u16;
-    let mut i = k;
     let mut q = p + graph::HYPER;
+    let end = q + (k as usize) * graph::TARGET;
     let mut at = place;
-    while 0 < i {
+    while q < end {
         let v = wire::number_at(s, q + graph::NODE_AT, Width::Two) as usize;
         if n <= v {
             return at;
@@ -68,13 +68,12 @@ fn link(
         at += 1;
         heads[v] = at as u16;
         q += graph::TARGET;
-        i -= 1;
     }
     at
 }
 
-// Links the targets of h hyperedges, which end at `middle`, and gives how many they are. Where a count is the one before it the next
-// position need not wait for it.
+// Links the targets of h hyperedges, which end at `middle`, and gives how many they are. The next position is told by the places that
+// were linked, and not by the count: so it need not wait for the count to be read.
 fn link_hypers(
     s: &[u8],
     n: usize,
@@ -95,20 +94,12 @@ fn link_hypers(
     let mut j: u32 = 0;
     let mut p: usize = graph::HEADER;
     let mut place: usize = 0;
-    let mut last: u32 = 0;
-    let mut stride: usize = graph::HYPER;
     while j < h {
         let count = wire::number_at(s, p + graph::TARGET_COUNT_AT, Width::Two);
         j += 1;
-        if count == last {
-            place = link(s, n, p, last, place, heads, links, spots, sources);
-            p += stride;
-        } else {
-            place = link(s, n, p, count, place, heads, links, spots, sources);
-            last = count;
-            stride = graph::HYPER + (count as usize) * graph::TARGET;
-            p += stride;
-        }
+        let next = link(s, n, p, count, place, heads, links, spots, sources);
+        p += graph::HYPER + (next - place) * graph::TARGET;
+        place = next;
     }
     place
 }

@@ -1,8 +1,7 @@
 // The check of a model message: the first fault in the paper's order, or the counts of its header.
 ghost use mathlib.Core.Path.{_≡_};
-ghost use Prim.Native.Nat.{ℕ, _+_, _*_, _≤_, _<_, _^_};
+ghost use Prim.Native.Nat.{ℕ, _+_, _*_, _≤_, _^_};
 ghost use lib.ListN.{length};
-ghost use Rattle.wire.specs.Read.{good, source};
 ghost use Rattle.wire.specs.Reader.{one, run};
 ghost use Rattle.wire.specs.Step.{step};
 ghost use Rattle.model.specs.Message as m;
@@ -145,36 +144,17 @@ fn labels(s: &[u8], p: u32, k: u32, first: State) -> Step
     Step::Next(st)
 }
 
-// One transition of a model with n states, whose bytes fit. Most leave the state that the one before them leaves, which exists: then
-// `from` is not judged again, and the rest has a branch of its own, so that the compiler needs one jump for it.
+// One transition of a model with n states, whose bytes fit.
 fn transition(s: &[u8], n: u32, st: State) -> Step
-    requires { ⌜ (st .at + transitionWidth ≤ length (now s)) × (st .prev < n) ⌝ }
+    requires { ⌜ (st .at + transitionWidth ≤ length (now s)) × (st .prev ≤ n) ⌝ }
     ensures { λ r. ⌜ r ≡ step (one (m.transitions (now (s .entry)) n) st) ⌝ }
 {
     let at = st.at;
     let end = at + TRANSITION;
-    let prev = st.prev;
-    let field = wire::read(&s[at..end], 0, Width::Two);
-    let Field::Number(same) = field else {
-        return Step::Refused(field.fault());
-    };
-    if same == prev {
-        return transition_to(s, n, st, prev);
-    }
-    let source = wire::read_source(&s[at..end], 0, n, prev, at);
+    let source = wire::read_source(&s[at..end], 0, n, st.prev, at);
     let Field::Number(from) = source else {
         return Step::Refused(source.fault());
     };
-    transition_to(s, n, st, from)
-}
-
-// The rest of a transition whose `from` is this one.
-fn transition_to(s: &[u8], n: u32, st: State, from: u32) -> Step
-    requires { ⌜ (st .at + transitionWidth ≤ length (now s)) × (source (now s) (st .at) n (st .prev) ≡ good from) ⌝ }
-    ensures { λ r. ⌜ r ≡ step (one (m.transitions (now (s .entry)) n) st) ⌝ }
-{
-    let at = st.at;
-    let end = at + TRANSITION;
     let to_at = at + TO_AT;
     let misnamed = Fault {
         refusal: Refusal::Name,
@@ -193,7 +173,7 @@ fn transition_to(s: &[u8], n: u32, st: State, from: u32) -> Step
 
 // k transitions, whose bytes fit.
 fn transitions(s: &[u8], n: u32, k: u32, first: State) -> Step
-    requires { ⌜ (first .at + k * transitionWidth ≤ length (now s)) × (first .prev < n) ⌝ }
+    requires { ⌜ (first .at + k * transitionWidth ≤ length (now s)) × (first .prev ≤ n) ⌝ }
     ensures { λ r. ⌜ r ≡ step (run (m.transitions (now (s .entry)) n) k first) ⌝ }
 {
     let mut st = first;
@@ -235,7 +215,8 @@ fn header(s: &[u8]) -> Checked
     Checked::Model(n, p, t)
 }
 
-// A whole model message: the counts of its header, or its first fault.
+// A whole model message: the counts of its header, or its first fault. Transitions are read one by one only where they are not in order, which
+// finds the first fault.
 pub fn check(s: &[u8]) -> Checked
     ensures { λ r. ⌜ r ≡ answers.checked (m.readModel (now (s .entry))) ⌝ }
 {
@@ -256,6 +237,9 @@ pub fn check(s: &[u8]) -> Checked
         return Checked::Refused(e);
     }
     let middle = HEADER + (n as usize) * LABEL;
+    if wire::in_order(s, n, TO_AT, t, middle) {
+        return head;
+    }
     if let Step::Refused(e) = transitions(
         s,
         n,

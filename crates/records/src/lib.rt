@@ -83,7 +83,7 @@ fn near_width(q: Quantifier) -> usize
 
 // What EX or AX writes for each of these transitions that it looks at, and how many those are; a successor's node stands shift further on.
 // That of every transition up to the last such one is written where the next one belongs, and stays there if it is looked at: no jump
-// waits for a weight.
+// waits for a weight. Its action and its successor are read at once, as one number.
 fn put_nearby(
     room: &mut [u8],
     at: usize,
@@ -100,6 +100,7 @@ fn put_nearby(
 ) -> u64
     requires { ⌜ Reads (now m) n first many shift ⌝ }
     requires { ⌜ at + length (nearbyBytes q v low high most shift (transitionsFrom (now m) n first many)) ≤ length (now room) ⌝ }
+    requires { ⌜ low ≤ high ⌝ }
     ensures { λ r. ⌜ r ≡ length (keep (isNear low high most) (transitionsFrom (now (m .entry)) n first many)) ⌝ }
     ensures { λ r. ⌜ Laid (now (room .entry)) at (nearbyBytes q v low high most shift (transitionsFrom (now (m .entry)) n first many)) (now (room .exit))
         (at + r * nearWidth q) ⌝ }
@@ -109,8 +110,9 @@ fn put_nearby(
     let mut p = transitions::transition_at(n, first);
     let mut i = transitions::near_end(m, n, first, many, low, high, most);
     while 0 < i {
-        let here = transitions::is_near(m, p, low, high, most);
-        let to = wire::number_at(m, p + model::TO_AT, Width::Two);
+        let both = wire::number_at(m, p + model::ACTION_AT, Width::Four);
+        let here = transitions::is_near_of(m, p, both, low, high, most);
+        let to = both % 65536;
         let next = at + (near as usize) * width;
         p += model::TRANSITION;
         i -= 1;

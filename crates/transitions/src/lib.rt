@@ -3,7 +3,8 @@ ghost use mathlib.Core.Path.{_≡_};
 ghost use Prim.Native.Nat.{_+_, _-_, _≤_, _<_};
 ghost use lib.ListN.{length};
 ghost use Rattle.lists.specs.Making.{keep};
-ghost use Rattle.model.specs.Format.{transitionWidth, transitionAt};
+ghost use Rattle.wire.specs.Bytes.{number};
+ghost use Rattle.model.specs.Format.{actionAt, transitionWidth, transitionAt};
 ghost use Rattle.model.specs.Model as model;
 ghost use Rattle.reduction.specs.Built.{looksAt};
 ghost use Rattle.transitions.specs.Looked.{isNear, UpToLast};
@@ -110,16 +111,29 @@ pub fn starts(m: &[u8], n: u32, p: u32, t: u32) -> [u32; 257]
 }
 
 // Whether EX or AX looks at the transition at a position: its action is in a range, and its weight is at most this.
-pub fn is_near(m: &[u8], at: usize, low: u32, high: u32, most: u32) -> bool
+fn is_near(m: &[u8], at: usize, low: u32, high: u32, most: u32) -> bool
     requires { ⌜ at + transitionWidth ≤ length (now m) ⌝ }
+    requires { ⌜ low ≤ high ⌝ }
     ensures { λ r. ⌜ r ≡ isNear low high most (transitionLayout (now (m .entry)) .item at) ⌝ }
 {
-    let own = wire::number_at(m, at + model::ACTION_AT, Width::Two);
+    let both = wire::number_at(m, at + model::ACTION_AT, Width::Four);
+    is_near_of(m, at, both, low, high, most)
+}
+
+// The same, with its action and its successor read as one number, the action above. That number, less the least one of the range, is at most
+// the range's width just where the action is in the range (below the range it wraps): one read, and one test for both ends. In 64 bits no
+// action is too large for it.
+pub fn is_near_of(m: &[u8], at: usize, both: u32, low: u32, high: u32, most: u32) -> bool
+    requires { ⌜ at + transitionWidth ≤ length (now m) ⌝ }
+    requires { ⌜ both ≡ number 4 (now m) (at + actionAt) ⌝ }
+    requires { ⌜ low ≤ high ⌝ }
+    ensures { λ r. ⌜ r ≡ isNear low high most (transitionLayout (now (m .entry)) .item at) ⌝ }
+{
     let weight = wire::number_at(m, at + model::WEIGHT_AT, Width::Four);
-    if own < low {
-        return false;
-    }
-    if high < own {
+    let least = (low as u64) * 65536;
+    let width = ((high - low) as u64) * 65536 + 65535;
+    let above = std::num::wrapping_sub_u64(both as u64, least);
+    if width < above {
         return false;
     }
     weight <= most
@@ -128,6 +142,7 @@ pub fn is_near(m: &[u8], at: usize, low: u32, high: u32, most: u32) -> bool
 // How many of these transitions it looks at. A count of 32 bits would have the compiler gather the weights byte by byte.
 fn count_near(m: &[u8], n: u32, first: u32, many: u32, low: u32, high: u32, most: u32) -> u64
     requires { ⌜ transitionAt n (first + many) ≤ length (now m) ⌝ }
+    requires { ⌜ low ≤ high ⌝ }
     ensures { λ r. ⌜ r ≡ length (keep (isNear low high most) (transitionsFrom (now (m .entry)) n first many)) ⌝ }
 {
     let mut at = transition_at(n, first);
@@ -165,6 +180,7 @@ pub fn near_count(m: &[u8], n: u32, first: u32, many: u32, action: Action, bound
 // How many of these transitions there are up to the last that it looks at.
 pub fn near_end(m: &[u8], n: u32, first: u32, many: u32, low: u32, high: u32, most: u32) -> u32
     requires { ⌜ transitionAt n (first + many) ≤ length (now m) ⌝ }
+    requires { ⌜ low ≤ high ⌝ }
     ensures { λ r. ⌜ UpToLast (now (m .entry)) (isNear low high most) many (transitionAt n first) r ⌝ }
 {
     let mut at = transition_at(n, first) + (many as usize) * model::TRANSITION;

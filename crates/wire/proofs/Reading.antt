@@ -9,9 +9,10 @@ use mathlib.Core.Bool.{Bool, true, false}
 use native.Mathlib.Nat.{add-zero}
 use native.Mathlib.Omega.{arith}
 use Rattle.refusal.specs.declared.Fault.{Fault}
+use Rattle.wire.specs.Bytes.{number}
 use Rattle.wire.specs.Field.{fieldAt}
 use Rattle.wire.specs.Read.{Read, good, bad, _>>=_, _>>_, unless, ofField, field, found, faultOf, below, misnamed, sourceFrom}
-use Rattle.wire.proofs.Fields.{part-field}
+use Rattle.wire.proofs.Fields.{field-value, part-field}
 use Rattle.wire.specs.declared.Field.{Field}
 use Rattle.wire.specs.declared.Field.the-variants.{Number, Refused}
 
@@ -92,6 +93,10 @@ pub demand-good : {B : Type 0} (t : Bool) (e : Fault) (r : Read B) {b : B} → u
 unfolding _>>_ unless
 demand-good true e r h = (refl, h)
 demand-good false e r h = absurd (never h)
+
+-- a number that fits is read
+pub field-here : (k : ℕ) (s : List ℕ) (at : ℕ) → at + k ≤ length s → field k s at ≡ good (number k s at)
+field-here k s at inside = ap ofField (field-value k s at inside) ∙ there _
 
 pub field-good : (k : ℕ) (s : List ℕ) (at : ℕ) {n : ℕ} → field k s at ≡ good n → fieldAt k s at ≡ Number n
 unfolding ofField
@@ -177,9 +182,6 @@ part-source s at w n prev offset inside h =
 
 -- the parts that the code hands on go from a position to an end
 module _ (s : List ℕ) (at end : ℕ) (inside : end ≤ length s) where
-  pub cut-field : (k x : ℕ) → at + x + k ≤ end → fieldAt k (take (end - at) (drop at s)) x ≡ fieldAt k s (at + x)
-  cut-field k x h = part-field s at (end - at) k x (omega arith) (omega arith)
-
   pub cut-below : (k x limit : ℕ) (fault : Fault) → at + x + k ≤ end → below k (take (end - at) (drop at s)) x limit fault ≡ below k s (at + x) limit fault
   cut-below k x limit fault h = part-below k s at (end - at) x limit fault (omega arith) (omega arith)
 

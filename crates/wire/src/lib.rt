@@ -1,12 +1,13 @@
-// Numbers in message bytes, big-endian, over the width; and the start that all messages share.
+// Numbers in message bytes, big-endian, over the width; records in order; and the start that all messages share.
 ghost use mathlib.Core.Path.{_≡_};
-ghost use Prim.Native.Nat.{_+_, _≤_};
+ghost use Prim.Native.Nat.{_+_, _*_, _≤_};
 ghost use lib.ListN.{length};
 ghost use Rattle.wire.specs.Bytes.{number, put};
 ghost use Rattle.wire.specs.Field.{widthOf, longWidth, fieldAt};
 ghost use Rattle.wire.specs.Start.{readStart, openedOf, only};
 ghost use Rattle.wire.specs.Read.{found, faultOf, below, sourceFrom};
 ghost use Rattle.wire.specs.Counts.{readCount};
+ghost use Rattle.wire.specs.Ordered.{recordWidth, inOrder};
 use refusal::Fault;
 use refusal::Refusal;
 
@@ -34,6 +35,9 @@ impl Width {
 pub const LONG: usize = 8;
 
 const HALF: usize = 4;
+
+// How many times as large a number is with two bytes more behind it.
+pub const TWO_MORE: u32 = 65536;
 
 // What reading a field finds: its number, or its fault.
 pub enum Field {
@@ -233,6 +237,42 @@ pub fn read_source(s: &[u8], at: usize, n: u32, prev: u32, offset: usize) -> Fie
         refusal: Refusal::Order,
         offset,
     })
+}
+
+// Whether k records from `first` on name only what exists, which is below n, with sources that do not fall. A source is the first two bytes of
+// its record, and a target the last two, from `target` on. The last source is then the greatest, and only it is compared with n. A target and
+// the source behind it are read as one number of four bytes, which is below n * 65536 exactly when the target is below n: a number of two bytes
+// is swapped by a rotation, which takes a jump's place in the processor, and one of four is not.
+pub fn in_order(s: &[u8], n: u32, target: usize, k: u32, first: usize) -> bool
+    requires { ⌜ (n ≤ 65535) × (first + k * recordWidth target ≤ length (now s)) ⌝ }
+    ensures { λ r. ⌜ r ≡ inOrder (now (s .entry)) n target k 0 first ⌝ }
+{
+    if k == 0 {
+        return true;
+    }
+    let width = target + 2;
+    let end = first + (k as usize) * width;
+    let top = n * TWO_MORE;
+    let mut greatest = number_at(s, first, Width::Two);
+    let mut at = first;
+    while at + width < end {
+        let target_at = at + target;
+        let both = number_at(s, target_at, Width::Four);
+        if top <= both {
+            return false;
+        }
+        let next = both % TWO_MORE;
+        if next < greatest {
+            return false;
+        }
+        greatest = next;
+        at += width;
+    }
+    if n <= greatest {
+        return false;
+    }
+    let last_at = at + target;
+    number_at(s, last_at, Width::Two) < n
 }
 
 // The start of a message: enough bytes for its header, its length field, version and kind.

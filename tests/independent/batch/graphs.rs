@@ -17,6 +17,7 @@ pub fn calls() -> Vec<Call> {
         room_before_budget(),
         large(),
         many_targets(),
+        several_at_once(),
     ];
     parts.into_iter().flatten().collect()
 }
@@ -296,6 +297,46 @@ fn many_targets() -> Vec<Call> {
         budgets(graph).map(|budget| Call::rounds(budget, room, &message))
     };
     graphs.iter().flat_map(calls).collect()
+}
+
+/// A hyperedge for each length, with so many targets, and cover edges behind them or none: an
+/// implementation may look at several targets at once, or at a target and what stands behind it.
+pub fn lengths(lengths: &[usize], weight: u32, covers: usize) -> Graph {
+    let nodes = 5;
+    let hyperedge = |(source, length): (usize, &usize)| {
+        let target = |j: usize| Target {
+            weight: weight * j as u32,
+            node: (source + j) % nodes,
+        };
+        let targets = (0..*length).map(target).collect();
+        Hyperedge { source, targets }
+    };
+    let cover = |source: usize| Cover {
+        source,
+        bound: Some(source as u32),
+        target: nodes - 1 - source,
+    };
+    Graph {
+        nodes,
+        hyperedges: lengths.iter().enumerate().map(hyperedge).collect(),
+        covers: (0..covers).map(cover).collect(),
+    }
+}
+
+/// Every field of such graphs across its borders.
+fn several_at_once() -> Vec<Call> {
+    let judged = |bytes: &[u8]| bytes::graph(bytes).err();
+    let graphs = [
+        lengths(&[3, 4, 5], 65_537, 0),
+        lengths(&[7, 8, 9], 65_537, 1),
+        lengths(&[5, 0, 4], 1 << 24, 4),
+    ];
+    let changed = graphs.map(|graph| sweep::fields(&message::graph(&graph), &judged));
+    let messages = changed.concat();
+    messages
+        .iter()
+        .map(|message| Call::graph(message))
+        .collect()
 }
 
 /// A chain with cover edges, and at some nodes so many hyperedges of `length` targets, the first of them

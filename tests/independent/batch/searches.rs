@@ -12,6 +12,7 @@ pub fn calls() -> Vec<Call> {
     let parts = [
         special_graphs(),
         refusals(),
+        several_at_once(),
         order_of_refusals(),
         roots_and_rooms(),
         small_graphs(),
@@ -317,6 +318,30 @@ fn refusals() -> Vec<Call> {
         sweep::records(&other),
     ];
     messages.extend(sweep::one_for_each_rule(&changed.concat(), &judged));
+    messages
+        .iter()
+        .map(|message| search_of(0, message))
+        .collect()
+}
+
+/// Targets that may be looked at with what stands behind them: every field across its borders, and a
+/// weight of one bit in each byte of each weight.
+fn several_at_once() -> Vec<Call> {
+    let judged = |bytes: &[u8]| bytes::graph(bytes).err();
+    let mut messages = vec![];
+    for lengths in [[1, 2, 0], [3, 0, 1], [4, 5, 3]] {
+        let message = message::graph(&graphs::lengths(&lengths, 0, 0));
+        messages.push(message.bytes.clone());
+        messages.extend(sweep::fields(&message, &judged));
+        for field in message
+            .fields
+            .iter()
+            .skip(1)
+            .filter(|field| field.width == 4)
+        {
+            messages.extend([0, 8, 16, 24].map(|bit| message.with(*field, 1 << bit)));
+        }
+    }
     messages
         .iter()
         .map(|message| search_of(0, message))

@@ -22,7 +22,7 @@ use Rattle.claims.specs.Scans.{Marked, Scanned}
 use Rattle.claims.specs.declared.Scan.{Scan}
 use Rattle.claims.specs.declared.Scan.the-variants.{Odd, Past}
 use Rattle.claims.proofs.Checking.{message-light, unmarked-none, hypers-fair, covers-fair, unmarked, all-marked}
-use Rattle.claims.proofs.Whole.{header-inside, few-nodes, middle-is, middle-inside, hypers-run, covers-run, whole-length, whole-reads}
+use Rattle.graph.proofs.Whole.{header-inside, few-nodes, middle-is, middle-inside, hypers-run, covers-run, whole-length, whole-reads}
 use Rattle.claims.proofs.accepts.Statement.{statement}
 use Rattle.claims.proofs.accepts.Tie as tie
 

@@ -22,8 +22,8 @@ use Rattle.support.specs.Backing.{CoverFair, CoverBacks}
 use Rattle.edges.specs.Found.{EdgeFound}
 use Rattle.support.proofs.Passing.{Walking, walking-all, walking-one, walking-turn}
 use Rattle.claims.proofs.Marking.{Sure, sure-none, sure-more, Seen, mark-here, mark-stays, marked-all}
-use Rattle.edges.proofs.Fused.{cover-fits}
-use Rattle.claims.proofs.Turns.{cover-next, run-turn, run-next}
+use Rattle.graph.proofs.Fused.{cover-fits}
+use Rattle.graph.proofs.Turns.{cover-next, run-turn, run-next}
 use Rattle.claims.proofs.scan_covers.Statement.{statement}
 use Rattle.claims.proofs.scan_covers.Tie as tie
 

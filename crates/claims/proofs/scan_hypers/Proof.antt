@@ -22,8 +22,8 @@ use Rattle.support.specs.Backing.{HyperFair, HyperBacks}
 use Rattle.edges.specs.Found.{EdgeFound}
 use Rattle.support.proofs.Passing.{Walking, walking-all, walking-one, walking-turn}
 use Rattle.claims.proofs.Marking.{Sure, sure-none, sure-more, Seen, mark-here, mark-stays, marked-all}
-use Rattle.edges.proofs.Fused.{hyper-fits}
-use Rattle.claims.proofs.Turns.{hyper-next, run-turn, run-next}
+use Rattle.graph.proofs.Fused.{hyper-fits}
+use Rattle.graph.proofs.Turns.{hyper-next, run-turn, run-next}
 use Rattle.claims.proofs.scan_hypers.Statement.{statement}
 use Rattle.claims.proofs.scan_hypers.Tie as tie
 

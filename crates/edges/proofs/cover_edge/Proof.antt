@@ -15,7 +15,7 @@ use Rattle.edges.specs.declared.Weighed.{Weighed}
 use Rattle.support.specs.Claims.{claimedValue, claimedRank}
 use Rattle.support.specs.Backing.{CoverFair, CoverBacks}
 use Rattle.edges.specs.Found.{Found}
-use Rattle.edges.proofs.Fused.{CoverFits, cover-reads, cover-fits}
+use Rattle.graph.proofs.Fused.{CoverFits, cover-reads, cover-fits}
 use Rattle.edges.proofs.cover_edge.Statement.{statement}
 use Rattle.edges.proofs.cover_edge.Tie as tie
 

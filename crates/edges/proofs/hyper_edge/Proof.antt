@@ -23,7 +23,7 @@ use Rattle.support.specs.Claims.{claimedValue, claimedRank}
 use Rattle.support.specs.Backing.{HyperFair, HyperBacks}
 use Rattle.claimed.specs.Targets.{Named}
 use Rattle.edges.specs.Found.{Found}
-use Rattle.edges.proofs.Fused.{HyperFits, hyper-reads, hyper-fits}
+use Rattle.graph.proofs.Fused.{HyperFits, hyper-reads, hyper-fits}
 use Rattle.edges.proofs.hyper_edge.Statement.{statement}
 use Rattle.edges.proofs.hyper_edge.Tie as tie
 

@@ -1,5 +1,5 @@
 -- `formula::check` meets its contract: p, the header, and the rows.
-use mathlib.Core.Path.{_≡_, refl, _∙_}
+use mathlib.Core.Path.{_≡_, _∙_}
 use denote.Ref.{now}
 use borrow.Author.Needs.{needs}
 use borrow.Author.Tests.{lt-leb, le-leb}
@@ -9,7 +9,6 @@ use Rattle.wire.proofs.Reading.{reading}
 use Rattle.syntax.specs.Message.{readHeader, readFormula}
 use Rattle.formula.specs.Answers.{checked}
 use Rattle.formula.proofs.Good.{header-good}
-use Rattle.formula.proofs.Marks.{none-marked}
 use Rattle.formula.proofs.Answered.{counted-formula, counted-refused}
 use Rattle.formula.proofs.check.Statement.{statement}
 use Rattle.formula.proofs.check.Tie as tie
@@ -45,17 +44,14 @@ returns-2 c =
     let refused = counted-refused _ (by (h .header .ensures) (c .enum-told .given .1)) in
     c .enum-told .given .1 ∙ simp (reading, le-leb _ _ (h .before .if1 .left), refused)
 
-slice-aggregate-all-rows : tie.Need-slice-aggregate-all-rows
-slice-aggregate-all-rows c = search needs
-
 all-rows-requires : tie.Need-all-rows-requires
-all-rows-requires c κs = let h = header-good _ _ (head-good (c .before)) in ((h .long, h .f-counted .no-less, h .f-counted .no-more), (refl, none-marked 64))
+all-rows-requires c κs = let h = header-good _ _ (head-good c) in (h .long, h .f-counted .no-less, h .f-counted .no-more)
 
 returns-3 : tie.Need-returns-3
 unfolding readFormula
 returns-3 c =
-    let k = c .before .before .before in
-    simp (reading, le-leb _ _ (headed k .before .if1 .left), head-good k) (c .before .all-rows .ensures)
+    let k = c .before in
+    simp (reading, le-leb _ _ (headed k .before .if1 .left), head-good k) (c .all-rows .ensures)
 
 pub check-spec : {M : Type 1} → statement M
 check-spec =
@@ -66,6 +62,5 @@ check-spec =
     enum-known-head
     enum-told
     returns-2
-    slice-aggregate-all-rows
     all-rows-requires
     returns-3)

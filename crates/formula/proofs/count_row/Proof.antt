@@ -15,49 +15,37 @@ enum-known-row c = search needs
 
 count-use-requires : tie.Need-count-use-requires
 count-use-requires c κs =
-    let k = c .before .before in
-    let pre = k .before .before .before .pre in
-    (pre .0 (k .row .given .0 .0) (rw (k .row .given .1) (List·Memᴰ·head refl)), omega arith, omega arith)
+    let k = c .before in
+    (k .before .before .pre .0 (k .row .given .0 .0) (rw (k .row .given .1) (List·Memᴰ·head refl)), omega arith)
 
 enum-known-row-2 : tie.Need-enum-known-row-2
 enum-known-row-2 c = search needs
 
 count-use-requires-2 : tie.Need-count-use-requires-2
 count-use-requires-2 c κs =
-    let k = c .before .before in
-    let pre = k .before .before .before .pre in
-    (pre .0 (k .row2 .given .0 .0) (rw (k .row2 .given .1) (List·Memᴰ·head refl)), omega arith, omega arith)
+    let k = c .before in
+    (k .before .before .pre .0 (k .row2 .given .0 .0) (rw (k .row2 .given .1) (List·Memᴰ·head refl)), omega arith)
 
 count-use-requires-3 : tie.Need-count-use-requires-3
 count-use-requires-3 c κs =
-    let first = c .before .before .before in
-    let k = first .before .before .before in
-    let pre = k .before .before .before .pre in
-    let r = k .row2 .given .0 .1 .0 in (
-      omega (arith, pre .0 r (rw (k .row2 .given .1) (List·Memᴰ·tail (List·Memᴰ·head refl))), c .before .before .marks2 .given),
-      omega (arith, first .count-use2 .ensures .0 .0),
-      omega (arith, first .count-use2 .ensures .0 .1),
-    )
+    let k = c .before .before in
+    let r = k .row2 .given .0 .1 .0 in
+    (k .before .before .pre .0 r (rw (k .row2 .given .1) (List·Memᴰ·tail (List·Memᴰ·head refl))), omega (arith, c .count-use2 .ensures .0))
 
 returns : tie.Need-returns
 returns c = λ ls m. rw (c .enum-told .given .1, append-nil) m
 
-same-length : tie.Need-same-length
-same-length c = search needs
-
 returns-2 : tie.Need-returns-2
-returns-2 c = λ ls m. let put = c .before .before in rw (put .before .before .before .row .given .1) (put .count-use .ensures .1 ls m)
-
-same-length-2 : tie.Need-same-length-2
-same-length-2 c = search needs
+returns-2 c = λ ls m. rw (c .before .before .row .given .1) (c .count-use .ensures .1 ls m)
 
 returns-3 : tie.Need-returns-3
 returns-3 c = λ ls m.
-    let last = c .before .before in
-    let first = last .before .before .before .before in
-    let k = first .before .before .before in
-    let joined : (ls ++ (k .row2 .given .0 .0 ∷ [])) ++ (k .row2 .given .0 .1 .0 ∷ []) ≡ ls ++ (k .row2 .given .0 .0 ∷ k .row2 .given .0 .1 .0 ∷ []) = append-assoc ls _ _ in
-    rw (k .row2 .given .1, ← joined) (last .count-use3 .ensures .1 _ (first .count-use2 .ensures .1 ls m))
+    let first = c .before in
+    let k = first .before .before in
+    let l = k .row2 .given .0 .0 in
+    let r = k .row2 .given .0 .1 .0 in
+    let joined : (ls ++ (l ∷ [])) ++ (r ∷ []) ≡ ls ++ (l ∷ r ∷ []) = append-assoc ls _ _ in
+    rw (k .row2 .given .1, ← joined) (c .count-use3 .ensures .1 _ (first .count-use2 .ensures .1 ls m))
 
 pub count-row-spec : {M : Type 1} → statement M
 count-row-spec =
@@ -70,7 +58,5 @@ count-row-spec =
     count-use-requires-2
     count-use-requires-3
     returns
-    same-length
     returns-2
-    same-length-2
     returns-3)

@@ -1,17 +1,19 @@
 -- `graph::check` meets its contract: the header, the hyperedges, the cover edges, and nothing after them.
 use Prim.Native.Nat.{_≤_}
 use mathlib.Core.Path.{_≡_, _∙_}
+use mathlib.Core.Logic.{inl, inr}
 use denote.Ref.{now}
 use lib.ListN.{length}
-use borrow.Author.Tests.{eq-eqb, ne-eqb}
 use borrow.Author.Needs.{needs}
 use native.Mathlib.Omega.{arith}
 use Rattle.lists.proofs.Tests.{by}
 use Rattle.wire.specs.Read.{good}
 use Rattle.wire.specs.Reader.{run}
 use Rattle.wire.proofs.Fields.{value-inside}
-use Rattle.wire.proofs.Reading.{reading}
+use Rattle.wire.proofs.Reading.{reading, bind-good}
+use Rattle.wire.proofs.Judged.{bind-bad}
 use Rattle.wire.proofs.Readers.{run-good, run-bad, run-keeps, all-length}
+use Rattle.wire.proofs.Start.{opened-good, opened-refused}
 use Rattle.wire.specs.declared.State.{State}
 use Rattle.wire.specs.Step.{start}
 use Rattle.graph.specs.Format.{graphHeader, coversCount, mostTargets}
@@ -25,17 +27,17 @@ use Rattle.graph.proofs.check.Statement.{statement}
 use Rattle.graph.proofs.check.Tie as tie
 
 -- the places that the facts below look back to: the start, seen from where the header is known; where it is, seen from where the hyperedges
--- were read; and where these were, seen from where the cover edges were
+-- were read; and where these were, seen from where the cover edges are known to be good
 abbrev entered : tie.After-known-told → tie.Start
 entered c = c .before .before .before .before .before
 
 abbrev known : tie.After-known-told2 → tie.After-known-told
 known c = c .before .before .before .before
 
-abbrev read : tie.After-known-told4 → tie.After-known-told2
+abbrev read : tie.After-struct-known → tie.After-known-told2
 read c = c .before .before .before .before
 
--- the header is good, and so are the hyperedges and the cover edges
+-- the header is good, and so are the hyperedges
 head-good : (c : tie.After-known-told) → let k = c .before .head .given .0 in
     readHeader (now (entered c .args .s)) ≡ good (record { n = k .0; h = k .1 .0; c = k .1 .1 .0 })
 head-good c = counted-graph _ (by (c .before .before .before .header .ensures) (c .before .head .given .1))
@@ -46,10 +48,6 @@ headed c = value-inside 2 (now (entered c .args .s)) (coversCount .at) (header-g
 hypers-next : (c : tie.After-known-told2) → let k = known c .before .head .given .0 in
     run (m.hypers (now (entered (known c) .args .s)) (k .0)) (k .1 .0) (start graphHeader) ≡ good (c .before .st .given .0 .0)
 hypers-next c = step-next _ (by (c .before .before .before .hypers .ensures) (c .before .st .given .1))
-
-covers-next : (c : tie.After-known-told4) → let r = read c in let k = known r .before .head .given .0 in
-    run (m.covers (now (entered (known r) .args .s)) (k .0)) (k .1 .1 .0) (start (r .before .st .given .0 .0 .at)) ≡ good (c .before .st2 .given .0 .0)
-covers-next c = step-next _ (by (c .before .before .before .covers .ensures) (c .before .st2 .given .1))
 
 header-requires : tie.Need-header-requires
 header-requires c κs = search needs
@@ -67,7 +65,7 @@ returns c =
     c .enum-told .given .1 ∙ simp (reading, refused)
 
 hypers-requires : tie.Need-hypers-requires
-hypers-requires c κs = (headed c, omega arith, omega arith)
+hypers-requires c κs = (headed c, omega arith, omega arith, header-good _ _ (head-good c) .n-counted .no-more)
 
 enum-known-st : tie.Need-enum-known-st
 enum-known-st c = search needs
@@ -81,13 +79,12 @@ returns-2 c =
     let r = c .before .before .before in
     simp (reading, head-good (r .before), run-bad _ _ _ _ (step-refused _ (by (r .hypers .ensures) (c .before .e .given .1))))
 
-covers-requires : tie.Need-covers-requires
-covers-requires c κs =
-    let s = now (entered (known c) .args .s) in
-    (run-keeps _ (λ (st : State). st .at ≤ length s) (λ st next e. hypers-stay _ _ st next e .0) _ _ _ (headed (known c)) (hypers-next c), omega arith)
-
-enum-known-st-2 : tie.Need-enum-known-st-2
-enum-known-st-2 c = search needs
+covers-to-end-requires : tie.Need-covers-to-end-requires
+covers-to-end-requires c κs =
+    let s = now (entered (known c) .args .s) in (
+      header-good _ _ (head-good (known c)) .n-counted .no-more,
+      run-keeps _ (λ (st : State). st .at ≤ length s) (λ st next e. hypers-stay _ _ st next e .0) _ _ _ (headed (known c)) (hypers-next c),
+    )
 
 enum-known-e-2 : tie.Need-enum-known-e-2
 enum-known-e-2 c = search needs
@@ -97,28 +94,30 @@ unfolding readGraph checked
 returns-3 c =
     let r = c .before .before .before in
     let hs = run-good _ _ _ _ (hypers-next (r .before)) in
-    simp (reading, head-good (known (r .before)), hs .there, hs .ends, run-bad _ _ _ _ (step-refused _ (by (r .covers .ensures) (c .before .e2 .given .1))))
+    let stopped = bind-bad _ _ (opened-refused _ (by (r .covers-to-end .ensures) (c .before .e2 .given .1))) in
+    elim stopped [
+      | inl early ↦ simp (reading, head-good (known (r .before)), hs .there, hs .ends, run-bad _ _ _ _ early)
+      | inr late ↦
+          let cs = run-good _ _ _ _ (late .first) in
+          simp (reading, head-good (known (r .before)), hs .there, hs .ends, cs .there, cs .ends, late .rest)
+    ]
+
+enum-told-2 : tie.Need-enum-told-2
+enum-told-2 c = search needs
+
+cast-t14 : tie.Need-cast-t14
+cast-t14 c =
+    let ran = hypers-next (read c) in
+    omega (arith, run-keeps _ (λ (st : State). st .seen ≤ mostTargets) (λ st next e. hypers-stay _ _ st next e .1) _ _ _ (omega arith) ran)
 
 returns-4 : tie.Need-returns-4
 unfolding readGraph checked
 returns-4 c =
-    let r = read (c .before) in
+    let r = read c in
+    let t = c .before .before .before in
     let hs = run-good _ _ _ _ (hypers-next r) in
-    let cs = run-good _ _ _ _ (covers-next (c .before)) in
-    simp (reading, head-good (known r), hs .there, hs .ends, cs .there, cs .ends, ne-eqb _ _ (c .if1 .taken))
-
-cast-t22 : tie.Need-cast-t22
-cast-t22 c =
-    let r = read (c .before .before) in
-    omega (arith, run-keeps _ (λ (st : State). st .seen ≤ mostTargets) (λ st next e. hypers-stay _ _ st next e .1) _ _ _ (omega arith) (hypers-next r))
-
-returns-5 : tie.Need-returns-5
-unfolding readGraph checked
-returns-5 c =
-    let k = c .before .before in
-    let r = read k in
-    let hs = run-good _ _ _ _ (hypers-next r) in
-    let cs = run-good _ _ _ _ (covers-next k) in
+    let whole = bind-good _ _ (opened-good _ (by (t .covers-to-end .ensures) (c .before .enum-told2 .given .1))) in
+    let cs = run-good _ _ _ _ (whole .first) in
     simp (
       reading,
       head-good (known r),
@@ -126,7 +125,7 @@ returns-5 c =
       hs .ends,
       cs .there,
       cs .ends,
-      eq-eqb _ _ (c .before .if1 .left),
+      whole .rest,
       all-length _ _ _ _ (hs .there),
       all-length _ _ _ _ (cs .there),
       targets-told _ _ _ (hs .got) (hs .ends),
@@ -144,10 +143,9 @@ check-spec =
     enum-known-st
     enum-known-e
     returns-2
-    covers-requires
-    enum-known-st-2
+    covers-to-end-requires
     enum-known-e-2
     returns-3
-    returns-4
-    cast-t22
-    returns-5)
+    enum-told-2
+    cast-t14
+    returns-4)

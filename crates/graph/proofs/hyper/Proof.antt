@@ -124,7 +124,7 @@ returns-3 c =
 hyper-targets-requires : tie.Need-hyper-targets-requires
 hyper-targets-requires c κs =
     let few = below-good 2 _ _ _ _ (count-is c) .1 in
-    (omega arith, omega (arith, few))
+    (omega arith, omega (arith, few), omega arith)
 
 returns-4 : tie.Need-returns-4
 unfolding readHyper

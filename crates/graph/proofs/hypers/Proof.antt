@@ -25,7 +25,7 @@ loop-holds : tie.Need-loop-holds Inv-loop μ-loop
 loop-holds c = let p = c .before .pre in (p .0, p .1, p .2, refl)
 
 hyper-requires : tie.Need-hyper-requires Inv-loop μ-loop
-hyper-requires c κs = let p = c .before .loop .inv in (p .0, p .1, p .2)
+hyper-requires c κs = let p = c .before .loop .inv in (p .0, p .1, p .2, c .before .before .before .pre .3)
 
 enum-known-read : tie.Need-enum-known-read Inv-loop μ-loop
 enum-known-read c = search needs

@@ -1,7 +1,8 @@
--- `graph::targets` meets its contract: the targets that are left fit, end where the loop does, and their run is the whole run.
-use Prim.Native.Nat.{ℕ, _+_, _*_, _-_, _<_, _≤_}
+-- `graph::targets` meets its contract: behind the fours, whose targets name nodes, the run goes on; the targets that are left fit, end where the
+-- loop does, and their run is the run from there.
+use Prim.Native.Nat.{ℕ, _+_, _*_, _-_, _/_, _≤_}
 use mathlib.Core.List.{List}
-use mathlib.Core.Path.{_≡_, refl}
+use mathlib.Core.Path.{_≡_, refl, ap, _∙_}
 use denote.Ref.{now}
 use lib.ListN.{length}
 use borrow.Author.Needs.{needs}
@@ -9,62 +10,59 @@ use native.Mathlib.Omega.{arith}
 use Rattle.lists.proofs.Tests.{by}
 use Rattle.wire.specs.declared.State.{State}
 use Rattle.wire.specs.declared.Step.{Step}
-use Rattle.wire.specs.declared.Step.the-variants.{Next}
-use Rattle.wire.specs.Reader.{one, run}
+use Rattle.wire.specs.Reader.{run}
 use Rattle.wire.specs.Step.{step}
-use Rattle.wire.proofs.Turns.{step-next, turn-next, turn-refused, turn-last, turn-none}
+use Rattle.wire.proofs.Turns.{step-next, turn-next, turn-refused, turn-none}
 use Rattle.graph.specs.Format.{targetWidth}
 use Rattle.graph.specs.Message as m
 use Rattle.graph.proofs.Good.{targets-move}
+use Rattle.graph.proofs.Names.{Passed, passed, run-past}
 use Rattle.graph.proofs.targets.Statement.{statement}
 use Rattle.graph.proofs.targets.Tie as tie
 
--- how many targets are left of k, from the first on
-record Left (s : List ℕ) (n k : ℕ) (first : State) (end : ℕ) (st : State) : Type 0 where
+-- the run of the targets from a state up to an end
+abbrev runTo : List ℕ → (n end : ℕ) → State → Step
+runTo s n end st = step (run (m.targets s n) ((end - st .at) / targetWidth) st)
+
+-- how many targets are left of those behind the fours
+record Left (s : List ℕ) (n end : ℕ) (behind st : State) : Type 0 where
   left : ℕ
   there : st .at + left * targetWidth ≡ end
   inside : end ≤ length s
-  whole : step (run (m.targets s n) left st) ≡ step (run (m.targets s n) k first)
-
--- one less behind a good one
-onward : {s : List ℕ} {n k : ℕ} {first : State} {end : ℕ} {st next : State} {r : Step} (l : Left s n k first end st)
-    → 0 < l .left → r ≡ step (one (m.targets s n) st) → r ≡ Next next → Left s n k first end next
-onward l some e is = record {
-  left = l .left - 1;
-  there = omega (arith, l .there, targets-move _ _ _ _ (step-next _ (by e is)));
-  inside = l .inside;
-  whole = turn-next _ _ _ _ (l .whole) some e is;
-}
+  whole : step (run (m.targets s n) left st) ≡ runTo s n end behind
 
 abbrev Inv-loop : tie.InvT-loop
-Inv-loop s n k end st₀ st = Left s n k st₀ end st
+Inv-loop s n k end at st₀ st = Left s n end st₀ st
 
 abbrev μ-loop : tie.MeasureT-loop
-μ-loop s n k end st₀ st = end - st .at
+μ-loop s n k end at st₀ st = end - st .at
 
--- the places that the facts below look back to: the start, seen from the loop; the loop, seen from where the first target of a turn was read,
--- and from where only one may be left; and where the first was read, seen from where it is known
-abbrev begun : tie.At-loop Inv-loop μ-loop → tie.Start Inv-loop μ-loop
-begun c = c .before .before .before
+-- the places that the facts below look back to: the start, seen from behind the fours; the loop, seen from where a target was read
+abbrev call : tie.After-past-fours Inv-loop μ-loop → tie.Start Inv-loop μ-loop
+call c = c .before .before .before
 
-abbrev entry : tie.After-target Inv-loop μ-loop → tie.At-loop Inv-loop μ-loop
-entry c = c .before .before .before
+abbrev turn : tie.After-target Inv-loop μ-loop → tie.At-loop Inv-loop μ-loop
+turn c = c .before .before .before
 
-abbrev entry-last : tie.After-struct-known3 Inv-loop μ-loop → tie.At-loop Inv-loop μ-loop
-entry-last c = c .before .before .before
+-- the targets that were passed
+past : (c : tie.After-past-fours Inv-loop μ-loop) → let a = call c .args in
+    Passed (now (a .s)) (a .n) (a .first .at) (a .first .at + a .k * targetWidth) (c .past-fours .result)
+past c = let a = call c .args in passed (now (a .s)) (a .n) (a .first .at) (a .first .at + a .k * targetWidth) (omega arith) (c .past-fours .ensures)
 
-abbrev read : tie.After-known-told Inv-loop μ-loop → tie.After-target Inv-loop μ-loop
-read c = c .before .before .before
+-- where the loop begins, and that the run from there is the whole run
+abbrev behind : tie.After-past-fours Inv-loop μ-loop → State
+behind c = let first = call c .args .first in record { at = c .past-fours .result; prev = first .prev; seen = first .seen }
 
--- behind the first target of a turn
-moved : (c : tie.After-known-told Inv-loop μ-loop) → c .before .one .given .0 .0 .at ≡ entry (read c) .loop .st .at + targetWidth
-moved c = targets-move _ _ _ _ (step-next _ (by (read c .target .ensures) (c .before .one .given .1)))
-
-second : (c : tie.After-known-told Inv-loop μ-loop) → let a = begun (entry (read c)) .args in
-    Left (now (a .s)) (a .n) (a .k) (a .first) (a .first .at + a .k * targetWidth) (c .before .one .given .0 .0)
-second c =
-    let l = entry (read c) .loop .inv in
-    onward l (omega (arith, l .there)) (read c .target .ensures) (c .before .one .given .1)
+joined : (c : tie.After-past-fours Inv-loop μ-loop) → let a = call c .args in
+    runTo (now (a .s)) (a .n) (a .first .at + a .k * targetWidth) (behind c) ≡ step (run (m.targets (now (a .s)) (a .n)) (a .k) (a .first))
+joined c =
+    let a = call c .args in
+    let first = a .first in
+    let end : ℕ = first .at + a .k * targetWidth in
+    let p = past c in
+    let left : (end - c .past-fours .result) / targetWidth ≡ a .k - p .many = omega (arith, p .reached) in
+    let rest = run-past _ _ (p .many) (a .k) first (omega (arith, p .reached, p .before)) (omega (arith, p .reached, p .before)) (p .named) in
+    ap step ((λ i. run (m.targets (now (a .s)) (a .n)) (left i) (record { at = p .reached i; prev = first .prev; seen = first .seen })) ∙ rest)
 
 mul-end : tie.Need-mul-end Inv-loop μ-loop
 mul-end c = search needs
@@ -72,58 +70,56 @@ mul-end c = search needs
 add-end : tie.Need-add-end Inv-loop μ-loop
 add-end c = search needs
 
-loop-holds : tie.Need-loop-holds Inv-loop μ-loop
-loop-holds c = record { left = c .before .before .args .k; there = refl; inside = omega arith; whole = refl }
+past-fours-requires : tie.Need-past-fours-requires Inv-loop μ-loop
+past-fours-requires c κs = search needs
 
-add-if1 : tie.Need-add-if1 Inv-loop μ-loop
-add-if1 c = let l = c .before .loop .inv in omega (arith, l .there, l .inside)
+loop-holds : tie.Need-loop-holds Inv-loop μ-loop
+loop-holds c =
+    let a = call c .args in
+    let p = past c in
+    record {
+      left = (a .first .at + a .k * targetWidth - c .past-fours .result) / targetWidth;
+      there = omega (arith, p .reached, p .before);
+      inside = omega arith;
+      whole = refl;
+    }
 
 target-requires : tie.Need-target-requires Inv-loop μ-loop
 target-requires c κs = let l = c .before .before .loop .inv in omega (arith, l .there, l .inside)
 
-enum-known-one : tie.Need-enum-known-one Inv-loop μ-loop
-enum-known-one c = search needs
+enum-known-read : tie.Need-enum-known-read Inv-loop μ-loop
+enum-known-read c = search needs
 
 enum-told : tie.Need-enum-told Inv-loop μ-loop
 enum-told c = search needs
 
 returns : tie.Need-returns Inv-loop μ-loop
-returns c = let t = c .before .before in let l = entry t .loop .inv in turn-refused _ _ _ _ (l .whole) (omega (arith, l .there)) (t .target .ensures) (c .enum-told .given .1)
-
-target-requires-2 : tie.Need-target-requires-2 Inv-loop μ-loop
-target-requires-2 c κs = let l = second c in omega (arith, l .there, l .inside, moved c)
-
-enum-known-other : tie.Need-enum-known-other Inv-loop μ-loop
-enum-known-other c = search needs
-
-enum-told-2 : tie.Need-enum-told-2 Inv-loop μ-loop
-enum-told-2 c = search needs
-
-returns-2 : tie.Need-returns-2 Inv-loop μ-loop
-returns-2 c =
-    let k = c .before .before .before in
-    let l = second k in
-    turn-refused _ _ _ _ (l .whole) (omega (arith, l .there, moved k)) (c .before .before .target2 .ensures) (c .enum-told2 .given .1)
+returns c =
+    let r = c .before .before in
+    let l = turn r .loop .inv in
+    turn-refused _ _ _ _ (l .whole ∙ joined (turn r .before)) (omega (arith, l .there)) (r .target .ensures) (c .enum-told .given .1)
 
 loop-less : tie.Need-loop-less Inv-loop μ-loop
 loop-less c =
-    let t = c .before .before .before in
-    omega (arith, moved (t .before), targets-move _ _ _ _ (step-next _ (by (t .target2 .ensures) (c .before .other .given .1))))
+    let r = c .before .before .before in
+    omega (arith, targets-move _ _ _ _ (step-next _ (by (r .target .ensures) (c .before .read .given .1))))
 
 loop-again : tie.Need-loop-again Inv-loop μ-loop
 loop-again c =
-    let t = c .before .before .before in
-    let l = second (t .before) in
-    onward l (omega (arith, l .there, moved (t .before))) (t .target2 .ensures) (c .before .other .given .1)
+    let r = c .before .before .before in
+    let l = turn r .loop .inv in
+    let is = c .before .read .given .1 in
+    record {
+      left = l .left - 1;
+      there = omega (arith, l .there, targets-move _ _ _ _ (step-next _ (by (r .target .ensures) is)));
+      inside = l .inside;
+      whole = turn-next _ _ _ _ (l .whole) (omega (arith, l .there)) (r .target .ensures) is;
+    }
 
-target-requires-3 : tie.Need-target-requires-3 Inv-loop μ-loop
-target-requires-3 c κs = let l = entry-last (c .before) .loop .inv in omega (arith, l .there, l .inside)
-
-returns-3 : tie.Need-returns-3 Inv-loop μ-loop
-returns-3 c = let l = entry-last (c .before .before) .loop .inv in turn-last _ _ _ _ (l .whole) (omega (arith, l .there)) (c .target3 .ensures)
-
-returns-4 : tie.Need-returns-4 Inv-loop μ-loop
-returns-4 c = let l = entry-last (c .before) .loop .inv in turn-none _ _ _ _ (l .whole) (omega (arith, l .there))
+returns-2 : tie.Need-returns-2 Inv-loop μ-loop
+returns-2 c =
+    let t = c .before .before in
+    turn-none _ _ _ _ (t .loop .inv .whole ∙ joined (t .before)) (omega (arith, t .loop .inv .there))
 
 pub targets-spec : {M : Type 1} → statement M
 targets-spec =
@@ -133,18 +129,12 @@ targets-spec =
     μ-loop
     mul-end
     add-end
+    past-fours-requires
     loop-holds
-    add-if1
     target-requires
-    enum-known-one
+    enum-known-read
     enum-told
     returns
-    target-requires-2
-    enum-known-other
-    enum-told-2
-    returns-2
     loop-less
     loop-again
-    target-requires-3
-    returns-3
-    returns-4)
+    returns-2)

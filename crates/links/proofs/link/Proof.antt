@@ -1,30 +1,39 @@
 -- `links::link` meets its contract: the targets at q are left to link.
-use Prim.Native.Nat.{ℕ, _+_, _<_, _≤_}
-use mathlib.Core.List.{[]}
+use Prim.Native.Nat.{ℕ, _+_, _-_, _*_, _<_, _≤_}
+use mathlib.Core.List.{List, []}
 use mathlib.Core.Path.{_≡_, refl, subst}
 use denote.Ref.{now}
 use lib.ListN.{length}
 use native.Mathlib.Omega.{arith}
 use borrow.Author.Needs.{needs}
-use Rattle.wire.specs.Layout.{items, end, Sound}
+use Rattle.wire.specs.Layout.{items, Sound}
+use Rattle.wire.specs.Layout as Layout
 use Rattle.wire.proofs.Bytes.{number-below}
 use Rattle.wire.proofs.Layouts.{sound-more}
-use Rattle.graph.specs.Format.{graphHeader, hyperWidth}
+use Rattle.graph.specs.Format.{graphHeader, hyperWidth, targetWidth}
 use Rattle.graph.specs.Layouts.{targetLayout, hyperLayout, TargetOk}
 use Rattle.links.specs.Links.{Long, Linked}
 use Rattle.links.proofs.Linking.{Kept, kept-none, kept-long, kept-set, linked-end, linked-turn}
 use Rattle.links.proofs.link.Statement.{statement}
 use Rattle.links.proofs.link.Tie as tie
 
+-- how many of the k targets are left, from q on
+record Left (s : List ℕ) (n p k place end : ℕ) (heads₀ links₀ spots₀ sources₀ heads links spots sources : List ℕ) (q at : ℕ) : Type 0 where
+  left : ℕ
+  there : q + left * targetWidth ≡ end
+  sound : Sound (targetLayout s n) left q
+  all : at + left ≡ place + k
+  kept : Kept heads₀ links₀ spots₀ sources₀ heads links spots sources
+  linked : (middle j : ℕ) → p ≡ Layout.end (hyperLayout s n) j graphHeader
+      → Linked s n middle (j + 1) (items (targetLayout s n) k (p + hyperWidth)) 0 place heads₀ links₀ spots₀ sources₀
+      → Linked s n middle (j + 1) (items (targetLayout s n) left q) 0 at heads links spots sources
+
 abbrev Inv-loop : tie.InvT-loop
-Inv-loop s n p k place heads₀ links₀ spots₀ sources₀ source i₀ q₀ at₀ heads links spots sources i q at =
-    Sound (targetLayout s n) i q × (at + i ≡ place + k) × Kept heads₀ links₀ spots₀ sources₀ heads links spots sources
-    × ((middle j : ℕ) → p ≡ end (hyperLayout s n) j graphHeader
-    → Linked s n middle (j + 1) (items (targetLayout s n) k (p + hyperWidth)) 0 place heads₀ links₀ spots₀ sources₀
-    → Linked s n middle (j + 1) (items (targetLayout s n) i q) 0 at heads links spots sources)
+Inv-loop s n p k place heads₀ links₀ spots₀ sources₀ source q₀ end at₀ heads links spots sources q at =
+    Left s n p k place end heads₀ links₀ spots₀ sources₀ heads links spots sources q at
 
 abbrev μ-loop : tie.MeasureT-loop
-μ-loop s n p k place heads₀ links₀ spots₀ sources₀ source i₀ q₀ at₀ heads links spots sources i q at = i
+μ-loop s n p k place heads₀ links₀ spots₀ sources₀ source q₀ end at₀ heads links spots sources q at = end - q
 
 -- the message, and the call, from where the source is read; and this and the call, from the loop's test
 abbrev message : tie.After-slice-known4 Inv-loop μ-loop → tie.After-shared-slice-known Inv-loop μ-loop
@@ -50,18 +59,29 @@ cast-source c =
 add-q : tie.Need-add-q Inv-loop μ-loop
 add-q c = omega (arith, begun (c .before) .pre .1 .0)
 
-loop-holds : tie.Need-loop-holds Inv-loop μ-loop
-loop-holds c = (begun (c .before) .pre .0, omega arith, kept-none, λ middle j e d. d)
+mul-end : tie.Need-mul-end Inv-loop μ-loop
+mul-end c = search needs
 
--- the next target is sound, and there is a place for it
+add-end : tie.Need-add-end Inv-loop μ-loop
+add-end c = let a = begun (c .before) in omega (arith, a .pre .1 .1 .1 .0, a .fits .k)
+
+loop-holds : tie.Need-loop-holds Inv-loop μ-loop
+loop-holds c =
+    let a = begun (c .before) in
+    record { left = a .args .k; there = refl; sound = a .pre .0; all = omega arith; kept = kept-none; linked = λ middle j e d. d }
+
+-- one is left, it is sound, and there is a place for it
+some : (c : tie.In-loop Inv-loop μ-loop) → 0 < c .before .loop .inv .left
+some c = omega (arith, c .loop-test .taken, c .before .loop .inv .there)
+
 here : (c : tie.In-loop Inv-loop μ-loop) → TargetOk (now (start c .args .s)) (start c .args .n) (c .before .loop .q)
-here c = sound-more _ (c .loop-test .taken) (c .before .loop .inv .0) .0
+here c = sound-more _ (some c) (c .before .loop .inv .sound) .0
 
 long : (c : tie.In-loop Inv-loop μ-loop) → let l = c .before .loop in Long (start c .args .n) (l .heads) (l .links) (l .spots) (l .sources)
-long c = kept-long (c .before .loop .inv .2) (start c .pre .1 .1 .0)
+long c = kept-long (c .before .loop .inv .kept) (start c .pre .1 .1 .0)
 
 free : (c : tie.In-loop Inv-loop μ-loop) → (c .before .loop .at < length (c .before .loop .links)) × (length (c .before .loop .links) ≤ 65535)
-free c = (omega (arith, c .loop-test .taken, c .before .loop .inv .1, start c .pre .1 .1 .1 .1, c .before .loop .inv .2 .links-long), long c .short)
+free c = (omega (arith, some c, c .before .loop .inv .all, start c .pre .1 .1 .1 .1, c .before .loop .inv .kept .links-long), long c .short)
 
 named : (c : tie.After-number-at2 Inv-loop μ-loop) → c .number-at2 .result < start (c .before) .args .n
 named c = omega (arith, c .number-at2 .ensures, here (c .before) .named)
@@ -80,16 +100,16 @@ cast-v c = search needs
 
 -- every target is a node
 same-length : tie.Need-same-length Inv-loop μ-loop
-same-length c = c .before .before .before .loop .inv .2 .heads-long
+same-length c = c .before .before .before .loop .inv .kept .heads-long
 
 same-length-2 : tie.Need-same-length-2 Inv-loop μ-loop
-same-length-2 c = c .before .before .before .loop .inv .2 .links-long
+same-length-2 c = c .before .before .before .loop .inv .kept .links-long
 
 same-length-3 : tie.Need-same-length-3 Inv-loop μ-loop
-same-length-3 c = c .before .before .before .loop .inv .2 .spots-long
+same-length-3 c = c .before .before .before .loop .inv .kept .spots-long
 
 same-length-4 : tie.Need-same-length-4 Inv-loop μ-loop
-same-length-4 c = c .before .before .before .loop .inv .2 .sources-long
+same-length-4 c = c .before .before .before .loop .inv .kept .sources-long
 
 returns : tie.Need-returns Inv-loop μ-loop
 returns c = absurd (omega (arith, c .if1 .taken, c .before .number-at2 .ensures, here (c .before .before) .named))
@@ -136,41 +156,42 @@ slice-write-heads c = omega (arith, in-heads (c .before .before))
 add-q-2 : tie.Need-add-q-2 Inv-loop μ-loop
 add-q-2 c = omega (arith, here (c .before .before .before) .inside)
 
-sub-i : tie.Need-sub-i Inv-loop μ-loop
-sub-i c = omega arith
-
 loop-less : tie.Need-loop-less Inv-loop μ-loop
-loop-less c = omega arith
+loop-less c = omega (arith, c .before .before .before .loop-test .taken)
 
 loop-again : tie.Need-loop-again Inv-loop μ-loop
 loop-again c =
     let t = c .before .before .before in
-    let l = t .before .loop in (
-      sound-more _ (t .loop-test .taken) (l .inv .0) .1,
-      omega (arith, t .loop-test .taken, l .inv .1),
-      kept-set (l .inv .2) _ _ _ _ _ _,
-      λ middle j e d. linked-turn _ _ (l .inv .3 middle j e d) j refl (t .loop-test .taken) (free t .0) _ (c .before .before .number-at2 .ensures) (named (c .before .before)) _ e _ (read t .number-at .ensures),
-    )
+    let l = t .before .loop in
+    record {
+      left = l .inv .left - 1;
+      there = omega (arith, some t, l .inv .there);
+      sound = sound-more _ (some t) (l .inv .sound) .1;
+      all = omega (arith, some t, l .inv .all);
+      kept = kept-set (l .inv .kept) _ _ _ _ _ _;
+      linked = λ middle j e d. linked-turn _ _ (l .inv .linked middle j e d) j refl (some t) (free t .0) _ (c .before .before .number-at2 .ensures) (named (c .before .before)) _ e _ (read t .number-at .ensures);
+    }
 
 same-length-5 : tie.Need-same-length-5 Inv-loop μ-loop
-same-length-5 c = c .before .loop .inv .2 .heads-long
+same-length-5 c = c .before .loop .inv .kept .heads-long
 
 same-length-6 : tie.Need-same-length-6 Inv-loop μ-loop
-same-length-6 c = c .before .loop .inv .2 .links-long
+same-length-6 c = c .before .loop .inv .kept .links-long
 
 same-length-7 : tie.Need-same-length-7 Inv-loop μ-loop
-same-length-7 c = c .before .loop .inv .2 .spots-long
+same-length-7 c = c .before .loop .inv .kept .spots-long
 
 same-length-8 : tie.Need-same-length-8 Inv-loop μ-loop
-same-length-8 c = c .before .loop .inv .2 .sources-long
+same-length-8 c = c .before .loop .inv .kept .sources-long
 
 returns-2 : tie.Need-returns-2 Inv-loop μ-loop
 returns-2 c =
     let l = c .before .loop in
     let a = begun (c .before .before .before) .args in
-    let all : l .at ≡ a .place + a .k = omega (arith, l .inv .1) in (
+    let none : l .inv .left ≡ 0 = omega (arith, l .inv .there) in
+    let all : l .at ≡ a .place + a .k = omega (arith, none, l .inv .all) in (
       all,
-      λ middle j e d. subst (λ (places : ℕ). Linked (now (a .s)) (a .n) middle (j + 1) [] 0 places (l .heads) (l .links) (l .spots) (l .sources)) all (linked-end _ _ (l .inv .3 middle j e d) (omega arith)),
+      λ middle j e d. subst (λ (places : ℕ). Linked (now (a .s)) (a .n) middle (j + 1) [] 0 places (l .heads) (l .links) (l .spots) (l .sources)) all (linked-end _ _ (l .inv .linked middle j e d) none),
     )
 
 pub link-spec : {M : Type 1} → statement M
@@ -182,6 +203,8 @@ link-spec =
     number-at-requires
     cast-source
     add-q
+    mul-end
+    add-end
     loop-holds
     add-number-at
     number-at-requires-2
@@ -205,7 +228,6 @@ link-spec =
     mul-heads
     slice-write-heads
     add-q-2
-    sub-i
     loop-less
     loop-again
     same-length-5

@@ -4,7 +4,6 @@ use mathlib.Core.List.{[]}
 use mathlib.Core.Path.{_≡_, refl, sym, ap, subst, _∙_}
 use denote.Ref.{now}
 use native.Mathlib.Omega.{arith}
-use borrow.Author.Needs.{needs}
 use Rattle.wire.specs.Bytes.{number}
 use lib.ListN.{length}
 use Rattle.wire.specs.Layout.{items, Sound}
@@ -18,40 +17,28 @@ use Rattle.links.proofs.link_hypers.Statement.{statement}
 use Rattle.links.proofs.link_hypers.Tie as tie
 
 abbrev Inv-loop : tie.InvT-loop
-Inv-loop s n h middle heads₀ links₀ spots₀ sources₀ j₀ p₀ place₀ last₀ stride₀ heads links spots sources j p place last stride =
+Inv-loop s n h middle heads₀ links₀ spots₀ sources₀ j₀ p₀ place₀ heads links spots sources j p place =
     (j ≤ h) × (p ≡ hyperAt s n j) × (p ≡ graphHeader + j * hyperWidth + place * targetWidth) × Linked s n middle j [] 0 place heads links spots sources
-    × (stride ≡ hyperWidth + last * targetWidth) × Kept heads₀ links₀ spots₀ sources₀ heads links spots sources
+    × Kept heads₀ links₀ spots₀ sources₀ heads links spots sources
 
 abbrev μ-loop : tie.MeasureT-loop
-μ-loop s n h middle heads₀ links₀ spots₀ sources₀ j₀ p₀ place₀ last₀ stride₀ heads links spots sources j p place last stride = h - j
+μ-loop s n h middle heads₀ links₀ spots₀ sources₀ j₀ p₀ place₀ heads links spots sources j p place = h - j
 
--- the call, from where the loop begins, and from its test; each arm, from where it calls; and the link, and the count, from behind
+-- the call, from where the loop begins, and from its test; the count, from where the link is called; and the link, from behind
 abbrev begun : tie.After-slice-known4 Inv-loop μ-loop → tie.Start Inv-loop μ-loop
 begun c = c .before .before .before .before .before
 
 abbrev start : tie.In-loop Inv-loop μ-loop → tie.Start Inv-loop μ-loop
 start c = begun (c .before .before)
 
-abbrev arm : tie.After-link-arg4 Inv-loop μ-loop → tie.Then1 Inv-loop μ-loop
-arm c = c .before .before .before .before
-
-abbrev same : tie.After-link Inv-loop μ-loop → tie.After-number-at Inv-loop μ-loop
-same c = arm (c .before) .before
+abbrev counted : tie.After-link-arg4 Inv-loop μ-loop → tie.After-number-at Inv-loop μ-loop
+counted c = c .before .before .before .before
 
 abbrev called : tie.After-slice-known8 Inv-loop μ-loop → tie.After-link Inv-loop μ-loop
 called c = c .before .before .before .before .before .before .before .before
 
-abbrev called2 : tie.After-slice-known12 Inv-loop μ-loop → tie.After-link2 Inv-loop μ-loop
-called2 c = c .before .before .before .before .before .before .before .before
-
-abbrev arm2 : tie.After-link-arg8 Inv-loop μ-loop → tie.Else1 Inv-loop μ-loop
-arm2 c = c .before .before .before .before
-
-abbrev other : tie.After-link2 Inv-loop μ-loop → tie.After-number-at Inv-loop μ-loop
-other c = arm2 (c .before) .before
-
 loop-holds : tie.Need-loop-holds Inv-loop μ-loop
-loop-holds c = (omega arith, sym (end-none _ 0 graphHeader refl), omega arith, begun c .pre .1 .1 .1, refl, kept-none)
+loop-holds c = (omega arith, sym (end-none _ 0 graphHeader refl), omega arith, begun c .pre .1 .1 .1, kept-none)
 
 -- the next hyperedge is sound
 here : (c : tie.In-loop Inv-loop μ-loop) → HyperOk (now (start c .args .s)) (start c .args .n) (c .before .loop .p)
@@ -90,7 +77,7 @@ asked : (t : tie.In-loop Inv-loop μ-loop) {k : ℕ} → let a = start t .args i
 asked t is =
     let a = start t in
     let l = t .before .loop .inv in
-    (rw is (here t .sound), (omega (arith, here t .inside), (l .3 .long, (omega (arith, far t, a .pre .1 .1 .0 .0), omega (arith, far t, is, l .2, l .5 .links-long, t .loop-test .taken, a .pre .1 .1 .0 .1)))))
+    (rw is (here t .sound), (omega (arith, here t .inside), (l .3 .long, (omega (arith, far t, a .pre .1 .1 .0 .0), omega (arith, far t, is, l .2, l .4 .links-long, t .loop-test .taken, a .pre .1 .1 .0 .1)))))
 
 opened : (t : tie.In-loop Inv-loop μ-loop) {k : ℕ} → let a = start t .args in let l = t .before .loop in k ≡ number 2 (now (a .s)) (l .p + targetCountAt)
     → Linked (now (a .s)) (a .n) (a .middle) (l .j + 1) (items (targetLayout (now (a .s)) (a .n)) k (l .p + hyperWidth)) 0 (l .place) (l .heads) (l .links) (l .spots) (l .sources)
@@ -99,82 +86,62 @@ opened t is =
     let l = t .before .loop in
     linked-open (l .inv .3) _ (ap (λ (q : ℕ). hyperLayout (now (a .s)) (a .n) .item q .targets) (sym (l .inv .1)) ∙ ap (λ (k : ℕ). items (targetLayout (now (a .s)) (a .n)) k (l .p + hyperWidth)) (sym is))
 
--- the count is the one before it
-is-last : (c : tie.Then1 Inv-loop μ-loop) → let a = start (c .before .before) .args in let l = c .before .before .before .loop in l .last ≡ number 2 (now (a .s)) (l .p + targetCountAt)
-is-last c = sym (c .if1 .taken) ∙ c .before .number-at .ensures
-
 link-requires : tie.Need-link-requires Inv-loop μ-loop
-link-requires c κs = let f = arm c in asked (f .before .before) (is-last f)
+link-requires c κs = let m = counted c in asked (m .before) (m .number-at .ensures)
+
+-- the link linked as many places as the count tells
+more : (c : tie.After-link Inv-loop μ-loop) → let m = counted (c .before) in c .link .result ≡ m .before .before .loop .place + m .number-at .result
+more c = c .link .ensures .0
+
+-- so the next position is not behind the middle
+past : (c : tie.After-slice-known8 Inv-loop μ-loop) → let k = called c in let l = counted (k .before) .before .before .loop in
+    l .p + hyperWidth + (k .link .result - l .place) * targetWidth ≤ 65535
+past c =
+    let k = called c in
+    let m = counted (k .before) in
+    omega (arith, more k, m .number-at .ensures, far (m .before), start (m .before) .pre .1 .1 .0 .0)
+
+sub-p : tie.Need-sub-p Inv-loop μ-loop
+sub-p c = omega (arith, more (called c))
+
+mul-p : tie.Need-mul-p Inv-loop μ-loop
+mul-p c = omega (arith, past c)
 
 add-p : tie.Need-add-p Inv-loop μ-loop
-add-p c =
-    let k = called c in
-    let t = same k .before in
-    omega (arith, far t, is-last (arm (k .before)), t .before .loop .inv .4, start t .pre .1 .1 .0 .0)
+add-p c = omega (arith, past c)
+
+add-p-2 : tie.Need-add-p-2 Inv-loop μ-loop
+add-p-2 c = omega (arith, past c)
 
 loop-less : tie.Need-loop-less Inv-loop μ-loop
-loop-less c = omega (arith, same (called c) .before .loop-test .taken)
+loop-less c = omega (arith, counted (called c .before) .before .loop-test .taken)
 
 loop-again : tie.Need-loop-again Inv-loop μ-loop
 loop-again c =
     let k = called c in
-    let t = same k .before in
+    let m = counted (k .before) in
+    let t = m .before in
     let l = t .before .loop in
-    let is = is-last (arm (k .before)) in
-    let stride = l .inv .4 in
+    let is = m .number-at .ensures in
     let as-long = k .link .kept .1 .1 .1 .1 .1 in (
       omega (arith, t .loop-test .taken),
-      omega (arith, next t, is, stride),
-      omega (arith, l .inv .2, k .link .ensures .0, stride),
-      rw (k .link .ensures .0) (k .link .ensures .1 (start t .args .middle) (l .j) (l .inv .1) (opened t is)),
-      stride,
-      kept-on (l .inv .5) (as-long .0) (as-long .1 .0) (as-long .1 .1 .0) (as-long .1 .1 .1 .0),
-    )
-
-link-requires-2 : tie.Need-link-requires-2 Inv-loop μ-loop
-link-requires-2 c κs = let m = arm2 c .before in asked (m .before) (m .number-at .ensures)
-
-cast-stride : tie.Need-cast-stride Inv-loop μ-loop
-cast-stride c = search needs
-
-mul-stride : tie.Need-mul-stride Inv-loop μ-loop
-mul-stride c = omega arith
-
-add-stride : tie.Need-add-stride Inv-loop μ-loop
-add-stride c = omega arith
-
-add-p-2 : tie.Need-add-p-2 Inv-loop μ-loop
-add-p-2 c = omega (arith, here (other (called2 c) .before) .inside)
-
-loop-less-2 : tie.Need-loop-less-2 Inv-loop μ-loop
-loop-less-2 c = omega (arith, other (called2 c) .before .loop-test .taken)
-
-loop-again-2 : tie.Need-loop-again-2 Inv-loop μ-loop
-loop-again-2 c =
-    let k = called2 c in
-    let t = other k .before in
-    let l = t .before .loop in
-    let is = other k .number-at .ensures in
-    let as-long = k .link2 .kept .1 .1 .1 .1 .1 in (
-      omega (arith, t .loop-test .taken),
-      omega (arith, next t, is),
-      omega (arith, l .inv .2, k .link2 .ensures .0),
-      rw (k .link2 .ensures .0) (k .link2 .ensures .1 (start t .args .middle) (l .j) (l .inv .1) (opened t is)),
-      refl,
-      kept-on (l .inv .5) (as-long .0) (as-long .1 .0) (as-long .1 .1 .0) (as-long .1 .1 .1 .0),
+      omega (arith, next t, is, more k),
+      omega (arith, l .inv .2, more k),
+      rw (more k) (k .link .ensures .1 (start t .args .middle) (l .j) (l .inv .1) (opened t is)),
+      kept-on (l .inv .4) (as-long .0) (as-long .1 .0) (as-long .1 .1 .0) (as-long .1 .1 .1 .0),
     )
 
 same-length : tie.Need-same-length Inv-loop μ-loop
-same-length c = c .before .loop .inv .5 .heads-long
+same-length c = c .before .loop .inv .4 .heads-long
 
 same-length-2 : tie.Need-same-length-2 Inv-loop μ-loop
-same-length-2 c = c .before .loop .inv .5 .links-long
+same-length-2 c = c .before .loop .inv .4 .links-long
 
 same-length-3 : tie.Need-same-length-3 Inv-loop μ-loop
-same-length-3 c = c .before .loop .inv .5 .spots-long
+same-length-3 c = c .before .loop .inv .4 .spots-long
 
 same-length-4 : tie.Need-same-length-4 Inv-loop μ-loop
-same-length-4 c = c .before .loop .inv .5 .sources-long
+same-length-4 c = c .before .loop .inv .4 .sources-long
 
 returns : tie.Need-returns Inv-loop μ-loop
 returns c =
@@ -194,16 +161,12 @@ link-hypers-spec =
     number-at-requires
     add-j
     link-requires
+    sub-p
+    mul-p
     add-p
+    add-p-2
     loop-less
     loop-again
-    link-requires-2
-    cast-stride
-    mul-stride
-    add-stride
-    add-p-2
-    loop-less-2
-    loop-again-2
     same-length
     same-length-2
     same-length-3

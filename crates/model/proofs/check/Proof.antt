@@ -1,6 +1,5 @@
--- `model::check` meets its contract: the header, the labels, the transitions.
-use Prim.Native.Nat.{_+_, _*_}
-use mathlib.Core.Path.{_≡_, sym, _∙_}
+-- `model::check` meets its contract: the header, the labels, the transitions, which are in order or are read one by one.
+use mathlib.Core.Path.{_≡_, _∙_}
 use denote.Ref.{now}
 use borrow.Author.Needs.{needs}
 use native.Mathlib.Omega.{arith}
@@ -16,20 +15,24 @@ use Rattle.model.specs.Message.{readHeader, readModel}
 use Rattle.model.specs.Message as m
 use Rattle.model.specs.Answers.{checked}
 use Rattle.model.proofs.Good.{header-good}
+use Rattle.model.proofs.Ordered.{in-order-read}
 use Rattle.model.proofs.Answered.{counted-model, counted-refused}
 use Rattle.model.proofs.check.Statement.{statement}
 use Rattle.model.proofs.check.Tie as tie
 
 -- the places that the facts below look back to: the start, seen from where the header is known; where it is, seen from where the labels were
--- read; and where these were, seen from where the transitions were
+-- read; and where these were, seen from where the transitions are not in order, and from where they were read
 abbrev entered : tie.After-known-told → tie.Start
 entered c = c .before .before .before .before .before
 
 abbrev headed : tie.After-enum-told2 → tie.After-known-told
 headed c = c .before .before .before
 
+abbrev unordered : tie.Else1 → tie.After-enum-told2
+unordered c = c .before .before
+
 abbrev labelled : tie.After-enum-told3 → tie.After-enum-told2
-labelled c = c .before .before .before
+labelled c = unordered (c .before .before .before)
 
 -- the header is good, and so are the labels and the transitions
 head-good : (c : tie.After-known-told) → let k = c .before .head .given .0 in
@@ -83,27 +86,40 @@ mul-middle c = search needs
 add-middle : tie.Need-add-middle
 add-middle c = search needs
 
-transitions-requires : tie.Need-transitions-requires
-transitions-requires c κs = let h = header-good _ _ (head-good (headed c)) in (omega (arith, h .long), h .states-counted .no-less)
-
-enum-known-e-2 : tie.Need-enum-known-e-2
-enum-known-e-2 c = search needs
+in-order-requires : tie.Need-in-order-requires
+in-order-requires c κs = let h = header-good _ _ (head-good (headed c)) in (omega (arith, h .states-counted .no-more), omega (arith, h .long))
 
 returns-3 : tie.Need-returns-3
 unfolding readModel checked
 returns-3 c =
+    let l = c .before .before in
+    let h = head-good (headed l) in
+    let ls = run-good _ _ _ _ (labels-next l) in
+    let end = in-order-read _ _ _ _ (omega (arith, header-good _ _ h .long)) (by (c .before .in-order .ensures) (c .if1 .taken)) in
+    let ts = run-good _ _ _ _ (end .runs) in
+    simp (reading, h, ls .there, ts .there, all-length _ _ _ _ (ts .there))
+
+transitions-requires : tie.Need-transitions-requires
+transitions-requires c κs = let h = header-good _ _ (head-good (headed (unordered c))) in (omega (arith, h .long), omega arith)
+
+enum-known-e-2 : tie.Need-enum-known-e-2
+enum-known-e-2 c = search needs
+
+returns-4 : tie.Need-returns-4
+unfolding readModel checked
+returns-4 c =
     let r = c .before .before .before in
-    let h = head-good (headed (r .before)) in
-    let ls = run-good _ _ _ _ (labels-next (r .before)) in
+    let h = head-good (headed (unordered (r .before))) in
+    let ls = run-good _ _ _ _ (labels-next (unordered (r .before))) in
     let refused = by (r .transitions .ensures) (c .before .e2 .given .1) in
     simp (reading, h, ls .there, run-bad _ _ _ _ (step-refused _ refused))
 
 enum-told-3 : tie.Need-enum-told-3
 enum-told-3 c = search needs
 
-returns-4 : tie.Need-returns-4
+returns-5 : tie.Need-returns-5
 unfolding readModel checked
-returns-4 c =
+returns-5 c =
     let l = labelled c in
     let ls = run-good _ _ _ _ (labels-next l) in
     let ts = run-good _ _ _ _ (transitions-next c) in
@@ -124,8 +140,10 @@ check-spec =
     cast-middle
     mul-middle
     add-middle
+    in-order-requires
+    returns-3
     transitions-requires
     enum-known-e-2
-    returns-3
+    returns-4
     enum-told-3
-    returns-4)
+    returns-5)

@@ -1,5 +1,5 @@
--- `model::transitions` meets its contract: the i transitions that are left fit, the state that the last one left exists, and their run is the whole run.
-use Prim.Native.Nat.{_+_, _*_, _≤_, _<_}
+-- `model::transitions` meets its contract: the i transitions that are left fit, the source before them is at most n, and their run is the whole run.
+use Prim.Native.Nat.{_+_, _*_, _≤_}
 use mathlib.Core.Path.{_≡_, refl}
 use lib.ListN.{length}
 use borrow.Author.Needs.{needs}
@@ -15,7 +15,8 @@ use Rattle.model.proofs.transitions.Statement.{statement}
 use Rattle.model.proofs.transitions.Tie as tie
 
 abbrev Inv-loop : tie.InvT-loop
-Inv-loop s n k st₀ i₀ st i = (st .at + i * transitionWidth ≤ length s) × (st .prev < n) × (step (run (m.transitions s n) i st) ≡ step (run (m.transitions s n) k st₀))
+Inv-loop s n k st₀ i₀ st i =
+    (st .at + i * transitionWidth ≤ length s) × (st .prev ≤ n) × (step (run (m.transitions s n) i st) ≡ step (run (m.transitions s n) k st₀))
 
 abbrev μ-loop : tie.MeasureT-loop
 μ-loop s n k st₀ i₀ st i = i
@@ -33,7 +34,9 @@ enum-told : tie.Need-enum-told Inv-loop μ-loop
 enum-told c = search needs
 
 returns : tie.Need-returns Inv-loop μ-loop
-returns c = turn-refused _ _ _ _ (c .before .before .before .before .loop .inv .2) (omega arith) (c .before .before .transition .ensures) (c .enum-told .given .1)
+returns c =
+    let t = c .before .before in
+    turn-refused _ _ _ _ (t .before .before .loop .inv .2) (omega arith) (t .transition .ensures) (c .enum-told .given .1)
 
 sub-i : tie.Need-sub-i Inv-loop μ-loop
 sub-i c = omega arith
@@ -47,7 +50,7 @@ loop-again c =
     let is = c .before .read .given .1 in
     let next = step-next _ (by (t .transition .ensures) is) in (
       omega (arith, transitions-move _ _ _ _ next),
-      transitions-leave _ _ _ _ next,
+      omega (arith, transitions-leave _ _ _ _ next),
       turn-next _ _ _ _ (t .before .before .loop .inv .2) (omega arith) (t .transition .ensures) is,
     )
 

@@ -1,4 +1,5 @@
 -- `records::put_looked` meets its contract, for either kind of action.
+use native.Mathlib.Omega.{arith}
 use borrow.Author.Needs.{needs}
 use Rattle.records.proofs.put_looked.Statement.{statement}
 use Rattle.records.proofs.put_looked.Tie as tie
@@ -10,7 +11,7 @@ put-nearby-requires : tie.Need-put-nearby-requires
 put-nearby-requires c κs =
     let told = c .before in
     let s = told .before .before .before .before in
-    (s .pre .0, rw (told .enum-told .given .1) at (s .pre .1))
+    (s .pre .0, (rw (told .enum-told .given .1) at (s .pre .1), omega arith))
 
 enum-known-action : tie.Need-enum-known-action
 enum-known-action c = search needs
@@ -19,7 +20,7 @@ put-nearby-requires-2 : tie.Need-put-nearby-requires-2
 put-nearby-requires-2 c κs =
     let told = c .before .before in
     let s = told .before .before .before .before in
-    (s .pre .0, rw (told .action .given .1) at (s .pre .1))
+    (s .pre .0, (rw (told .action .given .1) at (s .pre .1), omega arith))
 
 same-length : tie.Need-same-length
 same-length c = search needs

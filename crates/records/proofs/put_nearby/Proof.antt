@@ -1,5 +1,5 @@
 -- `records::put_nearby` meets its contract: what is written for the transitions left, those that are looked at, makes the whole.
-use Prim.Native.Nat.{ℕ, suc, _+_, _*_, _-_, _<_, _≤_}
+use Prim.Native.Nat.{ℕ, suc, _+_, _*_, _-_, _%_, _<_, _≤_}
 use mathlib.Core.List.{List}
 use mathlib.Core.Bool.{Bool, true}
 use mathlib.Core.Path.{_≡_, refl, sym, ap, subst, _∙_}
@@ -8,17 +8,19 @@ use native.Mathlib.Nat.{suc-mul}
 use native.Mathlib.Numerals.{add-one}
 use native.Mathlib.Omega.{arith}
 use lib.ListN.{length}
+use Rattle.wire.specs.Bytes.{number}
 use Rattle.wire.specs.Layout.{Layout}
 use Rattle.wire.specs.Write.{writeAll}
 use Rattle.wire.proofs.Laid.{said}
 use Rattle.wire.proofs.Written.{writeAll-keep}
 use Rattle.syntax.specs.declared.Quantifier.{Quantifier}
-use Rattle.model.specs.Format.{transitionWidth, transitionAt}
+use Rattle.model.specs.Format.{toAt, transitionWidth, transitionAt}
 use Rattle.model.specs.Model.{Transition}
 use Rattle.transitions.specs.Held.{transitionLayout, transitionsFrom}
 use Rattle.records.specs.Bytes.{nearBytes, nearbyBytes}
 use Rattle.transitions.specs.Looked.{isNear}
 use Rattle.transitions.proofs.Counting.{passing, passing-le, passing-none, passing-here, passing-there, last-passes}
+use Rattle.transitions.proofs.Sides.{successor-of}
 use Rattle.records.proofs.Edges.{Filling, filling-all, filling-none, next-readable, next-named}
 use Rattle.records.proofs.Nearby.{near-long, near-wide, near, near-short, near-fits, near-stays, near-goes, filled-at, fewer-read}
 use Rattle.records.proofs.put_nearby.Statement.{statement}
@@ -39,10 +41,13 @@ Inv-loop room₀ at m n q v first many low high most shift width near₀ p₀ i�
 abbrev μ-loop : tie.MeasureT-loop
 μ-loop room₀ at m n q v first many low high most shift width near₀ p₀ i₀ room count p i = i
 
--- the places that the facts below look back to: the start, seen from where the loop is entered, and from a turn; and the turn, seen from
--- where it wrote
+-- the places that the facts below look back to: where the model's bytes were known, and the start, seen from where the loop is entered; the
+-- start, seen from a turn; and the turn, seen from where it wrote
+abbrev known : tie.After-near-end Inv-loop μ-loop → tie.After-shared-slice-known Inv-loop μ-loop
+known c = c .before .before .before
+
 abbrev entered : tie.After-near-end Inv-loop μ-loop → tie.Start Inv-loop μ-loop
-entered c = c .before .before .before .before .before
+entered c = known c .before .before
 
 abbrev start : tie.In-loop Inv-loop μ-loop → tie.Start Inv-loop μ-loop
 start c = entered (c .before .before)
@@ -57,7 +62,7 @@ transition-at-requires : tie.Need-transition-at-requires Inv-loop μ-loop
 transition-at-requires c κs = tt
 
 near-end-requires : tie.Need-near-end-requires Inv-loop μ-loop
-near-end-requires c κs = c .before .before .before .before .pre .0 .long
+near-end-requires c κs = let s = c .before .before .before .before in (s .pre .0 .long, s .pre .1 .1)
 
 loop-holds : tie.Need-loop-holds Inv-loop μ-loop
 unfolding near
@@ -72,7 +77,7 @@ loop-holds c =
     let whole-is = ap (writeAll (one (a .q) (a .v) (a .shift))) (sym (upto .all)) ∙ writeAll-keep (one (a .q) (a .v) (a .shift)) test us in
     let all : passing L test (c .near-end .result) (c .before .transition-at .result) ≡ passing L test (a .many) (transitionAt (a .n) (a .first)) =
     ap (passing L test (c .near-end .result)) from ∙ ap length (upto .all) in (
-      filled-at (filling-all _ _ _ (fewer-read (s .pre .0) (c .near-end .result) (upto .some)) _ _ _ whole-is (s .pre .1) from) (omega arith),
+      filled-at (filling-all _ _ _ (fewer-read (s .pre .0) (c .near-end .result) (upto .some)) _ _ _ whole-is (s .pre .1 .0) from) (omega arith),
       λ h. subst (λ (x : ℕ). test (L .item (x + (c .near-end .result - 1) * transitionWidth)) ≡ true) (sym from) (upto .last h),
       omega (arith, all),
     )
@@ -103,20 +108,28 @@ short c = near-short _ _ _ _ _ (λ u. near-long _ _ _) (c .before .loop .inv .0)
 inside : (c : tie.In-loop Inv-loop μ-loop) → c .before .loop .p + transitionWidth ≤ length (now (start c .args .m))
 inside c = next-readable _ _ _ (c .before .loop .inv .0) (c .loop-test .taken)
 
-is-near-requires : tie.Need-is-near-requires Inv-loop μ-loop
-is-near-requires c κs = inside c
-
 add-number-at : tie.Need-add-number-at Inv-loop μ-loop
-add-number-at c = omega (arith, inside (c .before))
+add-number-at c = omega (arith, inside c)
 
 number-at-requires : tie.Need-number-at-requires Inv-loop μ-loop
-number-at-requires c κs = omega (arith, inside (c .before))
+number-at-requires c κs = omega (arith, inside c)
+
+is-near-of-requires : tie.Need-is-near-of-requires Inv-loop μ-loop
+is-near-of-requires c κs = (inside (c .before), (c .number-at .ensures, start (c .before) .pre .1 .1))
+
+-- the successor is the lower half of what was read
+successor : (c : tie.After-number-at Inv-loop μ-loop) → let turn = c .before in
+    c .number-at .result % 65536 ≡ number 2 (now (start turn .args .m)) (turn .before .loop .p + toAt)
+successor c =
+    let turn = c .before in
+    let bytes = known (turn .before .before) .shared-slice-known .given in
+    successor-of (now (start turn .args .m)) (λ i. omega (arith, bytes i)) (turn .before .loop .p) (c .number-at .result) (c .number-at .ensures)
 
 mul-next : tie.Need-mul-next Inv-loop μ-loop
-mul-next c = let turn = c .before .before in omega (arith, short turn, start turn .pre .1)
+mul-next c = let turn = c .before .before in omega (arith, short turn, start turn .pre .1 .0)
 
 add-next : tie.Need-add-next Inv-loop μ-loop
-add-next c = let turn = c .before .before in omega (arith, short turn, start turn .pre .1)
+add-next c = let turn = c .before .before in omega (arith, short turn, start turn .pre .1 .0)
 
 add-p : tie.Need-add-p Inv-loop μ-loop
 add-p c = omega (arith, inside (c .before .before))
@@ -127,7 +140,8 @@ sub-i c = omega (arith, c .before .before .loop-test .taken)
 add-put-near : tie.Need-add-put-near Inv-loop μ-loop
 add-put-near c =
     let turn = c .before .before .before in
-    omega (arith, next-named _ _ _ (turn .before .loop .inv .0) (turn .loop-test .taken) (c .before .number-at .ensures), start turn .pre .0 .shift-fits)
+    let named = next-named _ _ _ (turn .before .loop .inv .0) (turn .loop-test .taken) (successor (c .before .before)) in
+    omega (arith, named, start turn .pre .0 .shift-fits)
 
 put-near-requires : tie.Need-put-near-requires Inv-loop μ-loop
 put-near-requires c κs =
@@ -160,12 +174,14 @@ loop-again c =
     let q = start turn .args .q in
     let width = turn .before .before .before .before .near-width .result in
     let wide = turn .before .before .before .before .near-width .ensures in
-    let stays = sym (read .before .is-near .ensures) ∙ c .if1 .taken in
+    let stays = sym (read .is-near-of .ensures) ∙ c .if1 .taken in
     let fewer = passing-here (layout turn) (test turn) (l .i) (l .p) (turn .loop-test .taken) stays in
     let product : (l .near + 1) * width ≡ l .near * width + width = ap (λ (k : ℕ). k * width) (add-one (l .near)) ∙ suc-mul (l .near) width in
     let past = put .put-near .ensures .next-is in
-    let there : start turn .args .at + (l .near + 1) * width ≡ put .put-near .result = omega (arith, product, past, wide, near-long q (start turn .args .v) (read .number-at .result + start turn .args .shift)) in (
-      filled-at (near-stays _ _ _ _ _ (λ u. near-long _ _ _) (l .inv .0) (short turn) refl (read .number-at .ensures) (put .put-near .ensures) stays) there,
+    let long = near-long q (start turn .args .v) (read .before .number-at .result % 65536 + start turn .args .shift) in
+    let there : start turn .args .at + (l .near + 1) * width ≡ put .put-near .result = omega (arith, product, past, wide, long) in
+    let to = successor (read .before) in (
+      filled-at (near-stays _ _ _ _ _ (λ u. near-long _ _ _) (l .inv .0) (short turn) refl to (put .put-near .ensures) stays) there,
       last-stays turn,
       omega (arith, fewer, l .inv .2),
     )
@@ -179,9 +195,10 @@ loop-again-2 c =
     let read = put .before .before in
     let turn = read .before .before in
     let l = turn .before .loop in
-    let goes = sym (read .before .is-near .ensures) ∙ c .if1 .left in
-    let fewer = passing-there (layout turn) (test turn) (l .i) (l .p) (turn .loop-test .taken) goes in (
-      near-goes _ _ _ _ _ (λ u. near-long _ _ _) (l .inv .0) (short turn) refl (read .number-at .ensures) (put .put-near .ensures) goes,
+    let goes = sym (read .is-near-of .ensures) ∙ c .if1 .left in
+    let fewer = passing-there (layout turn) (test turn) (l .i) (l .p) (turn .loop-test .taken) goes in
+    let to = successor (read .before) in (
+      near-goes _ _ _ _ _ (λ u. near-long _ _ _) (l .inv .0) (short turn) refl to (put .put-near .ensures) goes,
       last-stays turn,
       omega (arith, fewer, l .inv .2),
     )
@@ -210,9 +227,9 @@ put-nearby-spec =
     transition-at-requires
     near-end-requires
     loop-holds
-    is-near-requires
     add-number-at
     number-at-requires
+    is-near-of-requires
     mul-next
     add-next
     add-p

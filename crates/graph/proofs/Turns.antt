@@ -8,9 +8,9 @@ use Rattle.wire.specs.Reader.{Reader, one, run}
 use Rattle.wire.specs.declared.State.{State}
 use Rattle.wire.proofs.Reading.{bind-good, good-same, good-then}
 use Rattle.wire.proofs.Readers.{run-more}
 use Rattle.graph.specs.Format.{targetCountAt, coverWidth}
 use Rattle.graph.specs.Message.{hypers, covers, afterHyper}
-use Rattle.edges.proofs.Fused.{hyper-reads, hyper-fits, cover-reads, cover-fits}
+use Rattle.graph.proofs.Fused.{hyper-reads, hyper-fits, cover-reads, cover-fits}
 
 -- where a record leads
 module _ (s : List ℕ) (n : ℕ) where

@@ -1,5 +1,5 @@
 -- A record whose fields pass the tests of the graph's reading is what that reading gives, and the other way round. Assumes nothing.
-use Prim.Native.Nat.{ℕ, zero, suc, _+_, _*_, _≤_}
+use Prim.Native.Nat.{ℕ, zero, suc, _+_, _-_, _*_, _^_, _%_, _≤_, _<_}
 use mathlib.Core.List.{List}
 use mathlib.Core.Path.{_≡_, refl, ap}
 use lib.ListN.{length}
@@ -14,12 +14,20 @@ use Rattle.wire.proofs.Fields.{field-value}
 use Rattle.wire.proofs.Reading.{bind-good, there, good-below, good-source}
 use Rattle.wire.proofs.Layouts.{items-length}
 use Rattle.wire.proofs.Exact.{good-bind, good-demand}
 use Rattle.graph.specs.Format.{mostTargets, targetCountAt, hyperWidth, nodeAt, targetWidth, coverBoundAt, coverTargetAt, coverWidth}
 use Rattle.graph.specs.Layouts.{targetLayout, HyperOk, CoverOk}
 use Rattle.graph.specs.Message.{readTarget, readTargets, readHyper, readCover, targets, hypers, covers, firstTarget, afterHyper}
 use Rattle.graph.proofs.Good.{hyper-good, cover-good}
 use Rattle.graph.proofs.Accepted.{hypers-read, covers-read}
 use Rattle.wire.proofs.Fields.{value-is}
+
+-- how far a source is above the one before it, modulo 2^32: below what is left up to n only where it is in order
+module _ (source prev n above : ℕ) (most : prev ≤ n) (fits : n < 2 ^ 32) (wraps : (above + prev) % 2 ^ 32 ≡ source) where
+  pub within : above < n - prev → (source < n) × (prev ≤ source)
+  within less = (omega arith, omega arith)
+
+  pub beyond : above < 2 ^ 32 → n - prev ≤ above → source < n → source < prev
+  beyond small far named = omega arith
 
 -- a field that fits is there
 field-there : (k : ℕ) (s : List ℕ) (at : ℕ) → at + k ≤ length s → field k s at ≡ good (number k s at)
