@@ -129,11 +129,14 @@ static void never_lost(struct input *in, uint32_t n)
     longs(in, n, 0);
 }
 
+/* Where a model's labels, weights and successors are drawn from. */
+static uint32_t model_seed = 3;
+
 static void model(struct input *in, uint32_t s, uint32_t t)
 {
     start(in->message, 2);
     put(s, 2), put(32, 1), put(t, 4);
-    seed = 3;
+    seed = model_seed;
     for (uint32_t i = 0; i < s; i++)
         put(draw(1u << 24) * 256 + draw(256), 4);
     for (uint32_t i = 0; i < t; i++)
@@ -367,26 +370,30 @@ static const struct workload {
     void (*run)(int version, const struct input *, struct answer *);
     int versions;                            /* how many */
     int faults;                              /* some versions answer for messages with a fault too */
+    int others;                              /* each call has another model than the one before */
 } table[] = {
-    {"rounds: a chain", "nodes", 4096, chain, run_rounds, ROUNDS, 0},
-    {"rounds: cover edges", "nodes", 4096, covers, run_rounds, ROUNDS, 0},
-    {"rounds: wide", "nodes", 4096, wide, run_rounds, ROUNDS, 0},
-    {"rounds: a ladder, 48 rounds", "nodes", 4096, ladder, run_rounds, ROUNDS, 0},
-    {"rounds: long hyperedges, lost", "nodes", 4096, lost, run_rounds, ROUNDS, 0},
-    {"rounds: long hyperedges, never lost", "nodes", 4096, never_lost, run_rounds, ROUNDS, 0},
-    {"check of a graph", "nodes", 4096, wide, run_graph, CHECKS, 1},
-    {"check of a model", "transitions", 65535, models, run_model, CHECKS, 1},
-    {"check of a formula", "rows", 64, formulas, run_formula, CHECKS, 1},
-    {"the graph of a model", "transitions", 65535, question, run_build, CHECKS, 0},
-    {"the graph of a model, messages checked", "transitions", 65535, question, run_checked_build, CHECKS, 0},
-    {"the graph of a model, of actions", "transitions", 65535, question_of_actions, run_build, CHECKS, 0},
-    {"verdict: a large model", "transitions", 65535, question, run_verdict, VERDICTS, 1},
-    {"verdict: leader election", "states", 256, one_leader, run_verdict, VERDICTS, 1},
-    {"verdict: two leaders", "states", 256, two_leaders, run_verdict, VERDICTS, 1},
-    {"verdict: alternating bit", "states", 256, delivered, run_verdict, VERDICTS, 1},
-    {"verdict: alternating bit, out of step", "states", 256, two_bits, run_verdict, VERDICTS, 1},
-    {"verdict: task graph", "states", 256, schedule, run_verdict, VERDICTS, 1},
-    {"verdict: task graph, too soon", "states", 256, short_schedule, run_verdict, VERDICTS, 1},
+    {"rounds: a chain", "nodes", 4096, chain, run_rounds, ROUNDS, 0, 0},
+    {"rounds: cover edges", "nodes", 4096, covers, run_rounds, ROUNDS, 0, 0},
+    {"rounds: wide", "nodes", 4096, wide, run_rounds, ROUNDS, 0, 0},
+    {"rounds: a ladder, 48 rounds", "nodes", 4096, ladder, run_rounds, ROUNDS, 0, 0},
+    {"rounds: long hyperedges, lost", "nodes", 4096, lost, run_rounds, ROUNDS, 0, 0},
+    {"rounds: long hyperedges, never lost", "nodes", 4096, never_lost, run_rounds, ROUNDS, 0, 0},
+    {"check of a graph", "nodes", 4096, wide, run_graph, CHECKS, 1, 0},
+    {"check of a model", "transitions", 65535, models, run_model, CHECKS, 1, 0},
+    {"check of a formula", "rows", 64, formulas, run_formula, CHECKS, 1, 0},
+    {"the graph of a model", "transitions", 65535, question, run_build, CHECKS, 0, 0},
+    {"the graph of a model, messages checked", "transitions", 65535, question, run_checked_build, CHECKS, 0, 0},
+    {"the graph of a model, of actions", "transitions", 65535, question_of_actions, run_build, CHECKS, 0, 0},
+    {"the graph of a model, another in each call", "transitions", 65535, question, run_build, CHECKS, 0, 1},
+    {"the graph of a model, of actions, another in each call", "transitions", 65535, question_of_actions, run_build, CHECKS, 0, 1},
+    {"verdict: a large model", "transitions", 65535, question, run_verdict, VERDICTS, 1, 0},
+    {"verdict: a large model, another in each call", "transitions", 65535, question, run_verdict, VERDICTS, 0, 1},
+    {"verdict: leader election", "states", 256, one_leader, run_verdict, VERDICTS, 1, 0},
+    {"verdict: two leaders", "states", 256, two_leaders, run_verdict, VERDICTS, 1, 0},
+    {"verdict: alternating bit", "states", 256, delivered, run_verdict, VERDICTS, 1, 0},
+    {"verdict: alternating bit, out of step", "states", 256, two_bits, run_verdict, VERDICTS, 1, 0},
+    {"verdict: task graph", "states", 256, schedule, run_verdict, VERDICTS, 1, 0},
+    {"verdict: task graph, too soon", "states", 256, short_schedule, run_verdict, VERDICTS, 1, 0},
 };
 
 /* ---- measuring */
@@ -394,15 +401,36 @@ static const struct workload {
 static struct input in;
 static struct answer answers[VERSIONS];
 
-/* Runs every version once, and compares. */
-static void compare(const struct workload *w)
+/* Models that are asked by turns, as many as have so many transitions together: a processor that sees one message again and again learns by
+ * heart which of its weights are too large, and jumps as if it knew. */
+enum { BY_TURNS = 131072, MOST_BY_TURNS = 16 };
+
+static struct input by_turns[MOST_BY_TURNS];
+static uint32_t many_by_turns, next_by_turns;
+
+static void make_others(const struct workload *w, uint32_t size)
+{
+    many_by_turns = w->others ? BY_TURNS / size : 1;
+    next_by_turns = 0;
+    for (uint32_t k = 1; k < many_by_turns; k++) {
+        struct input *other = &by_turns[k];
+        memset(&other->length, 0, sizeof *other - offsetof(struct input, length));
+        model_seed = 3 + k;
+        w->make(other, size);
+    }
+    model_seed = 3;
+    by_turns[0] = in;
+}
+
+/* Runs every version once on a message, and compares. */
+static void compare(const struct workload *w, const struct input *one)
 {
     for (int v = A; v < w->versions; v++) {
         memset(answers[v].room, 0xa5, ROOM * sizeof(uint64_t));
         memset(answers[v].graph, 0xa5, MESSAGE);
         answers[v].number = answers[v].count = answers[v].yes = 0;
         answers[v].length = 0;
-        w->run(v, &in, &answers[v]);
+        w->run(v, one, &answers[v]);
         const struct answer *x = &answers[A], *y = &answers[v];
         if (x->number != y->number || x->count != y->count || x->yes != y->yes || x->length != y->length ||
             memcmp(x->room, y->room, ROOM * sizeof(uint64_t)) || memcmp(x->graph, y->graph, MESSAGE)) {
@@ -458,7 +486,9 @@ static const struct workload *measured;
 
 static void call(int version)
 {
-    measured->run(version, &in, &answers[version]);
+    if (++next_by_turns >= many_by_turns)
+        next_by_turns = 0;
+    measured->run(version, &by_turns[next_by_turns], &answers[version]);
 }
 
 /* ---- the columns: a version by both compilers, of which the better counts, or by one */
@@ -512,7 +542,9 @@ static void measure(const struct workload *w, double turn, int turns, double *ab
         double best[VERSIONS];
         memset(&in.length, 0, sizeof in - offsetof(struct input, length));
         w->make(&in, size);
-        compare(w);
+        make_others(w, size);
+        for (uint32_t k = many_by_turns; k-- > 0;)
+            compare(w, &by_turns[k]);
         least(w->versions, call, turn, turns, best);
         print_row(w, part == 8, size, best);
         if (last[0] == 0)
@@ -540,6 +572,38 @@ static void list_above(const struct workload *w, const double *above, char *list
     }
 }
 
+/* How long the first calls on a model take, one after another, each the mean over some models: what a processor learns of a message that it
+ * sees again. Before them the version builds another model as often, and the new one is read through once. */
+enum { NEW_MODELS = 20, CALLS_ON_ONE = 20, LEARNT_SIZE = 32768 };
+
+static void print_learning(void)
+{
+    static const int versions[] = {A, B_GCC, B_CLANG, C}, shown[] = {1, 2, 3, 5, 10, 20};
+    static const char *names[] = {"(a)", "(b), gcc", "(b), clang", "(c)"};
+    struct input *known = &by_turns[1], *unseen = &by_turns[2];
+    printf("\nThe graph of a model of %d transitions, the n-th call on it, in microseconds:\n\n| version | 1 | 2 | 3 | 5 | 10 | 20 |\n|---|---|---|---|---|---|---|\n", LEARNT_SIZE);
+    for (int k = 0; k < 4; k++) {
+        double spent[CALLS_ON_ONE] = {0};
+        for (uint32_t i = 0; i < NEW_MODELS; i++) {
+            model_seed = 100 + 2 * i, question(known, LEARNT_SIZE);
+            model_seed = 101 + 2 * i, question(unseen, LEARNT_SIZE);
+            for (int n = 0; n < CALLS_ON_ONE; n++)
+                run_build(versions[k], known, &answers[0]);
+            run_model(A, unseen, &answers[0]);
+            for (int n = 0; n < CALLS_ON_ONE; n++) {
+                double from = seconds();
+                run_build(versions[k], unseen, &answers[0]);
+                spent[n] += seconds() - from;
+            }
+        }
+        printf("| %s |", names[k]);
+        for (size_t n = 0; n < sizeof shown / sizeof *shown; n++)
+            printf(" %.1f |", spent[shown[n] - 1] / NEW_MODELS * 1e6);
+        printf("\n");
+    }
+    model_seed = 3;
+}
+
 int main(int argc, char **argv)
 {
     double turn = argc > 1 ? atof(argv[1]) : 0.02;
@@ -547,6 +611,8 @@ int main(int argc, char **argv)
     const char *only = argc > 3 ? argv[3] : "";
     in.message = malloc(MESSAGE);
     in.formula = malloc(1024);
+    for (int k = 1; k < MOST_BY_TURNS; k++)
+        by_turns[k].message = malloc(MESSAGE), by_turns[k].formula = malloc(1024);
     for (int v = 0; v < VERSIONS; v++) {
         answers[v].room = malloc(ROOM * sizeof(uint64_t));
         answers[v].graph = malloc(MESSAGE);
@@ -569,5 +635,7 @@ int main(int argc, char **argv)
     printf("\nAll versions gave the same answers; (a), (b) and (c), and of verdicts (a), (f) and (g), also on %ld messages with a fault.\n\n", refused);
     printf("Goals, at every size: rounds, checks and the builder at most 1.00 of (b) and (c) and 1.20 of (d); verdicts of more than one round 1.00 of (b) "
            "and (c), of one round 1.20 of (f) and (g); 1.10 of (e). Above, with the largest ratio: %s.\n", *list ? list : "none");
+    if (strstr("the graph of a model, another in each call", only))
+        print_learning();
     return 0;
 }

@@ -92,7 +92,7 @@ $gcc -std=gnu17 -O2 -Wall -Wextra -Werror -I"$root/include" "$root/bench/stack.c
 $gcc -std=gnu17 -O2 -Wall -Wextra -Werror "$root/bench/where.c" -o "$out/where"
 where=$($run "$out/where")
 if [ "${where%% *}" = itself ]; then
-    turn=0.02 turns=7
+    turn=0.01 turns=21
     ran="on this processor itself, without an emulator"
     heading="x86-64, without an emulator: ${where#* }"
 else
@@ -129,9 +129,9 @@ END
     programs $((10 * ${2:-$turns})) "${3:-}" x86_64 "$target/bin/otzarvim" $run
     if [ "$machine" != x86_64 ]; then
         printf '\n## %s, without an emulator: the LLVM modules of the library and the program compiled for this machine\n\n' "$machine"
-        "$out/here/harness" "${1:-0.02}" "${2:-7}" "${3:-}"
-        searches "${1:-0.02}" "${2:-7}" "${3:-}" "$out/here/searches"
-        claims "${1:-0.02}" "${2:-7}" "${3:-}" "$out/here/claims"
+        "$out/here/harness" "${1:-0.01}" "${2:-21}" "${3:-}"
+        searches "${1:-0.01}" "${2:-21}" "${3:-}" "$out/here/searches"
+        claims "${1:-0.01}" "${2:-21}" "${3:-}" "$out/here/claims"
         printf '\nPrograms, with their start and end:\n\n'
         programs $((40 * ${2:-7})) "${3:-}" here "$out/here/otzarvim"
     fi

@@ -6,7 +6,7 @@
  * Every function is proved, and asks nothing of what it is handed but that each pointer and its length
  * name memory that is really there. Any bytes are safe: a message that is not well-formed is refused,
  * and the number says what the first fault is, the offset where it is. No function keeps anything between calls, allocates, or
- * writes anywhere but into what it is lent; 65 KiB of stack suffice (on x86-64); two threads may call at once.
+ * writes anywhere but into what it is lent; 78 KiB of stack suffice (on x86-64); two threads may call at once.
  * Memory that is lent to be written must not overlap anything else that the same call is lent. Where a
  * length is 0, its pointer is not used and may be null.
  *

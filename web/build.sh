@@ -15,7 +15,7 @@ caught "$work" library staticlib export
 ln -sf "$tools/bin/ld.lld" "$work/wasm-ld"
 grep -o '^uint8_t otzarvim_[a-z_]*' "$root/include/otzarvim.h" | cut -d' ' -f2 | sort >"$work/functions"
 sed 's/^/--export=/' "$work/functions" |
-    xargs "$work/wasm-ld" --no-entry --strip-all --stack-first -z stack-size=81920 "$work/library.o" -o "$work/otzarvim.wasm"
+    xargs "$work/wasm-ld" --no-entry --strip-all --stack-first -z stack-size=98304 "$work/library.o" -o "$work/otzarvim.wasm"
 size=$(wc -c <"$work/otzarvim.wasm")
 [ "$size" -lt "$most" ] || die "otzarvim.wasm has $size bytes: fewer than $most are allowed"
 

@@ -15,9 +15,9 @@ use Rattle.syntax.specs.declared.Quantifier.the-variants.{Some, Every}
 use Rattle.syntax.specs.declared.Row.{Row}
 use Rattle.syntax.specs.declared.Row.the-variants.{Until}
 use Rattle.reduction.specs.Built.{out, rowEdges, isUntil, untils}
-use Rattle.sizing.specs.Size.{addSize, sizeOf, rowsEdges, helperSize}
+use Rattle.sizing.specs.Size.{_⊑_, addSize, sizeOf, rowsEdges, helperSize}
 use Rattle.sizing.proofs.Untils.{by-row}
-use Rattle.sizing.proofs.Sizes.{_⊑_, part-state, state-size}
+use Rattle.sizing.proofs.Sizes.{part-state, state-size}
 use Rattle.records.specs.Bytes.{Narrow}
 
 -- where no hyperedge is too large and there are not too many, a state of a model with an until row has not too many transitions

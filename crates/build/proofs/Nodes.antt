@@ -1,12 +1,12 @@
 -- The edges of a node of an accepted model, from its state's transitions, and what a builder of them may rely on. Assumes nothing.
-use Prim.Native.Nat.{ℕ, zero, suc, _+_, _*_, _<_, _≤_}
+use Prim.Native.Nat.{ℕ, suc, _+_, _*_, _<_, _≤_}
 use mathlib.Core.List.{List, [], _∷_, _++_, map, map-map}
 use mathlib.Core.Bool.{Bool, true, false, Bool·beq}
 use mathlib.Core.Path.{_≡_, refl, ap, _∙_}
 use native.Mathlib.Nat.{mul-le-mul-left, mul-suc}
 use native.Mathlib.Numerals.{add-one}
 use native.Mathlib.Omega.{arith}
-use lib.ListN.{length}
+use lib.ListN.{length, length-append}
 use lib.Dec.{eqb}
 use Rattle.lists.specs.Lists.{_∈_}
 use Rattle.lists.specs.Making.{keep, span}
@@ -17,6 +17,7 @@ use Rattle.wire.specs.Laid.{Laid}
 use Rattle.wire.specs.Write.{writeAll}
 use Rattle.wire.proofs.Laid.{nothing, said}
 use Rattle.graph.specs.Write.{writeHyper}
+use Rattle.graph.proofs.Exact.{hypers-length}
 use Rattle.model.specs.Model.{Model, holds}
 use Rattle.syntax.specs.Format.{formulaHeader, rowWidth, placeOf}
 use Rattle.syntax.specs.declared.Quantifier.{Quantifier}
@@ -30,7 +31,7 @@ use Rattle.reduction.specs.Built.{to, endOf, hyper, out, looksAt, near, rowEdge
 use Rattle.transitions.specs.Held.{transitionsFrom, heldModel, heldRows, HoldsModel, HoldsRows, Own, Reads}
 use Rattle.transitions.specs.Looked.{leafEdges}
 use Rattle.build.specs.Leaf.{leafRow}
-use Rattle.records.specs.Bytes.{hypersBytes, nextEdges, helperList, rowBytes, rowsBytes, RowFits}
+use Rattle.records.specs.Bytes.{hypersBytes, nextEdges, helperList, rowHypers, rowsHypers, rowBytes, rowsBytes, RowFits}
 use Rattle.wire.proofs.Written.{writeAll-append}
 use Rattle.wire.proofs.Written.{span-written}
 use Rattle.wire.proofs.Stride.{items-get}
@@ -109,6 +110,16 @@ module _ (M : Model) where
   pub rows-more : (r : ℕ) (row : Row) (rows : List Row) → rowsBytes M r (row ∷ rows) ≡ rowBytes M r row ++ rowsBytes M (r + 1) rows
   unfolding rowsBytes rowBytes layout
   rows-more r row rows = rw add-one (writeAll-append writeHyper (span (λ c. map (hyper (c + M .states * r)) (rowEdges M row c)) 0 (M .states)) _)
+
+  -- and how many hyperedges that is
+  pub rows-count : (r : ℕ) (row : Row) (rows : List Row) → length (rowsHypers M r (row ∷ rows)) ≡ length (rowHypers M r row) + length (rowsHypers M (r + 1) rows)
+  unfolding layout
+  rows-count r row rows = rw add-one (length-append (rowHypers M r row) (rowsHypers M (suc r) rows))
+
+  -- they are not more than their bytes
+  pub rows-bytes : (rows : List Row) → length (rowsHypers M 0 rows) ≤ length (rowsBytes M 0 rows)
+  unfolding rowsBytes
+  rows-bytes rows = omega (arith, hypers-length (rowsHypers M 0 rows))
 
   pub rows-none : (r : ℕ) → rowsBytes M r [] ≡ []
   unfolding rowsBytes layout writeAll

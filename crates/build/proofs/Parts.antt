@@ -1,23 +1,23 @@
 -- The message of a graph that is built, part by part, and what the tests before it is written say of it. Assumes nothing.
-use Prim.Native.Nat.{ℕ, suc, _+_, _*_, _<_, _≤_}
+use Prim.Native.Nat.{ℕ, suc, _+_, _*_, _≤_}
 use mathlib.Core.List.{List, [], _∷_, _++_, map, append-assoc}
-use mathlib.Core.Bool.{true, false, _&&_, and-true, and-false}
+use mathlib.Core.Bool.{true, false, _&&_, and-true}
 use mathlib.Core.Path.{_≡_, refl, sym, ap, ap₂, _∙_}
 use native.Mathlib.Nat.{add-zero, zero-add, mul-le-mul-left}
 use native.Mathlib.Omega.{arith}
 use lib.Dec.{leb}
 use lib.ListN.{length, take, drop, length-append}
-use borrow.Author.Tests.{leb-true, le-leb, lt-leb}
+use borrow.Author.Tests.{leb-true, le-leb}
 use Rattle.lists.specs.Lists.{all}
 use Rattle.lists.specs.Making.{span, keep}
 use Rattle.lists.proofs.Kept.{keep-fail}
-use Rattle.lists.proofs.Tests.{by-test, and-left}
+use Rattle.lists.proofs.Tests.{by-test, and-left, and-right}
 use Rattle.refusal.specs.Number.{unplaced}
 use Rattle.refusal.specs.declared.Refusal.the-variants.{Size, Room}
 use Rattle.value.specs.declared.Bound.{Bound}
 use Rattle.wire.specs.Start.{startWidth}
 use Rattle.wire.specs.Bytes.{bytes}
-use Rattle.wire.specs.Laid.{laid}
+use Rattle.wire.specs.Laid.{laid, Laid}
 use Rattle.wire.specs.Write.{writeAll, message}
 use Rattle.wire.proofs.Bytes.{length-bytes}
 use Rattle.rules.specs.Graph.{Graph}
@@ -31,9 +31,9 @@ use Rattle.syntax.specs.declared.Row.the-variants.{Until}
 use Rattle.reduction.specs.Built.{ifUntil, isUntil, untils, helperAt, layout, cover, CoverEnd, graphOf}
 use Rattle.build.specs.declared.Built.the-variants as Built
 use Rattle.sizing.specs.declared.Size as size
-use Rattle.sizing.specs.Size.{sizeOf, rowsEdges, inLimits}
+use Rattle.sizing.specs.Size.{_⊑_, sizeOf, rowsEdges, inLimits}
 use Rattle.records.specs.Bytes.{rowsBytes, helpersBytes, coverBytes, coversFrom, coversOf}
-use Rattle.build.specs.Built.{fits, roomy, builtOf, builtRoom, Writable}
+use Rattle.build.specs.Built.{fits, roomy, builtOf, builtRoom, enough, Writable}
 use Rattle.sizing.proofs.Untils.{other-row, by-row}
 use Rattle.sizing.proofs.Limits.{counts-within}
 use Rattle.wire.proofs.Written.{writeAll-append}
@@ -98,9 +98,10 @@ message-parts g long e =
     let is : long ≡ startWidth + length (writeBody g) = e ∙ simp (length-append, length-bytes) (omega arith) in
     rw is (simp append-assoc)
 
+-- its header, and behind it the hyperedges of rows and helpers, and the cover edges
 pub graph-parts : (M : Model) (rows : List Row) (long hypers : ℕ) → long ≡ length (writeGraph (graphOf M rows)) → hypers ≡ length (graphOf M rows .hypers)
     → writeGraph (graphOf M rows) ≡ writeHeader long (M .states * (length rows + length (untils rows))) hypers (M .states * length (untils rows))
-    ++ rowsBytes M 0 rows ++ helpersBytes M (length rows) (untils rows) ++ coversOf (M .states) rows
+    ++ (rowsBytes M 0 rows ++ helpersBytes M (length rows) (untils rows) ++ coversOf (M .states) rows)
 unfolding graphOf rowsBytes helpersBytes
 graph-parts M rows long hypers long-is hypers-are =
     message-parts (graphOf M rows) long long-is
@@ -126,7 +127,7 @@ module _ {M : Model} {rows : List Row} {n k u : ℕ} {z : size.Size} (c : Counte
   covers-are : length (g .covers) ≡ n * u
   covers-are = covers-of-graph M rows ∙ ap₂ _*_ (c .states-are) (sym (c .untils-are))
 
-  pub hypers-are : z .hypers ≡ length (g .hypers)
+  hypers-are : z .hypers ≡ length (g .hypers)
   hypers-are = rw (c .size-is) (sym (size-of-graph M rows .0))
 
   targets-are : z .targets ≡ targetsOf (g .hypers)
@@ -139,7 +140,7 @@ module _ {M : Model} {rows : List Row} {n k u : ℕ} {z : size.Size} (c : Counte
   abbrev long : ℕ
   long = graphLength (z .hypers) (z .targets) (n * u)
 
-  pub long-is : long ≡ length (writeGraph g)
+  long-is : long ≡ length (writeGraph g)
   long-is = rw (hypers-are, targets-are, ← covers-are) (sym (writing-length g))
 
   fits-are : fits g ≡ (leb (n * (k + u)) 4096 && (leb (z .hypers) 65535 && (leb (z .targets) 262144 && (leb (z .most) 65535 && leb (n * u) 4096))))
@@ -156,28 +157,33 @@ module _ {M : Model} {rows : List Row} {n k u : ℕ} {z : size.Size} (c : Counte
       fits-are ∙ rw (few, and-true))
       (λ e. fits-are ∙ rw e)
 
-  -- so do the cover edges alone
-  pub covers-few : inLimits (n * (k + u)) z ≡ true → inLimits (n * u) z ≡ true
-  unfolding inLimits
-  covers-few e =
-      let h = counts-within (n * (k + u)) z e in
-      let covers : n * u ≤ n * (k + u) = mul-le-mul-left n (omega arith) in
-      rw (le-leb (n * u) 4096 (omega arith), le-leb (z .hypers) 65535 (h .1), le-leb (z .targets) 262144 (h .2), le-leb (z .most) 65535 (h .3))
-
   -- the room of bytes and the room of numbers
   module _ (b : List ℕ) (values : ℕ) where
     roomy-are : roomy g b values ≡ (leb long (length b) && leb (n * (k + u) * 2) values)
     unfolding roomy
     roomy-are = let twice : g .nodes + g .nodes ≡ n * (k + u) * 2 = omega (arith, nodes-are) in rw (long-is, twice)
 
-    pub bytes-short : length b < long → roomy g b values ≡ false
-    bytes-short h = roomy-are ∙ rw (lt-leb long (length b) h)
+    -- what is asked of the counts is asked of the graph
+    pub enough-are : enough (n * (k + u)) (n * u) z (length b) values ≡ (fits g && roomy g b values)
+    unfolding enough
+    enough-are = rw (limits-are, roomy-are)
 
-    pub values-short : values < n * (k + u) * 2 → roomy g b values ≡ false
-    values-short h = roomy-are ∙ rw (lt-leb (n * (k + u) * 2) values h, and-false)
-
-    pub graph-roomy : long ≤ length b → n * (k + u) * 2 ≤ values → roomy g b values ≡ true
-    graph-roomy bytes nodes = roomy-are ∙ rw (le-leb long (length b) bytes, le-leb (n * (k + u) * 2) values nodes)
+-- what is enough for more is enough
+pub enough-less : (nodes covers : ℕ) {x y : size.Size} (bytes values : ℕ) → x ⊑ y → enough nodes covers y bytes values ≡ true → enough nodes covers x bytes values ≡ true
+unfolding enough inLimits
+enough-less nodes covers {x} {y} bytes values less e =
+    let within = counts-within nodes y (and-left (inLimits nodes y) _ e) in
+    let rooms = and-right (inLimits nodes y) _ e in
+    let long = graphLength (y .hypers) (y .targets) covers in
+    let room = leb-true long bytes (and-left (leb long bytes) _ rooms) in
+    rw (
+      le-leb nodes 4096 (within .0),
+      le-leb (x .hypers) 65535 (omega (arith, within .1, less .hypers)),
+      le-leb (x .targets) 262144 (omega (arith, within .2, less .targets)),
+      le-leb (x .most) 65535 (omega (arith, within .3, less .most)),
+      le-leb (graphLength (x .hypers) (x .targets) covers) bytes (omega (arith, room, less .hypers, less .targets)),
+      and-right (leb long bytes) _ rooms,
+    )
 
 -- ---- the answers
 
@@ -186,20 +192,22 @@ module _ (g : Graph) (b : List ℕ) (values : ℕ) where
   unfolding builtOf builtRoom
   size-refused e = (rw e, rw e)
 
-  pub room-refused : fits g ≡ true → roomy g b values ≡ false → (Built.Refused (unplaced Room) ≡ builtOf g b values) × (b ≡ builtRoom g b values)
+  pub room-refused : fits g ≡ true → (fits g && roomy g b values) ≡ false → (Built.Refused (unplaced Room) ≡ builtOf g b values) × (b ≡ builtRoom g b values)
   unfolding builtOf builtRoom
-  room-refused e f = (rw (e, f), rw (e, f))
+  room-refused e f = let short = rw e at f in (rw (e, short), rw (e, short))
 
-  module _ (e : fits g ≡ true) (f : roomy g b values ≡ true) {long : ℕ} (long-is : long ≡ length (writeGraph g)) where
-    pub writable : {hypers : ℕ} → hypers ≡ length (g .hypers) → Writable g hypers long b
+  module _ (all : (fits g && roomy g b values) ≡ true) where
+    pub writable : Writable g b
     unfolding roomy
-    writable h = record {
-      fits = e;
-      hypers-are = h;
-      long-is = long-is;
-      room = leb-true (length (writeGraph g)) (length b) (and-left _ _ f);
+    writable = record {
+      fits = and-left (fits g) _ all;
+      room = leb-true (length (writeGraph g)) (length b) (and-left _ _ (and-right (fits g) _ all));
     }
 
-    pub graph-built : {b′ : List ℕ} → b′ ≡ laid b 0 (writeGraph g) → (Built.Graph long ≡ builtOf g b values) × (b′ ≡ builtRoom g b values)
+    pub graph-built : {b′ : List ℕ} {long : ℕ} → Laid b 0 (writeGraph g) b′ long → (Built.Graph long ≡ builtOf g b values) × (b′ ≡ builtRoom g b values)
     unfolding builtOf builtRoom laid
-    graph-built h = (rw (e, f, long-is), rw (e, f) (h ∙ ap (λ (n : ℕ). writeGraph g ++ drop n b) (zero-add (length (writeGraph g)))))
+    graph-built h =
+        let e = and-left (fits g) _ all in
+        let f = and-right (fits g) _ all in
+        let long-is = h .next-is ∙ zero-add (length (writeGraph g)) in
+        (rw (e, f, long-is), rw (e, f) (h .room-is ∙ ap (λ (n : ℕ). writeGraph g ++ drop n b) (zero-add (length (writeGraph g)))))

@@ -3,7 +3,7 @@ use Prim.Native.Nat.{ℕ, _+_, _*_, _≤_}
 use mathlib.Core.List.{List, _++_}
 use mathlib.Core.Bool.{Bool, true, _&&_}
 use mathlib.Core.Logic.{_↔_}
-use mathlib.Core.Path.{_≡_, sym, _∙_}
+use mathlib.Core.Path.{_≡_, refl, sym, ap, _∙_}
 use native.Mathlib.Nat.{mul-le-mul-left}
 use native.Mathlib.Omega.{arith}
 use lib.Dec.{leb}
@@ -22,12 +22,12 @@ use Rattle.graph.specs.WellFormed.{targetsOf}
 use Rattle.graph.specs.Write.{writeHeader, writeGraph}
 use Rattle.reduction.specs.Built.{isUntil, untils, graphOf, Fits}
 use Rattle.build.specs.Built.{fits, Writable}
-use Rattle.records.specs.Bytes.{rowsBytes, helpersBytes, coversOf, HelpersFit}
+use Rattle.records.specs.Bytes.{rowsHypers, helpersHypers, rowsBytes, helpersBytes, coversOf, HelpersFit}
 use Rattle.transitions.specs.Held.{heldModel, heldRows, HoldsModel, HoldsRows}
 use Rattle.transitions.proofs.Accepted.{rows-length}
 use Rattle.build.proofs.Parts.{graph-parts}
 use Rattle.build.proofs.Narrow.{few-narrow}
-use Rattle.sizing.proofs.Whole.{size-of-graph}
+use Rattle.sizing.proofs.Whole.{size-of-graph, writing-length}
 
 -- what the test says, limit by limit
 pub fits-each : (g : Graph) → fits g ≡ true → Fits g
@@ -72,8 +72,12 @@ fits-most g e = true-all _ (g .hypers) (λ h m. le-leb _ _ (fits-each g e .each-
 pub untils-few : {f : List ℕ} {k p : ℕ} → HoldsRows f k p → length (untils (heldRows f k)) ≤ k
 untils-few {f} {k} h = omega (arith, keep-length isUntil (heldRows f k), rows-length f k)
 
-module _ {m : List ℕ} {n p t : ℕ} {f : List ℕ} {k u hypers long : ℕ} {b : List ℕ} (hm : HoldsModel m n p t) (hr : HoldsRows f k p)
-    (u-is : u ≡ length (untils (heldRows f k))) (w : Writable (graphOf (heldModel m n p t) (heldRows f k)) hypers long b) where
+-- the header is as long whatever its counts are
+pub header-length : (long n h c : ℕ) → length (writeHeader long n h c) ≡ graphHeader
+header-length long n h c = simp (length-append, length-bytes)
+
+module _ {m : List ℕ} {n p t : ℕ} {f : List ℕ} {k u : ℕ} {b : List ℕ} (hm : HoldsModel m n p t) (hr : HoldsRows f k p)
+    (u-is : u ≡ length (untils (heldRows f k))) (w : Writable (graphOf (heldModel m n p t) (heldRows f k)) b) where
   -- rows and helpers have few nodes
   pub nodes-few : n * (k + u) ≤ 4096
   unfolding heldModel graphOf
@@ -97,19 +101,46 @@ module _ {m : List ℕ} {n p t : ℕ} {f : List ℕ} {k u hypers long : ℕ} {b 
         narrow = few-narrow M rows (rw (← size .0) (fits-each g (w .fits) .hypers-fit)) (leb-true _ _ (sym (size .2) ∙ fits-most g (w .fits)));
       }
 
-  -- the four parts of the message
-  pub written-parts : writeGraph (graphOf (heldModel m n p t) (heldRows f k))
-      ≡ writeHeader long (n * (k + u)) hypers (n * u) ++ rowsBytes (heldModel m n p t) 0 (heldRows f k)
-      ++ helpersBytes (heldModel m n p t) k (untils (heldRows f k)) ++ coversOf n (heldRows f k)
+  -- the hyperedges of rows and of helpers together are the graph's, and few
+  pub hypers-few : {rows helpers : ℕ} → rows ≡ length (rowsHypers (heldModel m n p t) 0 (heldRows f k)) → helpers ≡ length (helpersHypers (heldModel m n p t) k (untils (heldRows f k)))
+      → (rows + helpers ≡ length (graphOf (heldModel m n p t) (heldRows f k) .hypers)) × (rows + helpers ≤ 65535)
+  unfolding graphOf
+  hypers-few {rows} {helpers} rows-are helpers-are =
+      let M = heldModel m n p t in
+      let first = rowsHypers M 0 (heldRows f k) in
+      let second = helpersHypers M (length (heldRows f k)) (untils (heldRows f k)) in
+      let there = ap (λ (h : ℕ). length (helpersHypers M h (untils (heldRows f k)))) (rows-length f k) in
+      let all : rows + helpers ≡ length (first ++ second) = omega (arith, rows-are, helpers-are, there, length-append first second) in
+      (all, omega (arith, all, fits-each (graphOf M (heldRows f k)) (w .fits) .hypers-fit))
+
+  -- the message is not long
+  pub long-few : length (writeGraph (graphOf (heldModel m n p t) (heldRows f k))) ≤ 1900000
+  long-few =
+      let g = graphOf (heldModel m n p t) (heldRows f k) in
+      let f = fits-each g (w .fits) in
+      omega (arith, writing-length g, f .hypers-fit, f .targets-fit, f .covers-fit)
+
+  -- the parts of the message
+  pub written-parts : {long hypers : ℕ} → long ≡ length (writeGraph (graphOf (heldModel m n p t) (heldRows f k))) → hypers ≡ length (graphOf (heldModel m n p t) (heldRows f k) .hypers)
+      → writeGraph (graphOf (heldModel m n p t) (heldRows f k))
+      ≡ writeHeader long (n * (k + u)) hypers (n * u) ++ (rowsBytes (heldModel m n p t) 0 (heldRows f k)
+      ++ helpersBytes (heldModel m n p t) k (untils (heldRows f k)) ++ coversOf n (heldRows f k))
   unfolding heldModel
-  written-parts =
-      let parts = graph-parts (heldModel m n p t) (heldRows f k) long hypers (w .long-is) (w .hypers-are) in
+  written-parts {long} {hypers} long-is hypers-are =
+      let parts = graph-parts (heldModel m n p t) (heldRows f k) long hypers long-is hypers-are in
       rw (rows-length f k) (rw (rows-length f k, ← u-is) at parts)
 
--- where four parts fit, so do the first of them
-pub parts-fit : (h r e c : List ℕ) {size : ℕ} → length (h ++ r ++ e ++ c) ≤ size
-    → (0 + length h ≤ size) × (0 + length (h ++ r) ≤ size) × (0 + length (h ++ r ++ e) ≤ size) × (0 + length (h ++ r ++ e ++ c) ≤ size)
-parts-fit h r e c fits = omega (arith, length-append h r, length-append (h ++ r) e, length-append (h ++ r ++ e) c)
+  -- they fit behind the header
+  pub body-fits : graphHeader + length (rowsBytes (heldModel m n p t) 0 (heldRows f k) ++ helpersBytes (heldModel m n p t) k (untils (heldRows f k)) ++ coversOf n (heldRows f k))
+      ≡ length (writeGraph (graphOf (heldModel m n p t) (heldRows f k)))
+  body-fits =
+      let g = graphOf (heldModel m n p t) (heldRows f k) in
+      let long = length (writeGraph g) in
+      let hypers = length (g .hypers) in
+      let body = rowsBytes (heldModel m n p t) 0 (heldRows f k) ++ helpersBytes (heldModel m n p t) k (untils (heldRows f k)) ++ coversOf n (heldRows f k) in
+      omega (arith, ap length (written-parts refl refl), length-append (writeHeader long (n * (k + u)) hypers (n * u)) body, header-length long (n * (k + u)) hypers (n * u))
 
-pub header-length : (long n h c : ℕ) → length (writeHeader long n h c) ≡ graphHeader
-header-length long n h c = simp (length-append, length-bytes)
+-- where three parts fit, so do the first of them
+pub parts-fit : (at : ℕ) (r e c : List ℕ) {size : ℕ} → at + length (r ++ e ++ c) ≤ size
+    → (at + length r ≤ size) × (at + length (r ++ e) ≤ size) × (at + length (r ++ e ++ c) ≤ size)
+parts-fit at r e c fits = omega (arith, length-append r e, length-append (r ++ e) c)

@@ -1,5 +1,5 @@
 -- What the builder answers, and what it leaves in the room.
-use Prim.Native.Nat.{ℕ, _+_, _≤_}
+use Prim.Native.Nat.{ℕ, _+_, _*_, _≤_}
 use mathlib.Core.List.{List, _++_}
 use mathlib.Core.Path.{_≡_}
 use mathlib.Core.Bool.{Bool, true, cond, _&&_}
@@ -9,8 +9,11 @@ use Rattle.lists.specs.Lists.{all}
 use Rattle.refusal.specs.Number.{ok, numberOf, nowhere, unplaced}
 use Rattle.refusal.specs.declared.Refusal.the-variants.{Size, Room}
 use Rattle.rules.specs.Graph.{Graph}
+use Rattle.graph.specs.Format.{graphLength}
 use Rattle.graph.specs.WellFormed.{targetsOf}
 use Rattle.graph.specs.Write.{writeGraph}
+use Rattle.sizing.specs.declared.Size as size
+use Rattle.sizing.specs.Size.{inLimits}
 use Rattle.build.specs.declared.Built.{Built}
 use Rattle.build.specs.declared.Built.the-variants as Built
 
@@ -49,9 +52,11 @@ builtOf g b values = cond (fits g) (cond (roomy g b values) (Built.Graph (length
 unfoldable pub builtRoom : Graph → List ℕ → ℕ → List ℕ
 builtRoom g b values = cond (fits g) (cond (roomy g b values) (writeGraph g ++ drop (length (writeGraph g)) b) b) b
 
--- the graph passes no limit, its counts are these, and its bytes fit
-pub record Writable (g : Graph) (hypers long : ℕ) (b : List ℕ) : Type 0 where
+-- with so many nodes and cover edges, hyperedges of this size pass no limit, and rooms of so many bytes and values are large enough
+unfoldable pub enough : (nodes covers : ℕ) → size.Size → (bytes values : ℕ) → Bool
+enough nodes covers z bytes values = inLimits nodes z && (leb (graphLength (z .hypers) (z .targets) covers) bytes && leb (nodes * 2) values)
+
+-- the graph passes no limit, and its bytes fit
+pub record Writable (g : Graph) (b : List ℕ) : Type 0 where
   pub fits : fits g ≡ true
-  pub hypers-are : hypers ≡ length (g .hypers)
-  pub long-is : long ≡ length (writeGraph g)
   pub room : length (writeGraph g) ≤ length b

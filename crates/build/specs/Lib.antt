@@ -1,3 +1,4 @@
--- Definitions: the answer of the builder, and a leaf's row for its code.
+-- Definitions: the answer of the builder, a leaf's row for its code, and how many hyperedges so many bytes are.
 pub mod Built
 pub mod Leaf
+pub mod Told

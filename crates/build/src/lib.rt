@@ -6,8 +6,9 @@ ghost use Prim.Native.Nat.{_+_, _*_, _≤_};
 ghost use lib.ListN.{length};
 ghost use Rattle.reduction.specs.Built as built;
 ghost use Rattle.transitions.specs.Held.{heldModel, heldRows, HoldsModel, HoldsRows};
-ghost use Rattle.build.specs.Built.{builtNumber, builtOffset, builtLength, builtOf, builtRoom};
+ghost use Rattle.build.specs.Built.{builtNumber, builtOffset, builtLength, builtOf, builtRoom, enough};
 use refusal::Fault;
+use sizing::Size;
 
 // The length of the graph, or why it was not built.
 pub enum Built {
@@ -56,8 +57,25 @@ pub fn count_nodes(n: u32, f: &[u8], k: u32, p: u32) -> u32
     n * (k + sizing::count_untils(f, k, p))
 }
 
+// Whether hyperedges of this size, with so many nodes and cover edges, pass no limit, and rooms of so many bytes and values are large enough.
+fn is_enough(nodes: u32, covers: u32, size: Size, bytes: usize, values: usize) -> bool
+    requires { ⌜ covers ≤ nodes ⌝ }
+    ensures { λ r. ⌜ r ≡ enough nodes covers size bytes values ⌝ }
+{
+    if sizing::too_large(nodes, size) {
+        return false;
+    }
+    let long = sizing::message_length(size, covers);
+    if bytes < long {
+        return false;
+    }
+    let twice = (nodes as usize) * 2;
+    twice <= values
+}
+
 // The graph of an accepted model and formula: SIZE and ROOM are decided before anything is written.
 // A room for so many values is lent beside it, and must be large enough too.
+// The exact size takes a look at every label and transition: it is worked out only where it is not certain without it that all fits.
 pub fn build(
     m: &[u8],
     n: u32,
@@ -75,19 +93,19 @@ pub fn build(
 {
     let untils = sizing::count_untils(f, k, p);
     let table = transitions::starts(m, n, p, t);
-    let size = sizing::total_size(m, n, p, t, &table, f, k);
     let nodes = n * (k + untils);
+    let covers = n * untils;
+    let bytes = room.len();
+    let most = sizing::total_most(m, n, p, t, &table, f, k);
+    if is_enough(nodes, covers, most, bytes, values) {
+        return Built::Graph(message::write(m, n, p, t, &table, f, k, untils, room));
+    }
+    let size = sizing::total_size(m, n, p, t, &table, f, k);
     if sizing::too_large(nodes, size) {
         return Built::Refused(refusal::SIZE);
     }
-    let hypers = size.hypers as u32;
-    let long = sizing::message_length(size, n * untils);
-    if room.len() < long {
-        return Built::Refused(refusal::ROOM);
+    if is_enough(nodes, covers, size, bytes, values) {
+        return Built::Graph(message::write(m, n, p, t, &table, f, k, untils, room));
     }
-    if values < (nodes as usize) * 2 {
-        return Built::Refused(refusal::ROOM);
-    }
-    message::write(m, n, p, t, &table, f, k, untils, hypers, long as u32, room);
-    Built::Graph(long)
+    Built::Refused(refusal::ROOM)
 }

@@ -1,16 +1,17 @@
-// The message of the graph, written part by part: the header, the hyperedges of rows and helpers, the cover edges.
+// The message of the graph, written part by part: the hyperedges of rows and helpers, the cover edges, and the header, with the counts.
 ghost use mathlib.Core.Path.{_≡_};
 ghost use Prim.Native.Nat.{_+_, _*_, _≤_, _<_};
 ghost use lib.ListN.{length};
-ghost use Rattle.wire.specs.Laid.{laid, Laid};
+ghost use Rattle.wire.specs.Laid.{Laid};
 ghost use Rattle.graph.specs.Format.{graphHeader};
 ghost use Rattle.graph.specs.Write.{writeHeader, writeGraph};
 ghost use Rattle.syntax.specs.declared.Row.the-variants.{True, And, Or, Next};
 ghost use Rattle.reduction.specs.Built as built;
 ghost use Rattle.transitions.specs.Held.{transitionsFrom, heldModel, heldRows, HoldsModel, HoldsRows, Starts, Reads};
-ghost use Rattle.records.specs.Bytes.{hypersBytes, helperList, rowBytes, rowsBytes, helperBytes, helpersBytes, coverBytes, coversOf, RowFits, Narrow, HelpersFit};
+ghost use Rattle.records.specs.Bytes.{hypersBytes, helperList, rowsHypers, rowBytes, rowsBytes, helperBytes, helpersBytes, coverBytes, coversOf, RowFits, Narrow, HelpersFit};
 ghost use Rattle.build.specs.Built.{Writable};
 ghost use Rattle.build.specs.Leaf.{leafRow};
+ghost use Rattle.build.specs.Told.{ToldHypers};
 use syntax::Action;
 use syntax::Quantifier;
 use syntax::Row;
@@ -176,6 +177,27 @@ fn put_row_states(
     }
 }
 
+// How many hyperedges a row has in n states, told by their bytes where there are as many targets as hyperedges, or none.
+fn hypers_in(row: Row, n: u32, bytes: usize) -> usize
+    ensures { λ r. ⌜ ToldHypers row n bytes r ⌝ }
+{
+    match row {
+        Row::And(_, _) => n as usize,
+        Row::Or(_, _) => bytes / records::SINGLE,
+        Row::Next(q, _, _, _) => match q {
+            Quantifier::Some => bytes / records::SINGLE,
+            Quantifier::Every => n as usize,
+        },
+        _ => bytes / graph::HYPER,
+    }
+}
+
+// Where the next part belongs, and how many hyperedges stand before it.
+struct Put {
+    next: usize,
+    hypers: usize,
+}
+
 // The hyperedges of all rows' nodes.
 fn put_rows(
     room: &mut [u8],
@@ -187,24 +209,31 @@ fn put_rows(
     table: &[u32],
     f: &[u8],
     k: u32,
-) -> usize
+) -> Put
     requires { ⌜ HoldsModel (now m) n p t ⌝ }
     requires { ⌜ (n < length (now table)) × Starts (now m) n t (now table) ⌝ }
     requires { ⌜ HoldsRows (now f) k p ⌝ }
     requires { ⌜ n * k ≤ 4096 ⌝ }
     requires { ⌜ at + length (rowsBytes (heldModel (now m) n p t) 0 (heldRows (now f) k)) ≤ length (now room) ⌝ }
-    ensures { λ e. ⌜ Laid (now (room .entry)) at (rowsBytes (heldModel (now (m .entry)) n p t) 0 (heldRows (now (f .entry)) k)) (now (room .exit)) e ⌝ }
+    ensures { λ e. ⌜ Laid (now (room .entry)) at (rowsBytes (heldModel (now (m .entry)) n p t) 0 (heldRows (now (f .entry)) k)) (now (room .exit)) (e .next) ⌝ }
+    ensures { λ e. ⌜ e .hypers ≡ length (rowsHypers (heldModel (now (m .entry)) n p t) 0 (heldRows (now (f .entry)) k)) ⌝ }
 {
     let mut next = at;
+    let mut hypers: usize = 0;
     let mut row_at = syntax::HEADER;
     let mut r: u32 = 0;
     while r < k {
         let row = syntax::row_at(f, row_at);
-        next = put_row_states(room, next, m, n, p, t, table, r, row);
+        let end = put_row_states(room, next, m, n, p, t, table, r, row);
+        hypers += hypers_in(row, n, end - next);
+        next = end;
         row_at += syntax::ROW;
         r += 1;
     }
-    next
+    Put {
+        next: next,
+        hypers: hypers,
+    }
 }
 
 // The hyperedges of the helper node of state a at place h, for an until of these operands.
@@ -369,7 +398,8 @@ fn put_covers(room: &mut [u8], at: usize, n: u32, p: u32, f: &[u8], k: u32) -> u
     next
 }
 
-// The bytes of a graph that fits its room.
+// The bytes of a graph that fits its room, and how many they are. Its header is written last, when its hyperedges are counted: those of
+// helpers have as many targets as they are, and one more for each until and transition.
 pub fn write(
     m: &[u8],
     n: u32,
@@ -379,20 +409,23 @@ pub fn write(
     f: &[u8],
     k: u32,
     untils: u32,
-    hypers: u32,
-    long: u32,
     room: &mut [u8],
-)
+) -> usize
     requires { ⌜ HoldsModel (now m) n p t ⌝ }
     requires { ⌜ (n < length (now table)) × Starts (now m) n t (now table) ⌝ }
     requires { ⌜ HoldsRows (now f) k p ⌝ }
     requires { ⌜ untils ≡ length (built.untils (heldRows (now f) k)) ⌝ }
-    requires { ⌜ Writable (built.graphOf (heldModel (now m) n p t) (heldRows (now f) k)) hypers long (now room) ⌝ }
-    ensures { λ _. ⌜ now (room .exit) ≡ laid (now (room .entry)) 0
-        (writeGraph (built.graphOf (heldModel (now (m .entry)) n p t) (heldRows (now (f .entry)) k))) ⌝ }
+    requires { ⌜ Writable (built.graphOf (heldModel (now m) n p t) (heldRows (now f) k)) (now room) ⌝ }
+    ensures { λ e. ⌜ Laid (now (room .entry)) 0 (writeGraph (built.graphOf (heldModel (now (m .entry)) n p t) (heldRows (now (f .entry)) k)))
+        (now (room .exit)) e ⌝ }
 {
-    let rows = put_header(room, long, n * (k + untils), hypers, n * untils);
-    let helpers = put_rows(room, rows, m, n, p, t, table, f, k);
-    let covers = put_helpers(room, helpers, m, n, p, t, table, f, k);
-    put_covers(room, covers, n, p, f, k);
+    let rows = put_rows(room, graph::HEADER, m, n, p, t, table, f, k);
+    let covers = put_helpers(room, rows.next, m, n, p, t, table, f, k);
+    let end = put_covers(room, covers, n, p, f, k);
+    let steps = ((t * untils) as usize) * graph::TARGET;
+    let helpers = (covers - rows.next - steps) / records::SINGLE;
+    let hypers = rows.hypers + helpers;
+    let nodes = n * (k + untils);
+    put_header(room, end as u32, nodes, hypers as u32, n * untils);
+    end
 }

@@ -27,7 +27,7 @@ use Rattle.turns.proofs.Loop.{same-stays}
 
 -- lists of zeros are what the rounds ask for: nothing is linked in them
 pub in-zeros : {A B C : Type 0} {s : List ℕ} {n h c middle : ℕ} (most : ℕ) → most ≤ 65535 → A × (B × (Fits n h c middle most × C))
-    → A × (B × (Fits n h c middle most × (Linked s n middle 0 [] 0 0 (replicate most 0) (replicate most 0) (replicate most 0) (replicate most 0) × (((length (replicate {A = ℕ} most 0) ≡ most) × (most + most ≤ length (replicate {A = ℕ} (most + most) 0))) × C))))
+    → A × (B × (Fits n h c middle most × (Linked s n middle 0 [] 0 0 (replicate most 0) (replicate most 0) × (((length (replicate {A = ℕ} most 0) ≡ most) × (most + most ≤ length (replicate {A = ℕ} (most + most) 0))) × C))))
 in-zeros most short (a, (b, (fits, c))) =
     let twice = length-replicate {A = ℕ} (most + most) 0 in
     (a, (b, (fits, (linked-none _ _ _ most (fits .nodes) short, ((length-replicate most 0, omega arith), c)))))
@@ -54,15 +54,15 @@ targets-stay n b (u ∷ ts) = go (ℕ-discrete (getD b (u .node) 0) (getD b (n +
         each t (inr m) = all t m
 
 -- a turn has at hand: the graph is ready, its places are linked, the changed nodes are listed, and their records are taken in
-module _ {s : List ℕ} {n h c middle from many : ℕ} {changed heads links spots sources b b₁ b₂ : List ℕ} (ready : Ready s n h c) (behind : middle ≡ end (hyperLayout s n) h graphHeader)
-    (index : Index s n h c middle heads links spots sources) (listed : Listed n n from many b changed) (all : TakenAll s n h c middle from many changed heads links spots b₁ b₂)
+module _ {s : List ℕ} {n h c middle from many : ℕ} {changed heads places b b₁ b₂ : List ℕ} (ready : Ready s n h c) (behind : middle ≡ end (hyperLayout s n) h graphHeader)
+    (index : Index s n h c middle heads places) (listed : Listed n n from many b changed) (all : TakenAll s n h c middle from many changed heads places b₁ b₂)
     {budget i : ℕ} {b₀ : List ℕ} (w : AtRound (decoded s n h c) budget i b₀ b) where
   -- the part has every record that has a changed node as a target
-  has-changed : (v : ℕ) → v < n → ¬ (getD b v 0 ≡ getD b (n + v) 0) → (at : ℕ) → Finds heads links spots v at → Has s n middle (all .part) at
+  has-changed : (v : ℕ) → v < n → ¬ (getD b v 0 ≡ getD b (n + v) 0) → (at : ℕ) → Finds heads places v at → Has s n middle (all .part) at
   has-changed v named ne at f =
       let r = listed .reach v named ne in
       subst (Has s n middle (all .part)) (f .stands)
-      (all .has (r .0) (r .1) (f .place) (subst (λ (u : ℕ). Reached links (f .place) (getD heads u 0)) (sym (r .2)) (f .reached)))
+      (all .has (r .0) (r .1) (f .place) (subst (λ (u : ℕ). Reached places (f .place) (getD heads u 0)) (sym (r .2)) (f .reached)))
 
   stays : (v : ℕ) → v < n → getD b v 0 ≡ getD b (n + v) 0 → rounds (decoded s n h c) i v ≡ rounds (decoded s n h c) (suc i) v
   unfolding decoded
@@ -93,7 +93,7 @@ module _ {s : List ℕ} {n h c middle from many : ℕ} {changed heads links spot
       go (yes e) = inr (stayed-cover (decoded s n h c) i whole (stays (x .target) (ready .closed .cover whole) e))
       go (no ne) =
           let target : coverLayout s n .item (coverAt s n middle j) .target ≡ x .target = ap (λ (y : Cover). y .target) (sym is) in
-          let found = subst (λ (v : ℕ). Finds heads links spots v (coverAt s n middle j)) target (index .covers j l) in
+          let found = subst (λ (v : ℕ). Finds heads places v (coverAt s n middle j)) target (index .covers j l) in
           let has = has-changed (x .target) (ready .closed .cover whole) ne (coverAt s n middle j) found in
           inl (subst (λ (y : Cover). y ∈ all .part .covers) (sym is) (has .cover (omega (arith, end-wide (coverLayout s n) 8 (λ p. refl) j middle))))
 

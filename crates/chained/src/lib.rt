@@ -22,23 +22,21 @@ fn run_in(
     budget: u32,
     most: usize,
     heads: &mut [u16],
-    links: &mut [u16],
-    spots: &mut [u16],
-    sources: &mut [u16],
+    places: &mut [u64],
     changed: &mut [u16],
     room: &mut [u64],
 ) -> Outcome
     requires { ⌜ Ready (now s) n h c ⌝ }
     requires { ⌜ middle ≡ end (hyperLayout (now s) n) h graphHeader ⌝ }
     requires { ⌜ Fits n h c middle most ⌝ }
-    requires { ⌜ Linked (now s) n middle 0 [] 0 0 (now heads) (now links) (now spots) (now sources) ⌝ }
-    requires { ⌜ (length (now links) ≡ most) × (most + most ≤ length (now changed)) ⌝ }
+    requires { ⌜ Linked (now s) n middle 0 [] 0 0 (now heads) (now places) ⌝ }
+    requires { ⌜ (length (now places) ≡ most) × (most + most ≤ length (now changed)) ⌝ }
     requires { ⌜ n + n ≤ length (now room) ⌝ }
     requires { ⌜ AtRound (decoded (now s) n h c) budget 1 (now room) (now room) ⌝ }
     ensures { λ r. ⌜ r ≡ ended (decoded (now (s .entry)) n h c) budget ⌝ }
     ensures { λ r. ⌜ now (room .exit) ≡ filled (decoded (now (s .entry)) n h c) (outcomeCount r) (now (room .entry)) ⌝ }
 {
-    links::link_all(s, n, h, c, middle, heads, links, spots, sources);
+    links::link_all(s, n, h, c, middle, heads, places);
     let mut round: u32 = 1;
     let mut from: usize = 0;
     let mut many = changes::list_changed(n, changed, room);
@@ -58,9 +56,7 @@ fn run_in(
             c,
             middle,
             heads,
-            links,
-            spots,
-            sources,
+            places,
             from,
             many,
             to,
@@ -91,9 +87,7 @@ fn run_small(
     ensures { λ r. ⌜ now (room .exit) ≡ filled (decoded (now (s .entry)) n h c) (outcomeCount r) (now (room .entry)) ⌝ }
 {
     let mut heads = [0u16; 1024];
-    let mut links = [0u16; 1024];
-    let mut spots = [0u16; 1024];
-    let mut sources = [0u16; 1024];
+    let mut places = [0u64; 1024];
     let mut changed = [0u16; 2048];
     run_in(
         s,
@@ -104,9 +98,7 @@ fn run_small(
         budget,
         1024,
         &mut heads,
-        &mut links,
-        &mut spots,
-        &mut sources,
+        &mut places,
         &mut changed,
         room,
     )
@@ -131,9 +123,7 @@ fn run_tiny(
     ensures { λ r. ⌜ now (room .exit) ≡ filled (decoded (now (s .entry)) n h c) (outcomeCount r) (now (room .entry)) ⌝ }
 {
     let mut heads = [0u16; 256];
-    let mut links = [0u16; 256];
-    let mut spots = [0u16; 256];
-    let mut sources = [0u16; 256];
+    let mut places = [0u64; 256];
     let mut changed = [0u16; 512];
     run_in(
         s,
@@ -144,9 +134,7 @@ fn run_tiny(
         budget,
         256,
         &mut heads,
-        &mut links,
-        &mut spots,
-        &mut sources,
+        &mut places,
         &mut changed,
         room,
     )
@@ -178,9 +166,7 @@ pub fn run_linked(
         return run_small(s, n, h, c, middle, budget, room);
     }
     let mut heads = [0u16; 4096];
-    let mut links = [0u16; 4096];
-    let mut spots = [0u16; 4096];
-    let mut sources = [0u16; 4096];
+    let mut places = [0u64; 4096];
     let mut changed = [0u16; 8192];
     run_in(
         s,
@@ -191,9 +177,7 @@ pub fn run_linked(
         budget,
         4096,
         &mut heads,
-        &mut links,
-        &mut spots,
-        &mut sources,
+        &mut places,
         &mut changed,
         room,
     )

@@ -26,7 +26,7 @@ use Rattle.halves.specs.Held.{held}
 use Rattle.halves.specs.Room.{half}
 use Rattle.scans.specs.Scan.{lowered, forth, Going, Done}
 use Rattle.scans.proofs.Going.{going-set}
-use Rattle.links.specs.Links.{Reached, RecordAt, hyper, cover, hyperAt, coverAt}
+use Rattle.links.specs.Links.{linkOf, spotOf, Reached, RecordAt, hyper, cover, hyperAt, coverAt}
 use Rattle.changes.proofs.Listing.{Lowers}
 use Rattle.chains.specs.Taken.{RecordOk, givenAt, RecordIn, Has, Taken, Further, TakenAll}
 use Rattle.links.proofs.Linking.{reached-cases, reached-none, hyper-far}
@@ -151,60 +151,57 @@ module _ {s : List ℕ} {n h c middle at : ℕ} (sound : Scannable s n h c) (beh
   record-source (cover j l e) = cover-ok j l e .named
 
 -- the records of a chain: those up to a place are taken in
-pub record Walking (s : List ℕ) (n h c middle : ℕ) (links spots : List ℕ) (head place : ℕ) (b₀ b : List ℕ) (p : Graph) : Type 0 where
+pub record Walking (s : List ℕ) (n h c middle : ℕ) (places : List ℕ) (head place : ℕ) (b₀ b : List ℕ) (p : Graph) : Type 0 where
   pub part : Graph
   pub taken : Taken s n h c middle b₀ b part
   pub keeps : (at : ℕ) → Has s n middle p at → Has s n middle part at
-  pub has : (q : ℕ) → Reached links q head → Has s n middle part (getD spots q 0) ⊎ Reached links q place
+  pub has : (q : ℕ) → Reached places q head → Has s n middle part (spotOf (getD places q 0)) ⊎ Reached places q place
 
-pub walking-none : {s : List ℕ} {n h c middle : ℕ} {links spots : List ℕ} {head : ℕ} {b₀ b : List ℕ} {p : Graph}
-    → Taken s n h c middle b₀ b p → Walking s n h c middle links spots head head b₀ b p
+pub walking-none : {s : List ℕ} {n h c middle : ℕ} {places : List ℕ} {head : ℕ} {b₀ b : List ℕ} {p : Graph}
+    → Taken s n h c middle b₀ b p → Walking s n h c middle places head head b₀ b p
 walking-none {p = p} d = record { part = p; taken = d; keeps = λ at m. m; has = λ q r. inr r }
 
-module _ {s : List ℕ} {n h c middle : ℕ} {links spots : List ℕ} {head place : ℕ} {b₀ b : List ℕ} {p : Graph} (d : Walking s n h c middle links spots head place b₀ b p) where
+module _ {s : List ℕ} {n h c middle : ℕ} {places : List ℕ} {head place : ℕ} {b₀ b : List ℕ} {p : Graph} (d : Walking s n h c middle places head place b₀ b p) where
   -- all are
-  pub walking-all : place ≡ 0 → Further s n h c middle links spots head b₀ b p
+  pub walking-all : place ≡ 0 → Further s n h c middle places head b₀ b p
   walking-all e = record { part = d .part; taken = d .taken; keeps = d .keeps; has = λ q r. go (d .has q r) }
     where
-      go : {q : ℕ} → Has s n middle (d .part) (getD spots q 0) ⊎ Reached links q place → Has s n middle (d .part) (getD spots q 0)
+      go : {q : ℕ} → Has s n middle (d .part) (spotOf (getD places q 0)) ⊎ Reached places q place → Has s n middle (d .part) (spotOf (getD places q 0))
       go (inl m) = m
       go (inr r) = reached-none e r
 
   -- with a part that has one record more
-  walking-with : (i : ℕ) → place ≡ i + 1 → {b′ : List ℕ} {part : Graph} → Taken s n h c middle b₀ b′ part
-      → ((at : ℕ) → Has s n middle (d .part) at → Has s n middle part at) → Has s n middle part (getD spots i 0) → Walking s n h c middle links spots head (getD links i 0) b₀ b′ p
-  walking-with i e {part = part} taken more new = record { part = part; taken = taken; keeps = λ at m. more at (d .keeps at m); has = λ q r. go q (d .has q r) }
+  walking-with : (i : ℕ) → place ≡ i + 1 → {at : ℕ} → at ≡ spotOf (getD places i 0) → {b′ : List ℕ} {part : Graph} → Taken s n h c middle b₀ b′ part
+      → ((k : ℕ) → Has s n middle (d .part) k → Has s n middle part k) → Has s n middle part at → Walking s n h c middle places head (linkOf (getD places i 0)) b₀ b′ p
+  walking-with i e there {part = part} taken more new = record { part = part; taken = taken; keeps = λ k m. more k (d .keeps k m); has = λ q r. go q (d .has q r) }
     where
-      go : (q : ℕ) → Has s n middle (d .part) (getD spots q 0) ⊎ Reached links q place → Has s n middle part (getD spots q 0) ⊎ Reached links q (getD links i 0)
-      go q (inl m) = inl (more (getD spots q 0) m)
+      go : (q : ℕ) → Has s n middle (d .part) (spotOf (getD places q 0)) ⊎ Reached places q place → Has s n middle part (spotOf (getD places q 0)) ⊎ Reached places q (linkOf (getD places i 0))
+      go q (inl m) = inl (more (spotOf (getD places q 0)) m)
       go q (inr r) = rest (reached-cases i e r)
         where
-          rest : (q ≡ i) ⊎ Reached links q (getD links i 0) → Has s n middle part (getD spots q 0) ⊎ Reached links q (getD links i 0)
-          rest (inl z) = inl (rw z new)
+          rest : (q ≡ i) ⊎ Reached places q (linkOf (getD places i 0)) → Has s n middle part (spotOf (getD places q 0)) ⊎ Reached places q (linkOf (getD places i 0))
+          rest (inl z) = inl (rw (z, sym there) new)
           rest (inr r′) = inr r′
 
   -- the record of the next place
-  pub walking-more : Scannable s n h c → middle ≡ hyperAt s n h → n + n ≤ length b₀ → (i : ℕ) → place ≡ i + 1 → RecordAt s n h c middle (getD spots i 0)
-      → {b′ : List ℕ} → RecordIn s n middle (getD spots i 0) b b′
-      → Walking s n h c middle links spots head (getD links i 0) b₀ b′ p
-  walking-more sound behind long i e (hyper j l z) {b′} took =
-      let at = getD spots i 0 in
+  pub walking-more : Scannable s n h c → middle ≡ hyperAt s n h → n + n ≤ length b₀ → (i : ℕ) → place ≡ i + 1 → {at : ℕ} → at ≡ spotOf (getD places i 0) → RecordAt s n h c middle at
+      → {b′ : List ℕ} → RecordIn s n middle at b b′ → Walking s n h c middle places head (linkOf (getD places i 0)) b₀ b′ p
+  walking-more sound behind long i e {at} there (hyper j l z) {b′} took =
       let before = hyper-before sound behind j l z in
       let member : hyperLayout s n .item at ∈ items (hyperLayout s n) h graphHeader = rw z (items-∈ (hyperLayout s n) h graphHeader j l) in
-      walking-with i e (taken-hyper (d .taken) long at before (hyper-ok sound behind j l z) member took)
+      walking-with i e there (taken-hyper (d .taken) long at before (hyper-ok sound behind j l z) member took)
       (λ k m. record { hyper = λ q. List·Memᴰ·tail (m .hyper q); cover = m .cover })
       (record { hyper = λ q. List·Memᴰ·head refl; cover = λ q. absurd (omega arith) })
-  walking-more sound behind long i e (cover j l z) {b′} took =
-      let at = getD spots i 0 in
+  walking-more sound behind long i e {at} there (cover j l z) {b′} took =
       let after = cover-behind sound behind j z in
       let member : coverLayout s n .item at ∈ items (coverLayout s n) c middle = rw z (items-∈ (coverLayout s n) c middle j l) in
-      walking-with i e (taken-cover (d .taken) long at after (cover-ok sound behind j l z) member took)
+      walking-with i e there (taken-cover (d .taken) long at after (cover-ok sound behind j l z) member took)
       (λ k m. record { hyper = m .hyper; cover = λ q. List·Memᴰ·tail (m .cover q) })
       (record { hyper = λ q. absurd (omega arith); cover = λ q. List·Memᴰ·head refl })
 
 -- the chains of the first i nodes that are listed: none, and one more
-module _ {s : List ℕ} {n h c middle from : ℕ} {changed heads links spots b₀ : List ℕ} where
-  pub taken-none : ((v : ℕ) → getD b₀ v 0 ≤ infinite) → TakenAll s n h c middle from 0 changed heads links spots b₀ b₀
+module _ {s : List ℕ} {n h c middle from : ℕ} {changed heads places b₀ : List ℕ} where
+  pub taken-none : ((v : ℕ) → getD b₀ v 0 ≤ infinite) → TakenAll s n h c middle from 0 changed heads places b₀ b₀
   unfolding round covered best any stored
   taken-none fits = record {
     part = record { nodes = n; hypers = []; covers = [] };
@@ -217,11 +214,11 @@ module _ {s : List ℕ} {n h c middle from : ℕ} {changed heads links spots b�
     has = λ k l. absurd (omega arith);
   }
 
-  pub taken-more : {i : ℕ} {b b′ : List ℕ} (d : TakenAll s n h c middle from i changed heads links spots b₀ b)
-      → Further s n h c middle links spots (getD heads (getD changed (from + i) 0) 0) b₀ b′ (d .part) → TakenAll s n h c middle from (i + 1) changed heads links spots b₀ b′
+  pub taken-more : {i : ℕ} {b b′ : List ℕ} (d : TakenAll s n h c middle from i changed heads places b₀ b)
+      → Further s n h c middle places (getD heads (getD changed (from + i) 0) 0) b₀ b′ (d .part) → TakenAll s n h c middle from (i + 1) changed heads places b₀ b′
   taken-more {i} d f = record { part = f .part; taken = f .taken; has = λ k l q r. go k l q r (ℕ-discrete k i) }
     where
-      go : (k : ℕ) → k < i + 1 → (q : ℕ) → Reached links q (getD heads (getD changed (from + k) 0) 0) → Dec (k ≡ i) → Has s n middle (f .part) (getD spots q 0)
+      go : (k : ℕ) → k < i + 1 → (q : ℕ) → Reached places q (getD heads (getD changed (from + k) 0) 0) → Dec (k ≡ i) → Has s n middle (f .part) (spotOf (getD places q 0))
       go k l q r (yes e) = f .has q (rw e at r)
       go k l q r (no e) = f .keeps _ (d .has k (omega arith) q r)
 

@@ -15,7 +15,7 @@ use Rattle.graph.specs.Layouts.{hyperLayout, coverLayout, HyperOk, CoverOk}
 use Rattle.halves.specs.Held.{held}
 use Rattle.halves.specs.Room.{half}
 use Rattle.scans.specs.Scan.{lowered, Done}
-use Rattle.links.specs.Links.{Reached}
+use Rattle.links.specs.Links.{spotOf, Reached}
 
 -- a sound record at a position: a hyperedge before `middle`, a cover edge from there on
 pub record RecordOk (s : List ℕ) (n middle at : ℕ) : Type 0 where
@@ -44,14 +44,14 @@ pub record Taken (s : List ℕ) (n h c middle : ℕ) (b₀ b : List ℕ) (p : Gr
   pub cover-of : {x : Cover} → x ∈ p .covers → x ∈ items (coverLayout s n) c middle
 
 -- a part that has what p has, and the records of a chain
-pub record Further (s : List ℕ) (n h c middle : ℕ) (links spots : List ℕ) (head : ℕ) (b₀ b : List ℕ) (p : Graph) : Type 0 where
+pub record Further (s : List ℕ) (n h c middle : ℕ) (places : List ℕ) (head : ℕ) (b₀ b : List ℕ) (p : Graph) : Type 0 where
   pub part : Graph
   pub taken : Taken s n h c middle b₀ b part
   pub keeps : (at : ℕ) → Has s n middle p at → Has s n middle part at
-  pub has : (q : ℕ) → Reached links q head → Has s n middle part (getD spots q 0)
+  pub has : (q : ℕ) → Reached places q head → Has s n middle part (spotOf (getD places q 0))
 
 -- a part that has the records of the chains of the nodes that are listed
-pub record TakenAll (s : List ℕ) (n h c middle from many : ℕ) (changed heads links spots b₀ b : List ℕ) : Type 0 where
+pub record TakenAll (s : List ℕ) (n h c middle from many : ℕ) (changed heads places b₀ b : List ℕ) : Type 0 where
   pub part : Graph
   pub taken : Taken s n h c middle b₀ b part
-  pub has : (k : ℕ) → k < many → (q : ℕ) → Reached links q (getD heads (getD changed (from + k) 0) 0) → Has s n middle part (getD spots q 0)
+  pub has : (k : ℕ) → k < many → (q : ℕ) → Reached places q (getD heads (getD changed (from + k) 0) 0) → Has s n middle part (spotOf (getD places q 0))

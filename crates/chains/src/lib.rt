@@ -9,7 +9,7 @@ ghost use Rattle.rules.specs.Graph.{Graph};
 ghost use Rattle.graph.specs.Format.{graphHeader};
 ghost use Rattle.graph.specs.Layouts.{hyperLayout, Scannable};
 ghost use Rattle.halves.specs.Room.{Same};
-ghost use Rattle.links.specs.Links.{Reached, RecordAt, Told, Index};
+ghost use Rattle.links.specs.Links.{linkOf, spotOf, Reached, RecordAt, Told, Index};
 ghost use Rattle.changes.specs.Listed.{Listed, Apart, Aside};
 ghost use Rattle.chains.specs.Taken.{RecordOk, givenAt, RecordIn, Taken, Further, TakenAll};
 use value::Bound;
@@ -81,9 +81,7 @@ fn take_linked(
     c: u32,
     middle: usize,
     head: u16,
-    links: &[u16],
-    spots: &[u16],
-    sources: &[u16],
+    places: &[u64],
     to: usize,
     many: usize,
     changed: &mut [u16],
@@ -92,24 +90,25 @@ fn take_linked(
     requires { ⌜ Scannable (now s) n h c ⌝ }
     requires { ⌜ middle ≡ end (hyperLayout (now s) n) h graphHeader ⌝ }
     requires { ⌜ n + n ≤ length (now room) ⌝ }
-    requires { ⌜ (head ≤ length (now links)) × (length (now spots) ≡ length (now links)) × (length (now sources) ≡ length (now links)) ⌝ }
-    requires { ⌜ ((q : ℕ) → getD (now links) q 0 ≤ q) ⌝ }
-    requires { ⌜ ((q : ℕ) → Reached (now links) q head → RecordAt (now s) n h c middle (getD (now spots) q 0) × Told (now s) (now spots) (now sources) q) ⌝ }
+    requires { ⌜ head ≤ length (now places) ⌝ }
+    requires { ⌜ ((q : ℕ) → linkOf (getD (now places) q 0) ≤ q) ⌝ }
+    requires { ⌜ ((q : ℕ) → Reached (now places) q head → RecordAt (now s) n h c middle (spotOf (getD (now places) q 0)) × Told (now s) (now places) q) ⌝ }
     requires { ⌜ n ≤ 65535 ⌝ }
     requires { ⌜ Listed n n to many (now room) (now changed) ⌝ }
     ensures { λ r. ⌜ Listed n n to r (now (room .exit)) (now (changed .exit)) ⌝ }
     ensures { λ _. ⌜ Apart n to (now (changed .entry)) (now (changed .exit)) ⌝ }
     ensures { λ _. ⌜ ((b₀ : List ℕ) (p : Graph) → n + n ≤ length b₀ → Taken (now (s .entry)) n h c middle b₀ (now (room .entry)) p
-        → Further (now (s .entry)) n h c middle (now (links .entry)) (now (spots .entry)) head b₀ (now (room .exit)) p) ⌝ }
+        → Further (now (s .entry)) n h c middle (now (places .entry)) head b₀ (now (room .exit)) p) ⌝ }
 {
     let mut k = many;
     let mut place = head as usize;
     while 0 < place {
         let i = place - 1;
-        let p = spots[i] as usize;
-        let source = sources[i] as usize;
+        let told = places[i];
+        let p = links::spot_of(told);
+        let source = links::source_of(told);
         k = take_source(s, n, middle, p, source, to, k, changed, room);
-        place = links[i] as usize;
+        place = links::link_of(told);
     }
     k
 }
@@ -122,9 +121,7 @@ pub fn take_changed(
     c: u32,
     middle: usize,
     heads: &[u16],
-    links: &[u16],
-    spots: &[u16],
-    sources: &[u16],
+    places: &[u64],
     from: usize,
     many: usize,
     to: usize,
@@ -134,12 +131,12 @@ pub fn take_changed(
     requires { ⌜ Scannable (now s) n h c ⌝ }
     requires { ⌜ middle ≡ end (hyperLayout (now s) n) h graphHeader ⌝ }
     requires { ⌜ n + n ≤ length (now room) ⌝ }
-    requires { ⌜ Index (now s) n h c middle (now heads) (now links) (now spots) (now sources) ⌝ }
+    requires { ⌜ Index (now s) n h c middle (now heads) (now places) ⌝ }
     requires { ⌜ (n ≤ 65535) × Aside n from to × (from + n ≤ length (now changed)) × (to + n ≤ length (now changed)) ⌝ }
     requires { ⌜ (many ≤ n) × ((k : ℕ) → k < many → getD (now changed) (from + k) 0 < n) ⌝ }
     requires { ⌜ Same n (now room) ⌝ }
     ensures { λ r. ⌜ Listed n n to r (now (room .exit)) (now (changed .exit)) ⌝ }
-    ensures { λ _. ⌜ TakenAll (now (s .entry)) n h c middle from many (now (changed .entry)) (now (heads .entry)) (now (links .entry)) (now (spots .entry))
+    ensures { λ _. ⌜ TakenAll (now (s .entry)) n h c middle from many (now (changed .entry)) (now (heads .entry)) (now (places .entry))
         (now (room .entry)) (now (room .exit)) ⌝ }
 {
     let mut k: usize = 0;
@@ -147,21 +144,7 @@ pub fn take_changed(
     while i < many {
         let v = changed[from + i] as usize;
         let chain = heads[v];
-        k = take_linked(
-            s,
-            n,
-            h,
-            c,
-            middle,
-            chain,
-            links,
-            spots,
-            sources,
-            to,
-            k,
-            changed,
-            room,
-        );
+        k = take_linked(s, n, h, c, middle, chain, places, to, k, changed, room);
         i += 1;
     }
     k

@@ -30,6 +30,13 @@ abbrev pub LowerRanks : (claims : List ℕ) → List Target → (rank : ℕ) →
 LowerRanks claims ts rank r =
     (r ≡ true → (t : Target) → t ∈ ts → claimedRank claims (t .node) < rank) × (r ≡ false → ¬ ((t : Target) → t ∈ ts → claimedRank claims (t .node) < rank))
 
+-- the nodes from one to before another are marked; and those of them that are finite
+abbrev pub Marked : (from to : ℕ) → (marks : List ℕ) → Type 0
+Marked from to marks = (v : ℕ) → v < to → from ≤ v → getD marks v 0 ≡ 1
+
+abbrev pub Backed : (from to : ℕ) → Assignment → (marks : List ℕ) → Type 0
+Backed from to x marks = (v : ℕ) → v < to → from ≤ v → finite (x v) ≡ true → getD marks v 0 ≡ 1
+
 -- every finite node is marked
 abbrev pub AllBacked : ℕ → Assignment → (marks : List ℕ) → Type 0
 AllBacked n x marks = (v : ℕ) → v < n → finite (x v) ≡ true → getD marks v 0 ≡ 1

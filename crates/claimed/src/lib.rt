@@ -1,7 +1,7 @@
 // What is claimed: of a node, of the targets of a hyperedge, and of all nodes.
 ghost use mathlib.Core.Path.{_≡_};
 ghost use mathlib.Core.Bool.{true, false};
-ghost use Prim.Native.Nat.{ℕ, _+_, _*_, _<_, _≤_};
+ghost use Prim.Native.Nat.{ℕ, _+_, _*_, _<_, _≤_, min};
 ghost use lib.ListN.{length};
 ghost use Rattle.value.specs.Stored.{stored, infinite};
 ghost use Rattle.wire.specs.Bytes.{number};
@@ -11,7 +11,7 @@ ghost use Rattle.rules.specs.Rounds as rules;
 ghost use Rattle.graph.specs.Format.{targetWidth};
 ghost use Rattle.graph.specs.Layouts.{targetLayout};
 ghost use Rattle.support.specs.Claims.{claimWidth, claimedValue, claimedRank};
-ghost use Rattle.claimed.specs.Targets.{Parted, Named, LowerRanks, AllBacked};
+ghost use Rattle.claimed.specs.Targets.{Parted, Named, LowerRanks, Marked, Backed, AllBacked};
 use value::Value;
 use wire::Width;
 
@@ -19,6 +19,9 @@ use wire::Width;
 pub const RANK_AT: usize = 8;
 
 pub const CLAIM: usize = 16;
+
+// How many nodes are looked at together at most.
+const BLOCK: usize = 64;
 
 // What the targets of a hyperedge give, and where they end; or one of them names no node.
 pub enum Given {
@@ -109,15 +112,32 @@ pub fn ranks_below(s: &[u8], n: usize, claims: &[u8], rank: u64, at: usize, end:
     true
 }
 
-// Whether every node that is claimed finite is marked.
-pub fn all_backed(n: usize, claims: &[u8], marks: &[u8; 4096]) -> bool
-    requires { ⌜ n * claimWidth ≤ length (now claims) ⌝ }
-    requires { ⌜ (n ≤ 4096) × (length (now marks) ≡ 4096) ⌝ }
-    ensures { λ r. ⌜ (r ≡ true → AllBacked n (claimedValue (now (claims .entry))) (now (marks .entry)))
-        × (r ≡ false → ¬ AllBacked n (claimedValue (now (claims .entry))) (now (marks .entry))) ⌝ }
+// Whether the nodes from one to before another are all marked. It never stops early, so that many are looked at at once.
+fn are_marked(marks: &[u8; 4096], from: usize, to: usize) -> bool
+    requires { ⌜ to ≤ 4096 ⌝ }
+    ensures { λ r. ⌜ (r ≡ true → Marked from to (now (marks .entry))) × (r ≡ false → ¬ Marked from to (now (marks .entry))) ⌝ }
 {
-    let mut v = 0;
-    while v < n {
+    let mut unmarked: u8 = 0;
+    let mut v = from;
+    while v < to {
+        unmarked |= marks[v] ^ 1;
+        v += 1;
+    }
+    unmarked == 0
+}
+
+// Whether every node from one to before another that is claimed finite is marked.
+fn are_backed(n: usize, claims: &[u8], marks: &[u8; 4096], from: usize, to: usize) -> bool
+    requires { ⌜ n * claimWidth ≤ length (now claims) ⌝ }
+    requires { ⌜ (to ≤ n) × (n ≤ 4096) ⌝ }
+    ensures { λ r. ⌜ (r ≡ true → Backed from to (claimedValue (now (claims .entry))) (now (marks .entry)))
+        × (r ≡ false → ¬ Backed from to (claimedValue (now (claims .entry))) (now (marks .entry))) ⌝ }
+{
+    if are_marked(marks, from, to) {
+        return true;
+    }
+    let mut v = from;
+    while v < to {
         if marks[v] == 1 {
             v += 1;
         } else {
@@ -127,6 +147,34 @@ pub fn all_backed(n: usize, claims: &[u8], marks: &[u8; 4096]) -> bool
             }
             v += 1;
         }
+    }
+    true
+}
+
+// How many of the nodes left are looked at together.
+fn block(left: usize) -> usize
+    ensures { λ r. ⌜ r ≡ min left 64 ⌝ }
+{
+    if left < BLOCK {
+        return left;
+    }
+    BLOCK
+}
+
+// Whether every node that is claimed finite is marked. Mostly all are, and then a block is passed at once.
+pub fn all_backed(n: usize, claims: &[u8], marks: &[u8; 4096]) -> bool
+    requires { ⌜ n * claimWidth ≤ length (now claims) ⌝ }
+    requires { ⌜ (n ≤ 4096) × (length (now marks) ≡ 4096) ⌝ }
+    ensures { λ r. ⌜ (r ≡ true → AllBacked n (claimedValue (now (claims .entry))) (now (marks .entry)))
+        × (r ≡ false → ¬ AllBacked n (claimedValue (now (claims .entry))) (now (marks .entry))) ⌝ }
+{
+    let mut v = 0;
+    while v < n {
+        let to = v + block(n - v);
+        if !are_backed(n, claims, marks, v, to) {
+            return false;
+        }
+        v = to;
     }
     true
 }

@@ -1,7 +1,6 @@
 // An edge read and judged by the claims at once: it has a fault, or it is fair to them and may back its source.
 ghost use mathlib.Core.Path.{_≡_};
-ghost use mathlib.Core.Bool.{true, false};
-ghost use Prim.Native.Nat.{_+_, _*_, _<_, _≤_};
+ghost use Prim.Native.Nat.{_+_, _*_, _≤_};
 ghost use lib.ListN.{length, getD};
 ghost use Rattle.value.specs.Stored.{stored};
 ghost use Rattle.wire.specs.Bytes.{number};
@@ -31,15 +30,6 @@ pub enum Edge {
     Odd,
     Backs(u32, u32, usize),
     Idle(u32, u32, usize),
-}
-
-// Whether a source is one of n nodes and not below the one before it: how far it is above that one, which is at most n, tells both in
-// one test.
-fn in_order(source: u32, n: u32, prev: u32) -> bool
-    requires { ⌜ prev ≤ n ⌝ }
-    ensures { λ r. ⌜ (r ≡ true → (source < n) × (prev ≤ source)) × (r ≡ false → source < n → source < prev) ⌝ }
-{
-    std::num::wrapping_sub_u32(source, prev) < n - prev
 }
 
 // What the hyperedge at a position is to the claims, which gives so much.
@@ -103,7 +93,7 @@ pub fn hyper_edge(
     }
     let source = wire::number_at(s, at, Width::Two);
     let count = wire::number_at(s, at + graph::TARGET_COUNT_AT, Width::Two);
-    if !in_order(source, n, prev) {
+    if !wire::follows(source, n, prev) {
         return Edge::Odd;
     }
     let total = seen + count;
@@ -172,7 +162,7 @@ pub fn cover_edge(s: &[u8], n: u32, claims: &[u8], at: usize, prev: u32) -> Edge
         (CoverFair (claimedValue (now (claims .entry))) e) (CoverBacks (claimedValue (now (claims .entry))) (claimedRank (now (claims .entry))) e) ⊥ r) ⌝ }
 {
     let source = wire::number_at(s, at, Width::Two);
-    if !in_order(source, n, prev) {
+    if !wire::follows(source, n, prev) {
         return Edge::Odd;
     }
     let target = wire::number_at(s, at + graph::COVER_TARGET_AT, Width::Two);

@@ -152,16 +152,18 @@ fn all_rows(s: &[u8], p: u32, f: u32) -> Checked
     Checked::Refused(MISUSED)
 }
 
-// A whole formula message, with the number of propositions it may name: how many rows it has, or its first fault.
+// A whole formula message, with the number of propositions it may name: how many rows it has, or its first fault. The message is named
+// anew at the start, all of it: where a slice is used in every call a compiler hands its place and length over in registers, else in memory.
 pub fn check(s: &[u8], p: u32) -> Checked
     ensures { λ r. ⌜ r ≡ answers.checked (m.readFormula p (now (s .entry))) ⌝ }
 {
+    let whole = &s[0..s.len()];
     if 32 < p {
         return Checked::Refused(TOO_LARGE);
     }
-    let head = header(s);
+    let head = header(whole);
     let Checked::Formula(f) = head else {
         return head;
     };
-    all_rows(s, p, f)
+    all_rows(whole, p, f)
 }

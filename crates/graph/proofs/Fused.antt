@@ -1,5 +1,5 @@
 -- A record whose fields pass the tests of the graph's reading is what that reading gives, and the other way round. Assumes nothing.
-use Prim.Native.Nat.{ℕ, zero, suc, _+_, _-_, _*_, _^_, _%_, _≤_, _<_}
+use Prim.Native.Nat.{ℕ, zero, suc, _+_, _*_, _≤_}
 use mathlib.Core.List.{List}
 use mathlib.Core.Path.{_≡_, refl, ap}
 use lib.ListN.{length}
@@ -20,14 +20,6 @@ use Rattle.graph.specs.Message.{readTarget, readTargets, readHyper, read
 use Rattle.graph.proofs.Good.{hyper-good, cover-good}
 use Rattle.graph.proofs.Accepted.{hypers-read, covers-read}
 use Rattle.wire.proofs.Fields.{value-is}
-
--- how far a source is above the one before it, modulo 2^32: below what is left up to n only where it is in order
-module _ (source prev n above : ℕ) (most : prev ≤ n) (fits : n < 2 ^ 32) (wraps : (above + prev) % 2 ^ 32 ≡ source) where
-  pub within : above < n - prev → (source < n) × (prev ≤ source)
-  within less = (omega arith, omega arith)
-
-  pub beyond : above < 2 ^ 32 → n - prev ≤ above → source < n → source < prev
-  beyond small far named = omega arith
 
 -- a field that fits is there
 field-there : (k : ℕ) (s : List ℕ) (at : ℕ) → at + k ≤ length s → field k s at ≡ good (number k s at)

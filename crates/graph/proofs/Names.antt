@@ -1,24 +1,23 @@
--- Tests of many records at once: a node with the two bytes behind it, targets by fours, cover edges in order; what passes is read without a
--- fault. Assumes nothing.
+-- Tests of many records at once: targets by fours, cover edges in order; what passes is read without a fault. Assumes nothing.
 use Prim.Native.Nat.{ℕ, zero, suc, _+_, _*_, _-_, _<_, _≤_}
 use mathlib.Core.List.{List}
 use mathlib.Core.Bool.{Bool, true, false, _&&_, and-assoc}
 use mathlib.Core.Path.{_≡_, refl, sym, ap, _∙_}
 use lib.ListN.{length}
-use lib.Dec.{ltb, eqb}
-use borrow.Author.Tests.{le-leb, ltb-true, ltb-false, lt-ltb, le-ltb, eqb-true, eq-eqb}
+use lib.Dec.{eqb}
+use borrow.Author.Tests.{le-leb, ltb-true, eqb-true, eq-eqb}
 use native.Mathlib.Nat.{suc-add, zero-add}
 use native.Mathlib.Omega.{arith}
 use Rattle.lists.proofs.Tests.{by-test, and-left, and-right}
-use Rattle.wire.specs.Bytes.{number, Bytes}
+use Rattle.wire.specs.Bytes.{number}
 use Rattle.wire.specs.Read.{good, misnamed}
 use Rattle.wire.specs.Reader.{one, run}
 use Rattle.wire.specs.Step.{start}
-use Rattle.wire.specs.Ordered.{inOrder}
 use Rattle.wire.specs.declared.State.{State}
 use Rattle.wire.proofs.Reading.{reading, good-then, field-here, good-below, good-source}
 use Rattle.wire.proofs.Readers.{run-more}
-use Rattle.wire.proofs.Ordered.{two-and-two, ReadsInOrder, in-order-runs}
+use Rattle.ordered.specs.Ordered.{inOrder}
+use Rattle.ordered.proofs.Ordered.{ReadsInOrder, in-order-runs}
 use Rattle.graph.specs.Format.{nodeAt, targetWidth, coverBoundAt, coverTargetAt, coverWidth}
 use Rattle.graph.specs.Message.{readTarget, readCover, targets, covers}
 use Rattle.graph.specs.Names.{fourWidth, fours, targetNamed, allNamed, pastFours, coversInOrder, coversToEnd}
@@ -28,14 +27,6 @@ and-both : (a b : Bool) → (a && b) ≡ true → (a ≡ true) × (b ≡ true)
 and-both a b e = (and-left a b e, and-right a b e)
 
 module _ (s : List ℕ) (n : ℕ) where
-  -- a node can be tested with the two bytes behind it
-  pub named-above : (at : ℕ) → Bytes s → ltb (number 4 s at) (n * 65536) ≡ ltb (number 2 s at) n
-  named-above at bytes =
-      let both = two-and-two s at bytes in
-      by-test (ltb (number 2 s at) n)
-      (λ t. lt-ltb (number 4 s at) (n * 65536) (omega (arith, ltb-true (number 2 s at) n t)) ∙ sym t)
-      (λ f. le-ltb (number 4 s at) (n * 65536) (omega (arith, ltb-false (number 2 s at) n f)) ∙ sym f)
-
   -- targets, and targets behind them
   pub all-split : (i j at : ℕ) → allNamed s n (i + j) at ≡ (allNamed s n i at && allNamed s n j (at + i * targetWidth))
   unfolding allNamed

@@ -10,7 +10,7 @@ use Rattle.wire.specs.Bytes.{number}
 use Rattle.wire.specs.Read.{Read, _>>=_, demand}
 use Rattle.wire.specs.Reader.{run}
 use Rattle.wire.specs.Step.{start}
-use Rattle.wire.specs.Ordered.{inOrder}
+use Rattle.ordered.specs.Ordered.{inOrder}
 use Rattle.graph.specs.Format.{nodeAt, targetWidth, coverTargetAt, coverWidth}
 use Rattle.graph.specs.Message.{covers}
 

@@ -132,13 +132,19 @@ fn target(s: &[u8], n: u32, st: State) -> Step
     })
 }
 
-// Whether the target here names a node. It is read with the two bytes behind it, for the same reason as a target in `wire::in_order`.
+// Whether the target here names a node. It is read with the two bytes behind it, for the same reason as in `ordered::next_source`. Here and
+// below no caller sees which fault is told.
 fn named(s: &[u8], n: u32, at: usize) -> bool
     requires { ⌜ (n ≤ nodesCount .most) × (at + nodeAt + 4 ≤ length (now s)) ⌝ }
     ensures { λ r. ⌜ r ≡ targetNamed (now (s .entry)) n at ⌝ }
 {
-    let node_at = at + NODE_AT;
-    wire::number_at(s, node_at, Width::Four) < n * wire::TWO_MORE
+    let end = at + NODE_AT + 4;
+    let limit = (n as u64) * (wire::TWO_MORE as u64);
+    let node = wire::read_below(&s[at..end], NODE_AT, Width::Four, limit, refusal::NAME);
+    let Field::Number(_) = node else {
+        return false;
+    };
+    true
 }
 
 // Whether four targets do. The last is read alone, since nothing need stand behind it.
@@ -158,8 +164,12 @@ fn four_named(s: &[u8], n: u32, at: usize) -> bool
     if !named(s, n, third) {
         return false;
     }
-    let node_at = last + NODE_AT;
-    wire::number_at(s, node_at, Width::Two) < n
+    let end = last + TARGET;
+    let node = wire::read_below(&s[last..end], NODE_AT, Width::Two, n as u64, refusal::NAME);
+    let Field::Number(_) = node else {
+        return false;
+    };
+    true
 }
 
 // The position behind all fours of targets that fit, if all of these name nodes, and else the first. The place that was reached is not given
@@ -335,7 +345,7 @@ fn covers_in_order(s: &[u8], n: u32, c: u32, first: usize) -> bool
     if s.len() != end {
         return false;
     }
-    wire::in_order(s, n, COVER_TARGET_AT, c, first)
+    ordered::in_order(s, n, COVER_TARGET_AT, c, first)
 }
 
 // The c cover edges, and nothing left over. They are read one by one only where they are not in order, which finds the first fault.

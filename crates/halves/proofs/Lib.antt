@@ -1,5 +1,3 @@
 -- Laws of the halves of a room.
 --     Room       their numbers, where they are the same, clearing, bringing the first up to the second
---     Apart      the bits in which numbers differ
 pub mod Room
-pub mod Apart

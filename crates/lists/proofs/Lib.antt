@@ -7,6 +7,7 @@
 --     Each       what holds of each element
 --     Order      numbers that rise between two ends
 --     Zeros      a list of zeros has zero everywhere
+--     Apart      the bits in which numbers differ
 pub mod Tests
 pub mod Lists
 pub mod Making
@@ -15,3 +16,4 @@ pub mod Places
 pub mod Each
 pub mod Order
 pub mod Zeros
+pub mod Apart

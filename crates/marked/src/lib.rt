@@ -118,22 +118,23 @@ fn take_both(
     spread(near.lo, near.hi, far.lo, far.hi)
 }
 
-// From rounds 1 and 2 on, until a round changes nothing or the budget is spent. The next round is worked out in the second half; then
+// From a round and the next on, until a round changes nothing or the budget is spent. The next round is worked out in the second half; then
 // the first is brought up to it. Why skipping is exact: a record whose targets stayed in the last round gives what it gave before, which
 // its source has already, since rounds fall; so only records of changed targets are worked out, and only their sources are compared.
-pub fn run_on(
+fn run_noted(
     s: &[u8],
     n: usize,
     h: u32,
     c: u32,
     middle: usize,
+    round: u32,
     budget: u32,
     room: &mut [u64],
 ) -> Outcome
     requires { ⌜ Ready (now s) n h c ⌝ }
     requires { ⌜ middle ≡ end (hyperLayout (now s) n) h graphHeader ⌝ }
     requires { ⌜ n + n ≤ length (now room) ⌝ }
-    requires { ⌜ AtRound (decoded (now s) n h c) budget 1 (now room) (now room) ⌝ }
+    requires { ⌜ AtRound (decoded (now s) n h c) budget round (now room) (now room) ⌝ }
     ensures { λ r. ⌜ r ≡ ended (decoded (now (s .entry)) n h c) budget ⌝ }
     ensures { λ r. ⌜ now (room .exit) ≡ filled (decoded (now (s .entry)) n h c) (outcomeCount r) (now (room .entry)) ⌝ }
 {
@@ -145,7 +146,7 @@ pub fn run_on(
     let mut highs = [0u32; 512];
     notes::note_covers(s, n, c, middle, &mut lows, &mut highs);
     let all = notes::mark_all(&first, &last, &pos, &lows, &highs);
-    let mut i: u32 = 1;
+    let mut i = round;
     let mut span = Span {
         lo: 0,
         gap: 0,
@@ -163,4 +164,56 @@ pub fn run_on(
         span = take_both(s, n, h, c, middle, m, longs, room);
         i += 1;
     }
+}
+
+// Whether many nodes changed in the last round: of every eighth node more than one in 64. The next round then takes in most records
+// anyway. The answer decides only how rounds are worked out.
+fn many_changed(n: usize, room: &[u64]) -> bool
+    requires { ⌜ n + n ≤ length (now room) ⌝ }
+{
+    let mut many: usize = 0;
+    let mut v: usize = 0;
+    while v < n {
+        let w = v;
+        let other = n + w;
+        v += 8;
+        if room[w] != room[other] {
+            many += 1;
+        }
+    }
+    n / 512 < many
+}
+
+// From rounds 1 and 2 on, which differ, until a round changes nothing or the budget is spent. As long as many nodes change every record is
+// taken in; what a node reaches is noted only after that: to note it takes longer than some rounds, and many questions settle in these.
+pub fn run_on(
+    s: &[u8],
+    n: usize,
+    h: u32,
+    c: u32,
+    middle: usize,
+    budget: u32,
+    room: &mut [u64],
+) -> Outcome
+    requires { ⌜ Ready (now s) n h c ⌝ }
+    requires { ⌜ middle ≡ end (hyperLayout (now s) n) h graphHeader ⌝ }
+    requires { ⌜ n + n ≤ length (now room) ⌝ }
+    requires { ⌜ AtRound (decoded (now s) n h c) budget 1 (now room) (now room) ⌝ }
+    requires { ⌜ ¬ Same n (now room) ⌝ }
+    ensures { λ r. ⌜ r ≡ ended (decoded (now (s .entry)) n h c) budget ⌝ }
+    ensures { λ r. ⌜ now (room .exit) ≡ filled (decoded (now (s .entry)) n h c) (outcomeCount r) (now (room .entry)) ⌝ }
+{
+    let mut round: u32 = 1;
+    while many_changed(n, room) {
+        if round == budget {
+            return Outcome::Spent(round);
+        }
+        halves::raise(n, room);
+        scans::next_round(s, n, h, graph::HEADER, c, middle, 0, c, room);
+        round += 1;
+        if halves::same(n, 0, n, room) {
+            return Outcome::Settled(round);
+        }
+    }
+    run_noted(s, n, h, c, middle, round, budget, room)
 }

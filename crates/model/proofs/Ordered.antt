@@ -7,9 +7,9 @@ use lib.ListN.{length}
 use native.Mathlib.Omega.{arith}
 use Rattle.wire.specs.Read.{misnamed}
 use Rattle.wire.specs.Step.{start}
-use Rattle.wire.specs.Ordered.{inOrder}
 use Rattle.wire.proofs.Reading.{reading, field-here, good-below, good-source}
-use Rattle.wire.proofs.Ordered.{ReadsInOrder, Ended, in-order-runs}
+use Rattle.ordered.specs.Ordered.{inOrder}
+use Rattle.ordered.proofs.Ordered.{ReadsInOrder, Ended, in-order-runs}
 use Rattle.model.specs.Format.{weightAt, actionAt, toAt, transitionWidth}
 use Rattle.model.specs.Message.{readTransition, transitions}
 

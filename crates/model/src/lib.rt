@@ -237,7 +237,7 @@ pub fn check(s: &[u8]) -> Checked
         return Checked::Refused(e);
     }
     let middle = HEADER + (n as usize) * LABEL;
-    if wire::in_order(s, n, TO_AT, t, middle) {
+    if ordered::in_order(s, n, TO_AT, t, middle) {
         return head;
     }
     if let Step::Refused(e) = transitions(

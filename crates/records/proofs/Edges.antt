@@ -55,7 +55,7 @@ pub hyper-laid : {b : List ℕ} {at : ℕ} {b′ : List ℕ} {next : ℕ} {b″ 
 unfolding writeHyper
 hyper-laid v ts h m = h then m
 
--- or its head is laid in before its targets, once they stand
+-- or what stands in front is laid in last, once the rest stands: so is a head before its targets
 laid-before : (b : List ℕ) (at : ℕ) (s t : List ℕ) → at + length s + length t ≤ length b → laid (laid b (at + length s) t) at s ≡ laid b at (s ++ t)
 unfolding laid
 laid-before b at s t h =
@@ -70,21 +70,22 @@ laid-before b at s t h =
     ap₂ (λ (x y : List ℕ). x ++ s ++ y) kept beyond ∙ sym (append-assoc (take at b ++ s) t rest)
     ∙ ap₂ (λ (x : List ℕ) (n : ℕ). x ++ drop n b) (append-assoc (take at b) s t) total
 
-pub head-laid : {b : List ℕ} {at : ℕ} {b′ : List ℕ} {next : ℕ} {b″ : List ℕ} {end : ℕ} (v : ℕ) (ts : List Target)
-    → Laid b (at + hyperWidth) (writeAll writeTarget ts) b′ next → Laid b′ at (bytes 2 v ++ bytes 2 (length ts)) b″ end
-    → Laid b at (writeHyper (hyper v ts)) b″ next
-unfolding writeHyper
-head-laid {b} {at} v ts l m =
-    let s = bytes 2 v ++ bytes 2 (length ts) in
-    let t = writeAll writeTarget ts in
-    let four = head-length v (length ts) in
-    let there : at + hyperWidth ≡ at + length s = omega (arith, four) in
+pub front-laid : {b : List ℕ} {at : ℕ} {t b′ : List ℕ} {next : ℕ} {s b″ : List ℕ} {end : ℕ} (k : ℕ)
+    → length s ≡ k → Laid b (at + k) t b′ next → Laid b′ at s b″ end → Laid b at (s ++ t) b″ next
+front-laid {b} {at} {t} {s = s} k long l m =
+    let there : at + k ≡ at + length s = omega (arith, long) in
     let fits : at + length s + length t ≤ length b = omega (arith, there, l .inside) in
     record {
       inside = omega (arith, fits, length-append s t);
       room-is = m .room-is ∙ ap (λ (c : List ℕ). laid c at s) (l .room-is ∙ ap (λ (n : ℕ). laid b n t) there) ∙ laid-before b at s t fits;
       next-is = omega (arith, there, l .next-is, length-append s t);
     }
+
+pub head-laid : {b : List ℕ} {at : ℕ} {b′ : List ℕ} {next : ℕ} {b″ : List ℕ} {end : ℕ} (v : ℕ) (ts : List Target)
+    → Laid b (at + hyperWidth) (writeAll writeTarget ts) b′ next → Laid b′ at (bytes 2 v ++ bytes 2 (length ts)) b″ end
+    → Laid b at (writeHyper (hyper v ts)) b″ next
+unfolding writeHyper
+head-laid v ts l m = front-laid hyperWidth (head-length v (length ts)) l m
 
 -- ---- a loop over transitions that lays in what one makes of each
 

@@ -8,7 +8,7 @@ use Rattle.value.specs.declared.Bound.{Bound}
 use Rattle.wire.specs.Write.{writeAll}
 use Rattle.graph.specs.Format.{hyperWidth, targetWidth}
 use Rattle.graph.specs.Write.{writeTarget, writeHyper, writeCover}
-use Rattle.rules.specs.Graph.{Target}
+use Rattle.rules.specs.Graph.{Hyper, Target}
 use Rattle.model.specs.Model.{Model, Transition}
 use Rattle.syntax.specs.declared.Quantifier.{Quantifier}
 use Rattle.syntax.specs.declared.Quantifier.the-variants.{Some, Every}
@@ -72,19 +72,29 @@ stepBytes Every v left weight node = writeTarget (to weight node)
 abbrev pub stepsBytes : Quantifier → (v left shift : ℕ) → List Transition → List ℕ
 stepsBytes q v left shift us = writeAll (λ u. stepBytes q v left (u .weight) (u .to + shift)) us
 
+-- the hyperedges of a row's nodes, of all rows' nodes from place r on, and of all helpers from place h on
+abbrev pub rowHypers : Model → ℕ → Row → List Hyper
+rowHypers M r row = span (λ a. map (hyper (a + M .states * r)) (rowEdges M row a)) 0 (M .states)
+
+abbrev pub rowsHypers : Model → ℕ → List Row → List Hyper
+rowsHypers M r rows = layout hyper (M .states) (λ row r a. rowEdges M row a) r rows
+
+abbrev pub helpersHypers : Model → ℕ → List Row → List Hyper
+helpersHypers M h us = layout hyper (M .states) (helperEdges M) h us
+
 -- a row's nodes, all rows' nodes from place r on, an until row's helpers, all helpers
 unfoldable pub rowBytes : Model → ℕ → Row → List ℕ
-rowBytes M r row = writeAll writeHyper (span (λ a. map (hyper (a + M .states * r)) (rowEdges M row a)) 0 (M .states))
+rowBytes M r row = writeAll writeHyper (rowHypers M r row)
 
 unfoldable pub rowsBytes : Model → ℕ → List Row → List ℕ
-rowsBytes M r rows = writeAll writeHyper (layout hyper (M .states) (λ row r a. rowEdges M row a) r rows)
+rowsBytes M r rows = writeAll writeHyper (rowsHypers M r rows)
 
 unfoldable pub helperBytes : Model → ℕ → Quantifier → ℕ → ℕ → List ℕ
 helperBytes M h q l r =
     writeAll writeHyper (span (λ a. map (hyper (a + M .states * h)) ((to 0 (a + M .states * r) ∷ []) ∷ stepEdges M q l h a)) 0 (M .states))
 
 unfoldable pub helpersBytes : Model → ℕ → List Row → List ℕ
-helpersBytes M h us = writeAll writeHyper (layout hyper (M .states) (helperEdges M) h us)
+helpersBytes M h us = writeAll writeHyper (helpersHypers M h us)
 
 -- the cover edges of an until row's nodes, and of all rows'
 unfoldable pub coverBytes : (n r h : ℕ) → Bound → List ℕ

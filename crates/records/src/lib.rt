@@ -69,7 +69,7 @@ fn put_near(room: &mut [u8], at: usize, q: Quantifier, v: u32, node: u32) -> usi
 }
 
 // How wide a hyperedge with one target is.
-const SINGLE: usize = graph::HYPER + graph::TARGET;
+pub const SINGLE: usize = graph::HYPER + graph::TARGET;
 
 // How many bytes that takes.
 fn near_width(q: Quantifier) -> usize
@@ -112,7 +112,7 @@ fn put_nearby(
     while 0 < i {
         let both = wire::number_at(m, p + model::ACTION_AT, Width::Four);
         let here = transitions::is_near_of(m, p, both, low, high, most);
-        let to = both % 65536;
+        let to = both % wire::TWO_MORE;
         let next = at + (near as usize) * width;
         p += model::TRANSITION;
         i -= 1;

@@ -1,9 +1,10 @@
 -- What the limits say, one by one. Assumes nothing.
 use Prim.Native.Nat.{ℕ, _≤_}
-use mathlib.Core.Bool.{true, _&&_}
+use mathlib.Core.Bool.{true}
 use mathlib.Core.Path.{_≡_}
 use lib.Dec.{leb}
-use borrow.Author.Tests.{leb-true}
+use native.Mathlib.Omega.{arith}
+use borrow.Author.Tests.{leb-true, le-leb}
 use Rattle.lists.proofs.Tests.{and-left, and-right}
 use Rattle.sizing.specs.declared.Size as size
 use Rattle.sizing.specs.Size.{inLimits}
@@ -14,3 +15,10 @@ counts-within nodes z e =
     let rest = and-right (leb nodes 4096) _ e in
     let edges = and-right (leb (z .hypers) 65535) _ rest in
     (leb-true _ _ (and-left _ _ e), leb-true _ _ (and-left _ _ rest), leb-true _ _ (and-left _ _ edges), leb-true _ _ (and-right (leb (z .targets) 262144) _ edges))
+
+-- with fewer nodes they are kept too
+pub fewer-within : (less nodes : ℕ) (z : size.Size) → less ≤ nodes → inLimits nodes z ≡ true → inLimits less z ≡ true
+unfolding inLimits
+fewer-within less nodes z few e =
+    let h = counts-within nodes z e in
+    rw (le-leb less 4096 (omega (arith, few, h .0)), le-leb (z .hypers) 65535 (h .1), le-leb (z .targets) 262144 (h .2), le-leb (z .most) 65535 (h .3))

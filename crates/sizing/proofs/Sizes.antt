@@ -22,7 +22,7 @@ use Rattle.syntax.specs.declared.Row.{Row}
 use Rattle.syntax.specs.declared.Row.the-variants.{True, False, Proposition, Negation, And, Or, Next, Until}
 use Rattle.reduction.specs.Built.{to, out, looksAt, near, rowEdges, ifAny, helperEdges}
 use Rattle.sizing.specs.declared.Size.{Size}
-use Rattle.sizing.specs.Size.{noSize, addSize, sizeOf, stateEdges, rowsEdges, nextSize, stepSize, helperSize}
+use Rattle.sizing.specs.Size.{_⊑_, noSize, addSize, sizeOf, stateEdges, rowsEdges, nextSize, stepSize, helperSize}
 use Rattle.transitions.specs.Looked.{leafEdges}
 use Rattle.transitions.proofs.Accepted.{own, out-length, near-length}
 use Rattle.sizing.proofs.Untils.{other-row, by-row}
@@ -198,7 +198,7 @@ module _ (M : Model) (few : length (M .transitions) ≤ 65535) where
 
   -- with at most 256 states
   module _ (states : M .states ≤ 256) where
-    states-small : (row : Row) → Small 67108864 (sizeOf (span (stateEdges M row) 0 (M .states)))
+    pub states-small : (row : Row) → Small 67108864 (sizeOf (span (stateEdges M row) 0 (M .states)))
     states-small row = let h = small-span (stateEdges M row) 262144 (state-small row) 0 (M .states) in omega arith
 
     pub rows-small : (rows : List Row) → Small (length rows * 67108864) (sizeOf (rowsEdges M rows))
@@ -215,20 +215,13 @@ small-part x y e h = omega (arith, ap (λ (z : Size). z .hypers) e, ap (λ (z : 
 
 -- ---- a part is no larger than the whole
 
-infix 40 _⊑_
--- no number of one is above the other's
-pub record _⊑_ (x y : Size) : Type 0 where
-  pub hypers : x .hypers ≤ y .hypers
-  pub targets : x .targets ≤ y .targets
-  pub most : x .most ≤ y .most
-
 part-left : (x y : Size) {z : Size} → z ⊑ x → z ⊑ addSize x y
 part-left x y h = record { hypers = omega (arith, h .hypers); targets = omega (arith, h .targets); most = omega (arith, h .most) }
 
 part-right : (x y : Size) {z : Size} → z ⊑ y → z ⊑ addSize x y
 part-right x y h = record { hypers = omega (arith, h .hypers); targets = omega (arith, h .targets); most = omega (arith, h .most) }
 
-part-self : (x : Size) → x ⊑ x
+pub part-self : (x : Size) → x ⊑ x
 part-self x = record { hypers = omega arith; targets = omega arith; most = omega arith }
 
 part-span : (f : ℕ → List (List Target)) (a n c : ℕ) → a ≤ c → c < a + n → sizeOf (f c) ⊑ sizeOf (span f a n)
@@ -250,3 +243,17 @@ part-state M (c ∷ rows) (List·Memᴰ·head e) a l =
 part-state M (c ∷ rows) (List·Memᴰ·tail m) a l =
     rw (size-append (span (stateEdges M c) 0 (M .states)) (rowsEdges M rows))
     (part-right (sizeOf (span (stateEdges M c) 0 (M .states))) (sizeOf (rowsEdges M rows)) (part-state M rows m a l))
+
+-- a loop over rows whose sum is no less than theirs: at first, at the end, and a turn
+pub most-all : (x : Size) → x ⊑ addSize noSize x
+most-all x = part-right noSize x (part-self x)
+
+pub most-done : (x : Size) {w : Size} → w ⊑ addSize x noSize → w ⊑ x
+most-done x h = record { hypers = omega (arith, h .hypers); targets = omega (arith, h .targets); most = omega (arith, h .most) }
+
+pub most-turn : (M : Model) (row : Row) (rows : List Row) (sum one : Size) {w : Size} → w ⊑ addSize sum (sizeOf (rowsEdges M (row ∷ rows)))
+    → sizeOf (span (stateEdges M row) 0 (M .states)) ⊑ one → w ⊑ addSize (addSize sum one) (sizeOf (rowsEdges M rows))
+unfolding rowsEdges
+most-turn M row rows sum one whole few =
+    let all = rw (size-append (span (stateEdges M row) 0 (M .states)) (rowsEdges M rows)) at whole in
+    record { hypers = omega (arith, all .hypers, few .hypers); targets = omega (arith, all .targets, few .targets); most = omega (arith, all .most, few .most) }

@@ -11,6 +11,7 @@ use lib.Dec.{eqb}
 use borrow.Author.Tests.{eqb-true, eqb-false, ne-eqb}
 use Rattle.lists.specs.Lists.{_∈_}
 use Rattle.lists.specs.Making.{keep, span}
+use Rattle.lists.proofs.Kept.{keep-length}
 use Rattle.lists.proofs.Tests.{by-test}
 use Rattle.wire.proofs.Layouts.{items-length}
 use Rattle.value.specs.declared.Bound.{Bound}
@@ -24,9 +25,9 @@ use Rattle.transitions.specs.Held.{transitionLayout, transitionsFrom, heldModel
 use Rattle.transitions.proofs.Accepted.{own, out-length, near-length}
 use Rattle.model.specs.Model.{Model, Transition, holds}
 use Rattle.syntax.specs.declared.Quantifier.{Quantifier}
-use Rattle.syntax.specs.declared.Quantifier.the-variants.{Some}
+use Rattle.syntax.specs.declared.Quantifier.the-variants.{Some, Every}
 use Rattle.sizing.specs.declared.Size.{Size}
-use Rattle.sizing.specs.Size.{noSize, addSize, bareSize, sizes, sizeOf, stateEdges, nextSize, stepSize}
+use Rattle.sizing.specs.Size.{_⊑_, noSize, addSize, bareSize, sizes, sizeOf, stateEdges, nextSize, stepSize}
 use Rattle.transitions.specs.Looked.{leafEdges}
 use Rattle.sizing.proofs.Sizes.{same, add-none, none-add, add-assoc, size-append, state-size}
 use Rattle.sizing.proofs.Untils.{other-row}
@@ -109,9 +110,13 @@ not-leaves h n k e =
     let rest : n - k ≡ tally (λ c. not (h c)) 0 n = omega (arith, are, others h 0 n) in
     ap bareSize rest ∙ sym (leaves (λ c. not (h c)) 0 n)
 
+-- it holds in no more states than there are
+pub leaves-within : (h : ℕ → Bool) (n : ℕ) → sizes (λ c. sizeOf (leafEdges (h c))) 0 n ⊑ bareSize n
+leaves-within h n = rw (leaves h 0 n) (record { hypers = omega (arith, others h 0 n); targets = omega arith; most = omega arith })
+
 -- ---- what is looked at in all states together
 
-unfoldable total : (ℕ → ℕ) → (a n : ℕ) → ℕ
+unfoldable pub total : (ℕ → ℕ) → (a n : ℕ) → ℕ
 total g a zero = 0
 total g a (suc n) = g a + total g (suc a) n
 
@@ -172,6 +177,21 @@ unfolding sizes total
 nexts g a zero = refl
 nexts g a (suc n) = ap (addSize (nextSize Some (g a))) (nexts g (suc a) n) ∙ same refl refl (omega arith)
 
+-- AX: a hyperedge in each state, none with more targets than all have
+every-nexts : (g : ℕ → ℕ) (a n : ℕ) → sizes (λ c. nextSize Every (g c)) a n ⊑ record { hypers = n; targets = total g a n; most = total g a n }
+unfolding sizes total
+every-nexts g a zero = record { hypers = omega arith; targets = omega arith; most = omega arith }
+every-nexts g a (suc n) =
+    let rest = every-nexts g (suc a) n in
+    record { hypers = omega (arith, rest .hypers); targets = omega (arith, rest .targets); most = omega (arith, rest .most) }
+
+-- of an until's helpers in all states, the targets are as many as the hyperedges and the transitions together
+pub steps-targets : (q : Quantifier) (g : ℕ → ℕ) (a n : ℕ) → sizes (λ c. stepSize q (g c)) a n .targets ≡ sizes (λ c. stepSize q (g c)) a n .hypers + total g a n
+unfolding sizes total
+steps-targets q g a zero = refl
+steps-targets Some g a (suc n) = omega (arith, steps-targets Some g (suc a) n)
+steps-targets Every g a (suc n) = omega (arith, steps-targets Every g (suc a) n)
+
 abbrev pub stepsSize : ℕ → ℕ → Size
 stepsSize n k = record { hypers = n + k; targets = n + 2 * k; most = 1 + min k 1 }
 
@@ -198,18 +218,37 @@ module _ {m : List ℕ} {n p t : ℕ} (h : HoldsModel m n p t) where
   unfolding heldModel
   named u k = h .well-formed .from-named {t = u} k
 
-  -- the number of transitions that EX looks at, of all
-  pub all-nexts : (A : Action) (b : Bound) → sizes (λ a. nextSize Some (length (near M A b a))) 0 n ≡ nextSize Some (length (keep (looksAt A b) (transitionsFrom m n 0 t)))
+  -- the number of transitions that EX or AX looks at, of all
+  near-all : (A : Action) (b : Bound) → total (λ a. length (near M A b a)) 0 n ≡ length (keep (looksAt A b) (transitionsFrom m n 0 t))
   unfolding heldModel
-  all-nexts A b =
-      nexts (λ a. length (near M A b a)) 0 n
-      ∙ ap (nextSize Some) (total-like _ _ (near-length M A b) 0 n ∙ kept-all (looksAt A b) (transitionsFrom m n 0 t) n named)
+  near-all A b = total-like _ _ (near-length M A b) 0 n ∙ kept-all (looksAt A b) (transitionsFrom m n 0 t) n named
 
-  -- and of E until, which looks at all
+  pub all-nexts : (A : Action) (b : Bound) → sizes (nextAt M Some A b) 0 n ≡ nextSize Some (length (keep (looksAt A b) (transitionsFrom m n 0 t)))
+  all-nexts A b = nexts (λ a. length (near M A b a)) 0 n ∙ ap (nextSize Some) (near-all A b)
+
+  -- which are no more than there are
+  near-within : (A : Action) (b : Bound) → total (λ a. length (near M A b a)) 0 n ≤ t
+  near-within A b =
+      let us = transitionsFrom m n 0 t in
+      omega (arith, near-all A b, keep-length (looksAt A b) us, items-length (transitionLayout m) t (transitionAt n 0))
+
+  pub some-within : (A : Action) (b : Bound) → sizes (nextAt M Some A b) 0 n ⊑ record { hypers = t; targets = t; most = 1 }
+  some-within A b =
+      rw (nexts (λ a. length (near M A b a)) 0 n)
+      (record { hypers = omega (arith, near-within A b); targets = omega (arith, near-within A b); most = omega arith })
+
+  pub every-within : (A : Action) (b : Bound) → sizes (nextAt M Every A b) 0 n ⊑ record { hypers = n; targets = t; most = t }
+  every-within A b =
+      let all = every-nexts (λ a. length (near M A b a)) 0 n in
+      record { hypers = all .hypers; targets = omega (arith, all .targets, near-within A b); most = omega (arith, all .most, near-within A b) }
+
+  -- an until looks at all
+  pub out-all : total (λ a. length (out M a)) 0 n ≡ t
+  unfolding heldModel
+  out-all =
+      total-like _ _ (λ a. out-length M a ∙ ap length (sym (keep-every (own M a)))) 0 n ∙ kept-all (λ u. true) (transitionsFrom m n 0 t) n named
+      ∙ ap length (keep-every (transitionsFrom m n 0 t)) ∙ items-length (transitionLayout m) t (transitionAt n 0)
+
   pub all-steps : sizes (λ a. stepSize Some (length (out M a))) 0 n ≡ stepsSize n t
   unfolding heldModel
-  all-steps =
-      let all : total (λ a. length (out M a)) 0 n ≡ t =
-      total-like _ _ (λ a. out-length M a ∙ ap length (sym (keep-every (own M a)))) 0 n ∙ kept-all (λ u. true) (transitionsFrom m n 0 t) n named
-      ∙ ap length (keep-every (transitionsFrom m n 0 t)) ∙ items-length (transitionLayout m) t (transitionAt n 0) in
-      some-steps (λ a. length (out M a)) n (h .well-formed .some-state) ∙ ap (stepsSize n) all
+  all-steps = some-steps (λ a. length (out M a)) n (h .well-formed .some-state) ∙ ap (stepsSize n) out-all

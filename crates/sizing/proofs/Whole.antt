@@ -11,26 +11,31 @@ use borrow.Author.Tests.{leb-true, leb-false, le-leb, lt-leb}
 use Rattle.lists.specs.Lists.{all}
 use Rattle.lists.specs.Making.{keep, span}
 use Rattle.lists.proofs.Tests.{by-test}
-use Rattle.wire.specs.Write.{message}
+use Rattle.wire.specs.Write.{writeAll, message}
 use Rattle.wire.proofs.Bytes.{length-bytes}
 use Rattle.wire.proofs.Exact.{length-writeAll}
 use Rattle.rules.specs.Graph.{Graph, Hyper, Target}
 use Rattle.graph.specs.Format.{coverWidth, graphLength}
 use Rattle.graph.specs.WellFormed.{targetsOf}
-use Rattle.graph.specs.Write.{writeCover, writeBody, writeGraph}
+use Rattle.graph.specs.Write.{writeHyper, writeCover, writeBody, writeGraph}
 use Rattle.model.specs.Model.{Model}
+use Rattle.value.specs.declared.Bound.{Bound}
+use Rattle.syntax.specs.declared.Quantifier.{Quantifier}
 use Rattle.syntax.specs.declared.Row.{Row}
-use Rattle.reduction.specs.Built.{rowEdges, helperEdges, isUntil, untils, rowCovers, layout, hyper, cover, CoverEnd, graphOf}
+use Rattle.syntax.specs.declared.Row.the-variants.{Until}
+use Rattle.transitions.specs.Held.{heldModel, HoldsModel}
+use Rattle.reduction.specs.Built.{out, rowEdges, helperEdges, isUntil, untils, rowCovers, layout, hyper, cover, CoverEnd, graphOf}
 use Rattle.sizing.specs.declared.Size.{Size}
 use Rattle.sizing.specs.Size.{noSize, addSize, sizeOf, stateEdges, rowsEdges}
 use Rattle.sizing.proofs.Untils.{other-row, by-row}
 use Rattle.sizing.proofs.Sizes.{none-add, add-swap, size-append, size-span, size-spans, helper-size}
+use Rattle.sizing.proofs.Sums.{stepAt, span-sizes, steps-targets, out-all}
 use Rattle.graph.proofs.Exact.{hypers-length, cover-length}
 use Rattle.lists.proofs.Making.{span-length, span-empty}
 
 -- ---- hyperedges by their target lists
 
-abbrev listsOf : List Hyper → List (List Target)
+abbrev pub listsOf : List Hyper → List (List Target)
 listsOf hs = map (λ h. h .targets) hs
 
 -- each is within a limit exactly when the greatest is
@@ -58,7 +63,7 @@ lists-of : (v : ℕ) (tss : List (List Target)) → listsOf (map (hyper v) tss) 
 lists-of v [] = refl
 lists-of v (ts ∷ tss) = ap (λ r. ts ∷ r) (lists-of v tss)
 
-lists-span : (v : ℕ → ℕ) (f : ℕ → List (List Target)) (a n : ℕ) → listsOf (span (λ c. map (hyper (v c)) (f c)) a n) ≡ span f a n
+pub lists-span : (v : ℕ → ℕ) (f : ℕ → List (List Target)) (a n : ℕ) → listsOf (span (λ c. map (hyper (v c)) (f c)) a n) ≡ span f a n
 unfolding span
 lists-span v f a zero = refl
 lists-span v f a (suc n) =
@@ -107,6 +112,39 @@ module _ (M : Model) where
       ∙ add-swap own rest helper (helpers (more .0) rows)
       ∙ ap₂ addSize (sym (size-spans (rowEdges M row) (helperEdges M row 0) 0 s)) (regrouped (suc r) (more .0) rows)
       ∙ sym (size-append (span (stateEdges M row) 0 s) (rowsEdges M rows))
+
+  -- the targets of the helpers of rows are as many as their hyperedges, and the transitions for each until
+  module _ (t : ℕ) (each : (q : Quantifier) (l r : ℕ) (b : Bound) → let z = sizeOf (span (helperEdges M (Until q l r b) 0) 0 (M .states)) in z .targets ≡ z .hypers + t) where
+    row-targets : (row : Row) → let z = sizeOf (span (helperEdges M row 0) 0 (M .states)) in z .targets ≡ z .hypers + cond (isUntil row) t 0
+    unfolding sizeOf
+    row-targets =
+        by-row (λ row. let z = sizeOf (span (helperEdges M row 0) 0 (M .states)) in z .targets ≡ z .hypers + cond (isUntil row) t 0) each
+        (λ row e. rw (span-empty (helperEdges M row 0) (λ a. other-row row _ [] e) 0 (M .states), e))
+
+    helper-targets : (h : ℕ) (rows : List Row) → helpers h rows .targets ≡ helpers h rows .hypers + t * length (untils rows)
+    unfolding helpers layout keep sizeOf
+    helper-targets h [] = omega arith
+    helper-targets h (row ∷ rows) =
+        let more = helpers-more h row rows in
+        let here = row-targets row in
+        let rest = helper-targets (more .0) rows in
+        let count : t * length (untils (row ∷ rows)) ≡ cond (isUntil row) t 0 + t * length (untils rows) =
+        by-test (isUntil row) (λ e. rw e (simp mul-suc (omega arith))) (λ e. rw e (omega arith)) in
+        rw (more .1) (omega (arith, here, rest, count))
+
+-- the bytes of the helpers' hyperedges: 10 for each, and 6 for each until and transition
+pub helpers-bytes : {m : List ℕ} {n p t : ℕ} → HoldsModel m n p t → (h : ℕ) (rows : List Row) →
+    let hs = layout hyper n (helperEdges (heldModel m n p t)) h (untils rows) in
+    length (writeAll writeHyper hs) ≡ length hs * 10 + t * length (untils rows) * 6
+unfolding heldModel helpers
+helpers-bytes {m} {n} {p} {t} holds h rows =
+    let M = heldModel m n p t in
+    let hs = layout hyper n (helperEdges M) h (untils rows) in
+    let each : (q : Quantifier) (l r : ℕ) (b : Bound) → let z = sizeOf (span (helperEdges M (Until q l r b) 0) 0 n) in z .targets ≡ z .hypers + t =
+    λ q l r b. rw (span-sizes (helperEdges M (Until q l r b) 0) (stepAt M q) (λ a. helper-size M (Until q l r b) 0 a) 0 n)
+    (rw (out-all holds) at (steps-targets q (λ a. length (out M a)) 0 n)) in
+    let size = hypers-size hs in
+    omega (arith, hypers-length hs, size .0, size .1, helper-targets M t each h rows)
 
 -- ---- the graph
 

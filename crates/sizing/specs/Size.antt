@@ -1,5 +1,5 @@
 -- How much room the hyperedges of a graph take: how many, how many targets in all, and in the one with the most.
-use Prim.Native.Nat.{ℕ, zero, suc, _+_, _*_, min, max}
+use Prim.Native.Nat.{ℕ, zero, suc, _+_, _*_, _≤_, min, max}
 use mathlib.Core.List.{List, [], _∷_, _++_}
 use mathlib.Core.Bool.{Bool, _&&_}
 use lib.ListN.{length}
@@ -59,3 +59,10 @@ helperSize row many = ifUntil row (λ q l r b. stepSize q many) noSize
 -- so many nodes, and hyperedges of this size, pass no limit
 unfoldable pub inLimits : ℕ → Size → Bool
 inLimits nodes z = leb nodes 4096 && (leb (z .hypers) 65535 && (leb (z .targets) 262144 && leb (z .most) 65535))
+
+infix 40 _⊑_
+-- no number of one is above the other's
+pub record _⊑_ (x y : Size) : Type 0 where
+  pub hypers : x .hypers ≤ y .hypers
+  pub targets : x .targets ≤ y .targets
+  pub most : x .most ≤ y .most

@@ -9,7 +9,7 @@ ghost use Rattle.model.specs.Model as model;
 ghost use Rattle.syntax.specs.declared.Quantifier.the-variants.{Some, Every};
 ghost use Rattle.reduction.specs.Built as built;
 ghost use Rattle.transitions.specs.Held.{heldModel, heldRows, HoldsModel, HoldsRows, Starts};
-ghost use Rattle.sizing.specs.Size.{inLimits, addSize, bareSize, sizeOf, sizes, stateEdges, rowsEdges, nextSize, stepSize};
+ghost use Rattle.sizing.specs.Size.{_⊑_, inLimits, addSize, bareSize, sizeOf, sizes, stateEdges, rowsEdges, nextSize, stepSize};
 ghost use Rattle.transitions.specs.Looked.{leafEdges};
 use syntax::Action;
 use syntax::Quantifier;
@@ -207,6 +207,34 @@ fn row_total(m: &[u8], n: u32, p: u32, t: u32, table: &[u32], row: Row) -> Size
     }
 }
 
+// No less than that, without a look at a label or a transition: the rows that are worked out have hyperedges in every state or are untils.
+fn row_most(m: &[u8], n: u32, p: u32, t: u32, table: &[u32], row: Row) -> Size
+    requires { ⌜ HoldsModel (now m) n p t ⌝ }
+    requires { ⌜ (n < length (now table)) × Starts (now m) n t (now table) ⌝ }
+    ensures { λ r. ⌜ sizeOf (span (stateEdges (heldModel (now (m .entry)) n p t) row) 0 n) ⊑ r ⌝ }
+    ensures { λ r. ⌜ (r .hypers ≤ 67108864) × (r .targets ≤ 67108864) ⌝ }
+{
+    let all = n as u64;
+    let many = t as u64;
+    match row {
+        Row::Proposition(_) => bare(all),
+        Row::Negation(_) => bare(all),
+        Row::Next(q, _, _, _) => match q {
+            Quantifier::Some => Size {
+                hypers: many,
+                targets: many,
+                most: 1,
+            },
+            Quantifier::Every => Size {
+                hypers: all,
+                targets: many,
+                most: many,
+            },
+        },
+        _ => row_total(m, n, p, t, table, row),
+    }
+}
+
 // The size of all hyperedges of the graph.
 pub fn total_size(m: &[u8], n: u32, p: u32, t: u32, table: &[u32], f: &[u8], k: u32) -> Size
     requires { ⌜ HoldsModel (now m) n p t ⌝ }
@@ -220,6 +248,25 @@ pub fn total_size(m: &[u8], n: u32, p: u32, t: u32, table: &[u32], f: &[u8], k: 
     while 0 < i {
         let row = syntax::row_at(f, at);
         sum = sum.plus(row_total(m, n, p, t, table, row));
+        at += syntax::ROW;
+        i -= 1;
+    }
+    sum
+}
+
+// No less than the size of all hyperedges of the graph.
+pub fn total_most(m: &[u8], n: u32, p: u32, t: u32, table: &[u32], f: &[u8], k: u32) -> Size
+    requires { ⌜ HoldsModel (now m) n p t ⌝ }
+    requires { ⌜ (n < length (now table)) × Starts (now m) n t (now table) ⌝ }
+    requires { ⌜ HoldsRows (now f) k p ⌝ }
+    ensures { λ r. ⌜ sizeOf (rowsEdges (heldModel (now (m .entry)) n p t) (heldRows (now (f .entry)) k)) ⊑ r ⌝ }
+{
+    let mut sum = Size::NONE;
+    let mut at = syntax::HEADER;
+    let mut i = k;
+    while 0 < i {
+        let row = syntax::row_at(f, at);
+        sum = sum.plus(row_most(m, n, p, t, table, row));
         at += syntax::ROW;
         i -= 1;
     }

@@ -31,6 +31,12 @@ module _ (m : List ℕ) (bytes : Bytes m) (at both : ℕ) (is : both ≡ number 
   pub successor-of : both % 65536 ≡ to
   successor-of = omega (arith, sides, low-side)
 
+  -- every action is in a range that begins at 0 and ends at the greatest or above it
+  pub any-action : (low high : ℕ) (x : Bool) → low ≡ 0 → 65535 ≤ high → (leb low action && (leb action high && x)) ≡ x
+  any-action low high x first last =
+      let small : action < 65536 = omega (arith, number-below 2 m (at + actionAt) bytes) in
+      rw (le-leb low action (omega arith), le-leb action high (omega arith)) refl
+
   -- less the least number of a range of actions, modulo 2^64, it is at most the range's width just where the action is in the range
   module _ (low high above : ℕ) (range : low ≤ high) (fits : high < 2 ^ 32) (wraps : (above + low * 65536) % 2 ^ 64 ≡ both) (x : Bool) where
     pub in-range : above ≤ (high - low) * 65536 + 65535 → (leb low action && (leb action high && x)) ≡ x

@@ -16,6 +16,9 @@ use wire::Width;
 // The greatest action of a transition.
 pub const MOST_ACTION: u32 = 65535;
 
+// The greatest number that the two bytes of a successor can say.
+const LAST_TO: u64 = wire::TWO_MORE_LONG - 1;
+
 // Whether bit i of a label is set.
 fn bit(label: u32, i: u32) -> bool
     ensures { λ r. ⌜ r ≡ model.bit label i ⌝ }
@@ -122,7 +125,7 @@ fn is_near(m: &[u8], at: usize, low: u32, high: u32, most: u32) -> bool
 
 // The same, with its action and its successor read as one number, the action above. That number, less the least one of the range, is at most
 // the range's width just where the action is in the range (below the range it wraps): one read, and one test for both ends. In 64 bits no
-// action is too large for it.
+// action is too large for it. Every action is in the whole range, which is asked for most and known outside of a loop.
 pub fn is_near_of(m: &[u8], at: usize, both: u32, low: u32, high: u32, most: u32) -> bool
     requires { ⌜ at + transitionWidth ≤ length (now m) ⌝ }
     requires { ⌜ both ≡ number 4 (now m) (at + actionAt) ⌝ }
@@ -130,8 +133,11 @@ pub fn is_near_of(m: &[u8], at: usize, both: u32, low: u32, high: u32, most: u32
     ensures { λ r. ⌜ r ≡ isNear low high most (transitionLayout (now (m .entry)) .item at) ⌝ }
 {
     let weight = wire::number_at(m, at + model::WEIGHT_AT, Width::Four);
-    let least = (low as u64) * 65536;
-    let width = ((high - low) as u64) * 65536 + 65535;
+    if low == 0 && MOST_ACTION <= high {
+        return weight <= most;
+    }
+    let least = (low as u64) * wire::TWO_MORE_LONG;
+    let width = ((high - low) as u64) * wire::TWO_MORE_LONG + LAST_TO;
     let above = std::num::wrapping_sub_u64(both as u64, least);
     if width < above {
         return false;

@@ -1,8 +1,8 @@
--- The loop over rounds: how it begins, what holds where a turn begins, and how a turn ends. Assumes nothing.
+-- The loop over rounds: how it begins, what holds where a turn begins, how a turn ends, and a round of all records. Assumes nothing.
 use Prim.Native.Nat.{ℕ, zero, suc, _+_, _-_, _*_, _<_, _≤_, min}
 use mathlib.Core.List.{List, [], _∷_, _++_, append-assoc}
 use mathlib.Core.Logic.{inl}
-use mathlib.Core.Path.{_≡_, refl, sym, ap, ap₂, _∙_}
+use mathlib.Core.Path.{_≡_, refl, sym, ap, ap₂, subst, _∙_}
 use lib.ListN.{length, getD, take, drop, take-append-drop, length-drop}
 use lib.Seq.{take-suc, getD-drop, drop-drop}
 use borrow.Author.Tests.{le-leb, lt-leb}
@@ -11,7 +11,7 @@ use native.Mathlib.Numerals.{add-one}
 use native.Mathlib.Omega.{arith}
 use Rattle.value.specs.Stored.{meaning, stored}
 use Rattle.value.proofs.Stored.{meaning-stored, stored-le, stored-least}
-use Rattle.wire.specs.Layout.{end}
+use Rattle.wire.specs.Layout.{Sound, end}
 use Rattle.rules.specs.Graph.{Graph, Closed}
 use Rattle.rules.specs.Rounds.{Assignment, Agree, round, rounds, Settled}
 use Rattle.rules.specs.Count.{count, First}
@@ -19,10 +19,10 @@ use Rattle.rules.proofs.Order.{rounds-next}
 use Rattle.rules.proofs.Count.{count-first, first-unique, stops-spent}
 use Rattle.rules.proofs.Skip.{Part, skip-round}
 use Rattle.graph.specs.Format.{graphHeader, coverWidth}
-use Rattle.graph.specs.Layouts.{hyperLayout, decoded}
-use Rattle.graph.specs.Ready.{Storable}
+use Rattle.graph.specs.Layouts.{hyperLayout, coverLayout, decoded}
+use Rattle.graph.specs.Ready.{Ready, Storable}
 use Rattle.halves.specs.Held.{held}
-use Rattle.halves.specs.Room.{half, Cleared, Raised, Same}
+use Rattle.halves.specs.Room.{half, Cleared, Raised, Same, Beside}
 use Rattle.halves.proofs.Room.{half-at}
 use Rattle.scans.specs.Scan.{Done, partOf}
 use Rattle.turns.specs.declared.Outcome.the-variants as Outcome
@@ -149,10 +149,26 @@ module _ (g : Graph) (closed : Closed g) (storable : Storable g) where
           past = t .past ∙ d .past ∙ w .past;
         })
 
+-- a round that takes in all records: the cover edges stand behind the hyperedges
+pub covers-behind : {s : List ℕ} {n h c middle : ℕ} → Ready s n h c → middle ≡ end (hyperLayout s n) h graphHeader → Sound (coverLayout s n) c middle
+covers-behind {s} {n} {c = c} ready behind = subst (Sound (coverLayout s n) c) (sym behind) (ready .sound .covers)
+
 -- all records, with all cover edges behind the hyperedges, are no less than the graph
-pub whole-part : (s : List ℕ) (n h c middle : ℕ) (x : Assignment) → middle ≡ end (hyperLayout s n) h graphHeader → Part (decoded s n h c) (partOf s n h graphHeader (c - 0) (middle + 0 * coverWidth)) x
+whole-part : (s : List ℕ) (n h c middle : ℕ) (x : Assignment) → middle ≡ end (hyperLayout s n) h graphHeader → Part (decoded s n h c) (partOf s n h graphHeader (c - 0) (middle + 0 * coverWidth)) x
 unfolding decoded partOf
 whole-part s n h c middle x behind =
     let at : middle + 0 * coverWidth ≡ end (hyperLayout s n) h graphHeader = omega (arith, behind) in
     let all : c - 0 ≡ c = omega arith in
     rw (at, all) (record { nodes = refl; hyper-of = λ m. m; cover-of = λ m. m; hyper-in = λ m. inl m; cover-in = λ m. inl m })
+
+-- it is another: the first half is brought up to it, and all records are taken in
+pub full-round : {s : List ℕ} {n h c middle budget i : ℕ} {b₀ b b₁ b₂ : List ℕ} → Ready s n h c → middle ≡ end (hyperLayout s n) h graphHeader
+    → AtRound (decoded s n h c) budget i b₀ b → ¬ Same n b → ¬ (i ≡ budget) → Raised n n b b₁
+    → Done n 0 n b₁ b₂ (λ v. min (getD b₁ (n + v) 0) (stored (round (partOf s n h graphHeader (c - 0) (middle + 0 * coverWidth)) (held (half n 0 b₁)) v)))
+    → AtRound (decoded s n h c) budget (i + 1) b₀ b₂
+unfolding decoded
+full-round ready behind w ns unspent d t = goes-on _ (ready .closed) (ready .storable) w ns unspent d _ (whole-part _ _ _ _ _ _ behind) t
+
+-- of what it left nothing is said yet: any node may be another
+pub anywhere : {n : ℕ} {b : List ℕ} → Beside n 0 n b
+anywhere = record { before = λ v l h. absurd (omega arith); behind = λ v l h. absurd (omega arith) }

@@ -35,6 +35,10 @@ number-split j zero s at = rw (add-zero j) (omega arith)
 number-split j (suc k) s at =
     rw (add-suc, pow-suc, ← mul-assoc, add-assoc) (omega (arith, number-split j k s at))
 
+-- four bytes are a number of two above and one below
+pub two-and-two : (s : List ℕ) (at : ℕ) → Bytes s → (number 4 s at ≡ number 2 s at * 65536 + number 2 s (at + 2)) × (number 2 s (at + 2) < 65536)
+two-and-two s at bytes = (omega (arith, number-split 2 2 s at), omega (arith, number-below 2 s (at + 2) bytes))
+
 -- the bytes of a number make the number, wherever they stand
 pub number-bytes : (k n : ℕ) (p r : List ℕ) → n < 256 ^ k → number k (p ++ bytes k n ++ r) (length p) ≡ n
 unfolding number bytes

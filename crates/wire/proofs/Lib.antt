@@ -7,7 +7,6 @@
 --     Stride     records of one width by position
 --     Parts      records by their number, and a part of them
 --     Turns      the turns of a loop over records
---     Ordered    records whose sources don't fall: a target with the source behind it, and that what is in order is read without a fault
 --     Start      the reading of a message's start, from the answer
 --     Counts     counts in a header: the reading from the answer, and what a good one says
 --     Stands     bytes that stand in a message at a position
@@ -26,7 +25,6 @@ pub mod Layouts
 pub mod Stride
 pub mod Parts
 pub mod Turns
-pub mod Ordered
 pub mod Start
 pub mod Stands
 pub mod Exact

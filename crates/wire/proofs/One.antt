@@ -6,12 +6,12 @@ use Rattle.wire.proofs.Width.bytes.Reads as Width-bytes
 use Rattle.wire.proofs.Field.fault.Reads as Field-fault
 use Rattle.wire.proofs.read.Reads as read
 use Rattle.wire.proofs.read_below.Reads as read-below
+use Rattle.wire.proofs.follows.Reads as follows
 use Rattle.wire.proofs.read_source.Reads as read-source
 use Rattle.wire.proofs.number_at.Reads as number-at
 use Rattle.wire.proofs.store.Reads as store
 use Rattle.wire.proofs.open.Reads as opening
 use Rattle.wire.proofs.read_count.Reads as read-count
-use Rattle.wire.proofs.in_order.Reads as in-order
 use Rattle.wire.proofs.long_at.Reads as long-at
 use Rattle.wire.proofs.store_long.Reads as store-long
 
@@ -26,6 +26,10 @@ one-fault κs a r r′ s s′ p q = p ∙ sym q
 -- `wire::read_below`
 pub one-read-below : (κs : _) (a : _) (r r′ : _) (s s′ : _) → read-below.Post κs a r s → read-below.Post κs a r′ s′ → r ≡ r′
 one-read-below κs a r r′ s s′ p q = p ∙ sym q
+
+-- `wire::follows`
+pub one-follows : (κs : _) (a : _) (r r′ : _) (s s′ : _) → follows.Post κs a r s → follows.Post κs a r′ s′ → r ≡ r′
+one-follows κs a r r′ s s′ p q = p ∙ sym q
 
 -- `wire::read_source`
 pub one-read-source : (κs : _) (a : _) (r r′ : _) (s s′ : _) → read-source.Post κs a r s → read-source.Post κs a r′ s′ → r ≡ r′
@@ -50,10 +54,6 @@ one-open κs a r r′ s s′ p q = p ∙ sym q
 -- `wire::read_count`
 pub one-read-count : (κs : _) (a : _) (r r′ : _) (s s′ : _) → read-count.Post κs a r s → read-count.Post κs a r′ s′ → r ≡ r′
 one-read-count κs a r r′ s s′ p q = p ∙ sym q
-
--- `wire::in_order`
-pub one-in-order : (κs : _) (a : _) (r r′ : _) (s s′ : _) → in-order.Post κs a r s → in-order.Post κs a r′ s′ → r ≡ r′
-one-in-order κs a r r′ s s′ p q = p ∙ sym q
 
 -- `wire::long_at`
 pub one-long-at : (κs : _) (a : _) (r r′ : _) (s s′ : _) → long-at.Post κs a r s → long-at.Post κs a r′ s′ → r ≡ r′

@@ -2,16 +2,17 @@
 use Prim.Native.Nat.{ℕ, _+_, _-_, _≤_, _<_}
 use mathlib.Core.List.{List}
 use lib.ListN.{length, take, drop}
-use lib.Dec.{ltb}
+use lib.Dec.{leb, ltb}
 use borrow.Author.Tests.{ltb-true, ltb-false, lt-ltb, leb-true, le-leb}
 use mathlib.Core.Path.{_≡_, refl, sym, ap, _∙_}
-use mathlib.Core.Bool.{Bool, true, false}
+use mathlib.Core.Bool.{Bool, true, false, _&&_}
 use native.Mathlib.Nat.{add-zero}
 use native.Mathlib.Omega.{arith}
 use Rattle.refusal.specs.declared.Fault.{Fault}
 use Rattle.wire.specs.Bytes.{number}
 use Rattle.wire.specs.Field.{fieldAt}
 use Rattle.wire.specs.Read.{Read, good, bad, _>>=_, _>>_, unless, ofField, field, found, faultOf, below, misnamed, sourceFrom}
+use Rattle.lists.proofs.Tests.{and-left, and-right}
 use Rattle.wire.proofs.Fields.{field-value, part-field}
 use Rattle.wire.specs.declared.Field.{Field}
 use Rattle.wire.specs.declared.Field.the-variants.{Number, Refused}
@@ -174,6 +175,14 @@ module _ (s : List ℕ) (at n prev offset : ℕ) where
   pub good-source : {v : ℕ} → field 2 s at ≡ good v → v < n → prev ≤ v → sourceFrom s at n prev offset ≡ good v
   unfolding sourceFrom
   good-source {v} e less more = simp (good-below 2 s at n (misnamed offset) e less, le-leb prev v more, good-then, good-and, met)
+
+-- what the test of a source by its number says where it passes; and it passes one that is in order
+module _ (v n prev : ℕ) where
+  pub follows-both : (ltb v n && leb prev v) ≡ true → (v < n) × (prev ≤ v)
+  follows-both e = (ltb-true v n (and-left (ltb v n) (leb prev v) e), leb-true prev v (and-right (ltb v n) (leb prev v) e))
+
+  pub both-follow : v < n → prev ≤ v → (ltb v n && leb prev v) ≡ true
+  both-follow less more = rw (lt-ltb v n less, le-leb prev v more) refl
 
 pub part-source : (s : List ℕ) (at w n prev offset : ℕ) → at + w ≤ length s → 2 ≤ w → sourceFrom (take w (drop at s)) 0 n prev offset ≡ sourceFrom s at n prev offset
 unfolding sourceFrom

@@ -1,4 +1,4 @@
--- Definitions: bytes, fields, readings and writings that all messages share, records in order, and where a fault lies.
+-- Definitions: bytes, fields, readings and writings that all messages share, and where a fault lies.
 pub mod Bytes
 pub mod Field
 pub mod Read
@@ -9,5 +9,4 @@ pub mod Write
 pub mod Layout
 pub mod Step
 pub mod Laid
-pub mod Ordered
 pub mod Located

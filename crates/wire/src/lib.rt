@@ -1,13 +1,14 @@
-// Numbers in message bytes, big-endian, over the width; records in order; and the start that all messages share.
+// Numbers in message bytes, big-endian, over the width, and the start that all messages share.
 ghost use mathlib.Core.Path.{_≡_};
-ghost use Prim.Native.Nat.{_+_, _*_, _≤_};
+ghost use mathlib.Core.Bool.{_&&_};
+ghost use Prim.Native.Nat.{_+_, _≤_};
+ghost use lib.Dec.{leb, ltb};
 ghost use lib.ListN.{length};
 ghost use Rattle.wire.specs.Bytes.{number, put};
 ghost use Rattle.wire.specs.Field.{widthOf, longWidth, fieldAt};
 ghost use Rattle.wire.specs.Start.{readStart, openedOf, only};
 ghost use Rattle.wire.specs.Read.{found, faultOf, below, sourceFrom};
 ghost use Rattle.wire.specs.Counts.{readCount};
-ghost use Rattle.wire.specs.Ordered.{recordWidth, inOrder};
 use refusal::Fault;
 use refusal::Refusal;
 
@@ -36,8 +37,10 @@ pub const LONG: usize = 8;
 
 const HALF: usize = 4;
 
-// How many times as large a number is with two bytes more behind it.
+// How many times as large a number is with two bytes more behind it; and the same for a number of 64 bits.
 pub const TWO_MORE: u32 = 65536;
+
+pub const TWO_MORE_LONG: u64 = TWO_MORE as u64;
 
 // What reading a field finds: its number, or its fault.
 pub enum Field {
@@ -212,8 +215,18 @@ pub fn read_below(s: &[u8], at: usize, width: Width, limit: u64, fault: Fault) -
     field
 }
 
-// A source, one of n nodes or states and not below the one before it, that stands here in its message. How far it is above the one
-// before it, which is at most n, tells both in one test.
+// Whether a source is one of n nodes or states and not below the one before it: how far it is above that one, which is at most n, tells
+// both in one test.
+pub fn follows(source: u32, n: u32, prev: u32) -> bool
+    requires { ⌜ prev ≤ n ⌝ }
+    ensures { λ r. ⌜ r ≡ (ltb source n && leb prev source) ⌝ }
+{
+    let above = std::num::wrapping_sub_u32(source, prev);
+    let room = n - prev;
+    above < room
+}
+
+// A source, one of n nodes or states and not below the one before it, that stands here in its message.
 pub fn read_source(s: &[u8], at: usize, n: u32, prev: u32, offset: usize) -> Field
     requires { ⌜ prev ≤ n ⌝ }
     ensures { λ r. ⌜ r ≡ found (sourceFrom (now (s .entry)) at n prev offset) ⌝ }
@@ -222,9 +235,7 @@ pub fn read_source(s: &[u8], at: usize, n: u32, prev: u32, offset: usize) -> Fie
     let Field::Number(source) = field else {
         return field;
     };
-    let above = std::num::wrapping_sub_u32(source, prev);
-    let room = n - prev;
-    if above < room {
+    if follows(source, n, prev) {
         return field;
     }
     if n <= source {
@@ -237,42 +248,6 @@ pub fn read_source(s: &[u8], at: usize, n: u32, prev: u32, offset: usize) -> Fie
         refusal: Refusal::Order,
         offset,
     })
-}
-
-// Whether k records from `first` on name only what exists, which is below n, with sources that do not fall. A source is the first two bytes of
-// its record, and a target the last two, from `target` on. The last source is then the greatest, and only it is compared with n. A target and
-// the source behind it are read as one number of four bytes, which is below n * 65536 exactly when the target is below n: a number of two bytes
-// is swapped by a rotation, which takes a jump's place in the processor, and one of four is not.
-pub fn in_order(s: &[u8], n: u32, target: usize, k: u32, first: usize) -> bool
-    requires { ⌜ (n ≤ 65535) × (first + k * recordWidth target ≤ length (now s)) ⌝ }
-    ensures { λ r. ⌜ r ≡ inOrder (now (s .entry)) n target k 0 first ⌝ }
-{
-    if k == 0 {
-        return true;
-    }
-    let width = target + 2;
-    let end = first + (k as usize) * width;
-    let top = n * TWO_MORE;
-    let mut greatest = number_at(s, first, Width::Two);
-    let mut at = first;
-    while at + width < end {
-        let target_at = at + target;
-        let both = number_at(s, target_at, Width::Four);
-        if top <= both {
-            return false;
-        }
-        let next = both % TWO_MORE;
-        if next < greatest {
-            return false;
-        }
-        greatest = next;
-        at += width;
-    }
-    if n <= greatest {
-        return false;
-    }
-    let last_at = at + target;
-    number_at(s, last_at, Width::Two) < n
 }
 
 // The start of a message: enough bytes for its header, its length field, version and kind.

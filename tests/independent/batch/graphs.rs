@@ -17,6 +17,7 @@ pub fn calls() -> Vec<Call> {
         room_before_budget(),
         large(),
         many_targets(),
+        many_changes(),
         several_at_once(),
     ];
     parts.into_iter().flatten().collect()
@@ -297,6 +298,61 @@ fn many_targets() -> Vec<Call> {
         budgets(graph).map(|budget| Call::rounds(budget, room, &message))
     };
     graphs.iter().flat_map(calls).collect()
+}
+
+/// More than 4,096 targets again, where a layer of nodes changes in a round and then, if there is a tail,
+/// one node in each: an implementation may take in every record as long as many nodes change, so it
+/// settles there or goes on otherwise. The budget ends among the ones, among the others, or not at all.
+fn many_changes() -> Vec<Call> {
+    let graphs = [
+        layered(8, 64, 10, 0),
+        layered(8, 64, 10, 25),
+        reversed(&layered(8, 64, 10, 25)),
+        layered(3, 70, 40, 1),
+    ];
+    let calls = |graph: &Graph| {
+        let message = message::graph(graph).bytes;
+        let (room, count) = needs(graph);
+        let budgets = [1, 2, count / 2, count - 1, count, u32::MAX];
+        budgets.map(|budget| Call::rounds(budget, room, &message))
+    };
+    graphs.iter().flat_map(calls).collect()
+}
+
+/// Layers of nodes, each with a hyperedge to some of the next layer, whose last one has 0; a chain of so many nodes
+/// leads to the first of them. Cover edges lead from the first layer to the last and to the one before.
+fn layered(layers: usize, width: usize, fan: usize, tail: usize) -> Graph {
+    let nodes = tail + layers * width;
+    let targets = |source: usize| {
+        let end = tail + (layers - 1) * width;
+        let one = |k: usize| Target {
+            weight: ((source * 5 + k * 3) % 9) as u32,
+            node: match source {
+                _ if source < tail => source + 1,
+                _ => (source - tail) / width * width + tail + width + (source * 7 + k) % width,
+            },
+        };
+        let many = match source {
+            _ if source < tail => 1,
+            _ if source < end => fan,
+            _ => 0,
+        };
+        (0..many).map(one).collect()
+    };
+    let hyperedge = |source: usize| Hyperedge {
+        source,
+        targets: targets(source),
+    };
+    let cover = |j: usize| Cover {
+        source: tail + j,
+        bound: Some(j as u32 % 4),
+        target: nodes - 1 - j * 9,
+    };
+    Graph {
+        nodes,
+        hyperedges: (0..nodes).map(hyperedge).collect(),
+        covers: (0..12).map(cover).collect(),
+    }
 }
 
 /// A hyperedge for each length, with so many targets, and cover edges behind them or none: an

@@ -15,19 +15,19 @@ use Rattle.chained.proofs.run_in.Statement.{statement}
 use Rattle.chained.proofs.run_in.Tie as tie
 
 abbrev Inv-loop : tie.InvT-loop
-Inv-loop s n h c middle budget most heads links spots sources changed₀ room₀ round₀ from₀ many₀ changed room round from many =
+Inv-loop s n h c middle budget most heads places changed₀ room₀ round₀ from₀ many₀ changed room round from many =
     AtRound (decoded s n h c) budget round room₀ room × Listed n n from many room changed × ((from ≡ 0) ⊎ (from ≡ most)) × (length changed ≡ length changed₀)
 
 abbrev μ-loop : tie.MeasureT-loop
-μ-loop s n h c middle budget most heads links spots sources changed₀ room₀ round₀ from₀ many₀ changed room round from many = budget - round
+μ-loop s n h c middle budget most heads places changed₀ room₀ round₀ from₀ many₀ changed room round from many = budget - round
 
 -- places, from the last to the first: the records taken in, the half brought up, the budget that is not spent, the turn; what was linked,
 -- from where the changes are listed, and from the turn; and the call, from where the links are made, and from behind them
-abbrev taken : tie.After-slice-known14 Inv-loop μ-loop → tie.After-take-changed Inv-loop μ-loop
+abbrev taken : tie.After-slice-known10 Inv-loop μ-loop → tie.After-take-changed Inv-loop μ-loop
 taken c = c .before .before .before .before
 
-abbrev raised : tie.After-take-changed-arg6 Inv-loop μ-loop → tie.After-raise-changed Inv-loop μ-loop
-raised c = c .before .before .before .before .before .before .before .before
+abbrev raised : tie.After-take-changed-arg4 Inv-loop μ-loop → tie.After-raise-changed Inv-loop μ-loop
+raised c = c .before .before .before .before .before .before
 
 abbrev unspent : tie.After-raise-changed Inv-loop μ-loop → tie.Else2 Inv-loop μ-loop
 unspent c = c .before .before .before
@@ -36,13 +36,13 @@ abbrev turn : tie.Else2 Inv-loop μ-loop → tie.At-loop Inv-loop μ-loop
 turn c = c .before .before
 
 abbrev joined : tie.After-list-changed-arg2 Inv-loop μ-loop → tie.After-link-all Inv-loop μ-loop
-joined c = c .before .before .before .before .before .before .before .before .before .before
+joined c = c .before .before .before .before .before .before
 
 abbrev linked : tie.At-loop Inv-loop μ-loop → tie.After-link-all Inv-loop μ-loop
 linked c = joined (c .before .before .before .before)
 
-abbrev called : tie.After-link-all-arg4 Inv-loop μ-loop → tie.Start Inv-loop μ-loop
-called c = c .before .before .before .before .before .before .before .before .before .before .before
+abbrev called : tie.After-link-all-arg2 Inv-loop μ-loop → tie.Start Inv-loop μ-loop
+called c = c .before .before .before .before .before .before .before
 
 abbrev start : tie.After-link-all Inv-loop μ-loop → tie.Start Inv-loop μ-loop
 start c = called (c .before)
@@ -129,7 +129,7 @@ loop-again c =
       goes-on _ (ready .closed) (ready .storable) (l .0) (listed-some (l .1) (u .before .if1 .left)) (u .if2 .left) (d .raise-changed .ensures) _ (taken-part ready (a .pre .1 .0) index (l .1) (took .1) (l .0)) (took .1 .taken .room),
       took .0,
       halves-turn _ (l .2),
-      k .take-changed .kept .1 .1 .1 .1 .1 .1 .1 .1 .1 .1 .1 .1 .0 ∙ l .3,
+      k .take-changed .kept .1 .1 .1 .1 .1 .1 .1 .1 .1 .1 .0 ∙ l .3,
     )
 
 same-length : tie.Need-same-length Inv-loop μ-loop
@@ -139,16 +139,10 @@ same-length-2 : tie.Need-same-length-2 Inv-loop μ-loop
 same-length-2 c = linked (c .before) .link-all .kept .1 .1 .1 .1 .1 .1 .0
 
 same-length-3 : tie.Need-same-length-3 Inv-loop μ-loop
-same-length-3 c = linked (c .before) .link-all .kept .1 .1 .1 .1 .1 .1 .1 .0
+same-length-3 c = listed (c .before)
 
 same-length-4 : tie.Need-same-length-4 Inv-loop μ-loop
-same-length-4 c = linked (c .before) .link-all .kept .1 .1 .1 .1 .1 .1 .1 .1 .0
-
-same-length-5 : tie.Need-same-length-5 Inv-loop μ-loop
-same-length-5 c = listed (c .before)
-
-same-length-6 : tie.Need-same-length-6 Inv-loop μ-loop
-same-length-6 c = c .before .loop .inv .0 .same-length
+same-length-4 c = c .before .loop .inv .0 .same-length
 
 returns : tie.Need-returns Inv-loop μ-loop
 unfolding decoded
@@ -157,23 +151,17 @@ returns c =
     let a = start (linked t) in
     (ends-settled _ (a .pre .0 .closed) (a .pre .0 .storable) (t .loop .inv .0) (listed-over (t .loop .inv .1) (c .if1 .taken)), holds-filled (a .pre .1 .1 .1 .1 .1 .0) (t .loop .inv .0))
 
+same-length-5 : tie.Need-same-length-5 Inv-loop μ-loop
+same-length-5 c = linked (c .before .before) .link-all .kept .1 .1 .1 .1 .1 .0
+
+same-length-6 : tie.Need-same-length-6 Inv-loop μ-loop
+same-length-6 c = linked (c .before .before) .link-all .kept .1 .1 .1 .1 .1 .1 .0
+
 same-length-7 : tie.Need-same-length-7 Inv-loop μ-loop
-same-length-7 c = linked (c .before .before) .link-all .kept .1 .1 .1 .1 .1 .0
+same-length-7 c = listed (c .before .before)
 
 same-length-8 : tie.Need-same-length-8 Inv-loop μ-loop
-same-length-8 c = linked (c .before .before) .link-all .kept .1 .1 .1 .1 .1 .1 .0
-
-same-length-9 : tie.Need-same-length-9 Inv-loop μ-loop
-same-length-9 c = linked (c .before .before) .link-all .kept .1 .1 .1 .1 .1 .1 .1 .0
-
-same-length-10 : tie.Need-same-length-10 Inv-loop μ-loop
-same-length-10 c = linked (c .before .before) .link-all .kept .1 .1 .1 .1 .1 .1 .1 .1 .0
-
-same-length-11 : tie.Need-same-length-11 Inv-loop μ-loop
-same-length-11 c = listed (c .before .before)
-
-same-length-12 : tie.Need-same-length-12 Inv-loop μ-loop
-same-length-12 c = c .before .before .loop .inv .0 .same-length
+same-length-8 c = c .before .before .loop .inv .0 .same-length
 
 returns-2 : tie.Need-returns-2 Inv-loop μ-loop
 unfolding decoded
@@ -201,13 +189,9 @@ run-in-spec =
     same-length-2
     same-length-3
     same-length-4
+    returns
     same-length-5
     same-length-6
-    returns
     same-length-7
     same-length-8
-    same-length-9
-    same-length-10
-    same-length-11
-    same-length-12
     returns-2)

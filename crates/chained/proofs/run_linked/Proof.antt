@@ -13,7 +13,7 @@ abbrev begun : tie.After-fit2 → tie.Start
 begun c = start (c .before .before)
 
 abbrev fitted : tie.After-run-in-arg → tie.After-fit2
-fitted c = c .before .before .before .before .before .before .before
+fitted c = c .before .before .before .before .before
 
 fit-requires : tie.Need-fit-requires
 fit-requires c κs = search needs
@@ -54,12 +54,6 @@ slice-aggregate-run-in-2 c = search needs
 slice-aggregate-run-in-3 : tie.Need-slice-aggregate-run-in-3
 slice-aggregate-run-in-3 c = search needs
 
-slice-aggregate-run-in-4 : tie.Need-slice-aggregate-run-in-4
-slice-aggregate-run-in-4 c = search needs
-
-slice-aggregate-run-in-5 : tie.Need-slice-aggregate-run-in-5
-slice-aggregate-run-in-5 c = search needs
-
 run-in-requires : tie.Need-run-in-requires
 run-in-requires c κs = in-zeros 4096 (omega arith) (begun (fitted c) .pre)
 
@@ -84,8 +78,6 @@ run-linked-spec =
     slice-aggregate-run-in
     slice-aggregate-run-in-2
     slice-aggregate-run-in-3
-    slice-aggregate-run-in-4
-    slice-aggregate-run-in-5
     run-in-requires
     same-length-3
     returns-3)

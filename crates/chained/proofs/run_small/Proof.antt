@@ -7,7 +7,7 @@ use Rattle.chained.proofs.run_small.Tie as tie
 
 -- the call, from where the room for the links and the changes is there
 abbrev start : tie.After-run-in-arg → tie.Start
-start c = c .before .before .before .before .before .before .before .before
+start c = c .before .before .before .before .before .before
 
 slice-aggregate-run-in : tie.Need-slice-aggregate-run-in
 slice-aggregate-run-in c = search needs
@@ -17,12 +17,6 @@ slice-aggregate-run-in-2 c = search needs
 
 slice-aggregate-run-in-3 : tie.Need-slice-aggregate-run-in-3
 slice-aggregate-run-in-3 c = search needs
-
-slice-aggregate-run-in-4 : tie.Need-slice-aggregate-run-in-4
-slice-aggregate-run-in-4 c = search needs
-
-slice-aggregate-run-in-5 : tie.Need-slice-aggregate-run-in-5
-slice-aggregate-run-in-5 c = search needs
 
 run-in-requires : tie.Need-run-in-requires
 run-in-requires c κs = in-zeros 1024 (omega arith) (start c .pre)
@@ -40,8 +34,6 @@ run-small-spec =
     slice-aggregate-run-in
     slice-aggregate-run-in-2
     slice-aggregate-run-in-3
-    slice-aggregate-run-in-4
-    slice-aggregate-run-in-5
     run-in-requires
     same-length
     returns)

@@ -12,15 +12,15 @@ use Rattle.chains.proofs.take_changed.Statement.{statement}
 use Rattle.chains.proofs.take_changed.Tie as tie
 
 abbrev Inv-loop : tie.InvT-loop
-Inv-loop s n h c middle heads links spots sources from many to changed₀ room₀ k₀ i₀ changed room k i =
-    (i ≤ many) × TakenAll s n h c middle from i changed₀ heads links spots room₀ room × Listed n n to k room changed × Apart n to changed₀ changed
+Inv-loop s n h c middle heads places from many to changed₀ room₀ k₀ i₀ changed room k i =
+    (i ≤ many) × TakenAll s n h c middle from i changed₀ heads places room₀ room × Listed n n to k room changed × Apart n to changed₀ changed
 
 abbrev μ-loop : tie.MeasureT-loop
-μ-loop s n h c middle heads links spots sources from many to changed₀ room₀ k₀ i₀ changed room k i = many - i
+μ-loop s n h c middle heads places from many to changed₀ room₀ k₀ i₀ changed room k i = many - i
 
 -- the call, from where the loop begins, and from its test; the loop's test, from behind the chain; and the chain, from where the turn ends
 abbrev begun : tie.After-slice-known2 Inv-loop μ-loop → tie.Start Inv-loop μ-loop
-begun c = c .before .before .before .before .before .before .before
+begun c = c .before .before .before .before .before
 
 abbrev start : tie.In-loop Inv-loop μ-loop → tie.Start Inv-loop μ-loop
 start c = begun (c .before .before)
@@ -74,7 +74,7 @@ take-linked-requires c κs =
     let p = a .pre .1 .1 .1 .1 .0 in
     let l = t .before .loop .inv in
     let index = a .pre .1 .1 .1 .0 in
-    (a .pre .0, (a .pre .1 .0, (rw (l .1 .taken .room .same-length) (a .pre .1 .1 .0), ((index .within _, index .long .same, index .long .also), (index .falls, ((λ q r. (index .records _ q r, index .told _ q r)), (p .0, l .2)))))))
+    (a .pre .0, (a .pre .1 .0, (rw (l .1 .taken .room .same-length) (a .pre .1 .1 .0), (index .within _, (index .falls, ((λ q r. (index .records _ q r, index .told _ q r)), (p .0, l .2)))))))
 
 add-i : tie.Need-add-i Inv-loop μ-loop
 add-i c = omega (arith, inside (turn (taken c)))

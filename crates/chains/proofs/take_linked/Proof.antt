@@ -1,13 +1,14 @@
 -- `chains::take_linked` meets its contract: the records of the chain up to a place are taken in, and the nodes that they change are listed.
 use Prim.Native.Nat.{ℕ, _+_, _-_, _≤_, _<_}
 use mathlib.Core.List.{List}
-use mathlib.Core.Path.{_≡_, refl, _∙_}
+use mathlib.Core.Path.{_≡_, refl, sym, ap, subst, _∙_}
 use denote.Ref.{now}
 use native.Mathlib.Omega.{arith}
+use borrow.Author.Needs.{needs}
 use lib.ListN.{length, getD}
 use Rattle.wire.specs.Bytes.{number}
 use Rattle.rules.specs.Graph.{Graph}
-use Rattle.links.specs.Links.{Reached, here, further, RecordAt, Told}
+use Rattle.links.specs.Links.{spotOf, Reached, here, further, RecordAt, Told}
 use Rattle.changes.specs.Listed.{Listed, Apart}
 use Rattle.chains.specs.Taken.{Taken}
 use Rattle.chains.proofs.Taking.{Walking, record-ok, record-source, walking-none, walking-more, walking-all}
@@ -16,106 +17,99 @@ use Rattle.chains.proofs.take_linked.Statement.{statement}
 use Rattle.chains.proofs.take_linked.Tie as tie
 
 abbrev Inv-loop : tie.InvT-loop
-Inv-loop s n h c middle head links spots sources to many changed₀ room₀ k₀ place₀ changed room k place =
-    (place ≤ length links) × (length room ≡ length room₀) × ((q : ℕ) → Reached links q place → RecordAt s n h c middle (getD spots q 0) × Told s spots sources q)
-    × ((b₀ : List ℕ) (p : Graph) → n + n ≤ length b₀ → Taken s n h c middle b₀ room₀ p → Walking s n h c middle links spots head place b₀ room p)
+Inv-loop s n h c middle head places to many changed₀ room₀ k₀ place₀ changed room k place =
+    (place ≤ length places) × (length room ≡ length room₀) × ((q : ℕ) → Reached places q place → RecordAt s n h c middle (spotOf (getD places q 0)) × Told s places q)
+    × ((b₀ : List ℕ) (p : Graph) → n + n ≤ length b₀ → Taken s n h c middle b₀ room₀ p → Walking s n h c middle places head place b₀ room p)
     × Listed n n to k room changed × Apart n to changed₀ changed
 
 abbrev μ-loop : tie.MeasureT-loop
-μ-loop s n h c middle head links spots sources to many changed₀ room₀ k₀ place₀ changed room k place = place
+μ-loop s n h c middle head places to many changed₀ room₀ k₀ place₀ changed room k place = place
 
--- the call, from where the loop begins, and from its test; the loop's test, from behind the record; and the record, from where its link is read
+-- the call, from where the loop begins, and from its test; the loop's test, from where the source is known; the record, from where its link
+-- is; and the source, from behind the record
 abbrev begun : tie.After-slice-known2 Inv-loop μ-loop → tie.Start Inv-loop μ-loop
-begun c = c .before .before .before .before .before .before
+begun c = c .before .before .before .before
 
 abbrev start : tie.In-loop Inv-loop μ-loop → tie.Start Inv-loop μ-loop
 start c = begun (c .before .before)
 
-abbrev turn : tie.After-take-source Inv-loop μ-loop → tie.In-loop Inv-loop μ-loop
-turn c = c .before .before .before .before .before
+abbrev turn : tie.After-source-of Inv-loop μ-loop → tie.In-loop Inv-loop μ-loop
+turn c = c .before .before .before
 
-abbrev taken : tie.After-slice-known4 Inv-loop μ-loop → tie.After-take-source Inv-loop μ-loop
-taken c = c .before .before .before .before
+abbrev taken : tie.After-link-of Inv-loop μ-loop → tie.After-take-source Inv-loop μ-loop
+taken c = c .before .before .before .before .before
+
+abbrev told : tie.After-take-source Inv-loop μ-loop → tie.After-source-of Inv-loop μ-loop
+told c = c .before .before .before
 
 loop-holds : tie.Need-loop-holds Inv-loop μ-loop
-loop-holds c = let a = begun c in (a .pre .1 .1 .1 .0 .0, refl, a .pre .1 .1 .1 .1 .1 .0, (λ b₀ p l d. walking-none d), a .pre .1 .1 .1 .1 .1 .1 .1, apart-none)
+loop-holds c = let a = begun c in (a .pre .1 .1 .1 .0, refl, a .pre .1 .1 .1 .1 .1 .0, (λ b₀ p l d. walking-none d), a .pre .1 .1 .1 .1 .1 .1 .1, apart-none)
 
 -- the next place is one, and a record stands there
-inside : (c : tie.In-loop Inv-loop μ-loop) → let a = start c .args in let i = c .before .loop .place - 1 in
-    (i < length (now (a .links))) × (i < length (now (a .spots))) × (i < length (now (a .sources)))
-inside c =
-    let i : c .before .loop .place - 1 < length (now (start c .args .links)) = omega (arith, c .loop-test .taken, c .before .loop .inv .0) in
-    let long = start c .pre .1 .1 .1 .0 in
-    (i, rw (long .1) i, rw (long .2) i)
+inside : (c : tie.In-loop Inv-loop μ-loop) → c .before .loop .place - 1 < length (now (start c .args .places))
+inside c = omega (arith, c .loop-test .taken, c .before .loop .inv .0)
 
 back : (c : tie.In-loop Inv-loop μ-loop) → c .before .loop .place ≡ c .before .loop .place - 1 + 1
 back c = omega (arith, c .loop-test .taken)
 
-at-record : (c : tie.In-loop Inv-loop μ-loop) → let a = start c .args in RecordAt (now (a .s)) (a .n) (a .h) (a .c) (a .middle) (getD (now (a .spots)) (c .before .loop .place - 1) 0)
-at-record c = c .before .loop .inv .2 _ (here (back c)) .0
+at-record : (c : tie.After-source-of Inv-loop μ-loop) → let a = start (turn c) .args in RecordAt (now (a .s)) (a .n) (a .h) (a .c) (a .middle) (c .before .spot-of .result)
+at-record c =
+    let t = turn c in
+    let a = start t .args in
+    subst (RecordAt (now (a .s)) (a .n) (a .h) (a .c) (a .middle)) (sym (c .before .spot-of .ensures)) (t .before .loop .inv .2 _ (here (back t)) .0)
 
-source : (c : tie.In-loop Inv-loop μ-loop) → let a = start c .args in let i = c .before .loop .place - 1 in
-    (getD (now (a .sources)) i 0 < a .n) × (getD (now (a .sources)) i 0 ≡ number 2 (now (a .s)) (getD (now (a .spots)) i 0))
+source : (c : tie.After-source-of Inv-loop μ-loop) → let a = start (turn c) .args in (c .source-of .result < a .n) × (c .source-of .result ≡ number 2 (now (a .s)) (c .before .spot-of .result))
 source c =
-    let a = start c in
-    let told = c .before .loop .inv .2 _ (here (back c)) .1 in
-    (rw told (record-source (a .pre .0) (a .pre .1 .0) (at-record c)), told)
+    let t = turn c in
+    let a = start t in
+    let is = c .source-of .ensures ∙ t .before .loop .inv .2 _ (here (back t)) .1 ∙ ap (number 2 (now (a .args .s))) (sym (c .before .spot-of .ensures)) in
+    (omega (arith, is, record-source (a .pre .0) (a .pre .1 .0) (at-record c)), is)
 
 sub-i : tie.Need-sub-i Inv-loop μ-loop
 sub-i c = omega arith
 
-mul-p : tie.Need-mul-p Inv-loop μ-loop
-mul-p c = omega (arith, inside c)
+mul-told : tie.Need-mul-told Inv-loop μ-loop
+mul-told c = omega (arith, inside c)
 
-shared-slice-read-p : tie.Need-shared-slice-read-p Inv-loop μ-loop
-shared-slice-read-p c = omega (arith, inside (c .before))
+shared-slice-read-told : tie.Need-shared-slice-read-told Inv-loop μ-loop
+shared-slice-read-told c = omega (arith, inside (c .before))
 
-cast-p : tie.Need-cast-p Inv-loop μ-loop
-cast-p c = omega (arith, c .shared-slice-known5 .given (c .before .before .loop .place - 1))
+spot-of-requires : tie.Need-spot-of-requires Inv-loop μ-loop
+spot-of-requires c κs = search needs
 
-mul-source : tie.Need-mul-source Inv-loop μ-loop
-mul-source c = omega (arith, inside (c .before))
-
-shared-slice-read-source : tie.Need-shared-slice-read-source Inv-loop μ-loop
-shared-slice-read-source c = omega (arith, inside (c .before .before))
-
-cast-source : tie.Need-cast-source Inv-loop μ-loop
-cast-source c = omega (arith, c .shared-slice-known6 .given (c .before .before .before .loop .place - 1))
+source-of-requires : tie.Need-source-of-requires Inv-loop μ-loop
+source-of-requires c κs = search needs
 
 take-source-requires : tie.Need-take-source-requires Inv-loop μ-loop
 take-source-requires c κs =
-    let t = c .before .before .before .before in
-    let a = start t in
-    let l = t .before .loop .inv in
-    (record-ok (a .pre .0) (a .pre .1 .0) (at-record t), (rw (l .1) (a .pre .1 .1 .0), (source t, (a .pre .1 .1 .1 .1 .1 .1 .0, l .4))))
-
--- the link of the place leads back
-falls : (c : tie.In-loop Inv-loop μ-loop) → getD (now (start c .args .links)) (c .before .loop .place - 1) 0 ≤ c .before .loop .place - 1
-falls c = start c .pre .1 .1 .1 .1 .0 (c .before .loop .place - 1)
-
-mul-place : tie.Need-mul-place Inv-loop μ-loop
-mul-place c = omega (arith, inside (turn (taken c)))
-
-shared-slice-read-place : tie.Need-shared-slice-read-place Inv-loop μ-loop
-shared-slice-read-place c = omega (arith, inside (turn (taken (c .before))))
-
-cast-place : tie.Need-cast-place Inv-loop μ-loop
-cast-place c = omega (arith, c .shared-slice-known7 .given (turn (taken (c .before)) .before .loop .place - 1))
-
-loop-less : tie.Need-loop-less Inv-loop μ-loop
-loop-less c = let t = turn (taken (c .before)) in omega (arith, t .loop-test .taken, falls t)
-
-loop-again : tie.Need-loop-again Inv-loop μ-loop
-loop-again c =
-    let k = taken (c .before) in
+    let k = c .before .before in
     let t = turn k in
     let a = start t in
     let l = t .before .loop .inv in
+    (record-ok (a .pre .0) (a .pre .1 .0) (at-record k), (rw (l .1) (a .pre .1 .1 .0), (source k, (a .pre .1 .1 .1 .1 .1 .1 .0, l .4))))
+
+link-of-requires : tie.Need-link-of-requires Inv-loop μ-loop
+link-of-requires c κs = search needs
+
+-- the link of the place leads back
+falls : (c : tie.After-link-of Inv-loop μ-loop) → c .link-of .result ≤ turn (told (taken c)) .before .loop .place - 1
+falls c = let t = turn (told (taken c)) in omega (arith, c .link-of .ensures, start t .pre .1 .1 .1 .1 .0 (t .before .loop .place - 1))
+
+loop-less : tie.Need-loop-less Inv-loop μ-loop
+loop-less c = omega (arith, turn (told (taken c)) .loop-test .taken, falls c)
+
+loop-again : tie.Need-loop-again Inv-loop μ-loop
+loop-again c =
+    let k = taken c in
+    let r = told k in
+    let t = turn r in
+    let a = start t in
+    let l = t .before .loop .inv in
     let took = k .take-source .ensures in (
-      omega (arith, inside t, falls t),
+      omega (arith, inside t, falls c),
       k .take-source .kept .1 .1 .1 .1 .1 .1 .1 .1 .0 ∙ l .1,
-      (λ q r. l .2 q (further _ (back t) r)),
-      (λ b₀ p long d. walking-more (l .3 b₀ p long d) (a .pre .0) (a .pre .1 .0) long _ (back t) (at-record t) (took .0)),
+      (λ q m. l .2 q (further _ (back t) (rw (c .link-of .ensures) at m))),
+      (λ b₀ p long d. rw (c .link-of .ensures) (walking-more (l .3 b₀ p long d) (a .pre .0) (a .pre .1 .0) long _ (back t) (r .before .spot-of .ensures) (at-record r) (took .0))),
       took .1 .0,
       apart-on (l .5) (took .1 .1),
     )
@@ -139,16 +133,12 @@ take-linked-spec =
     μ-loop
     loop-holds
     sub-i
-    mul-p
-    shared-slice-read-p
-    cast-p
-    mul-source
-    shared-slice-read-source
-    cast-source
+    mul-told
+    shared-slice-read-told
+    spot-of-requires
+    source-of-requires
     take-source-requires
-    mul-place
-    shared-slice-read-place
-    cast-place
+    link-of-requires
     loop-less
     loop-again
     same-length

@@ -1,16 +1,12 @@
--- `claimed::all_backed` meets its contract: the finite nodes passed are marked.
+-- `claimed::all_backed` meets its contract: the finite nodes of the blocks passed are marked.
 use Prim.Native.Nat.{_-_, _≤_}
-use mathlib.Core.Bool.{true≢false}
-use mathlib.Core.Path.{ap, sym, _∙_}
+use mathlib.Core.Path.{refl}
 use native.Mathlib.Omega.{arith}
-use borrow.Author.Count.{below-more}
-use borrow.Author.Needs.{needs}
+use borrow.Author.Tests.{not-true, not-false}
 use Rattle.lists.proofs.Tests.{clash}
-use Rattle.value.specs.Value.{finite}
-use Rattle.value.specs.Stored.{meaning}
-use Rattle.value.proofs.Stored.{meaning-infinite, meaning-finite}
 use Rattle.support.specs.Claims.{claimedValue}
 use Rattle.claimed.specs.Targets.{AllBacked}
+use Rattle.claimed.proofs.Blocks.{below-block}
 use Rattle.claimed.proofs.all_backed.Statement.{statement}
 use Rattle.claimed.proofs.all_backed.Tie as tie
 
@@ -23,44 +19,32 @@ abbrev μ-loop : tie.MeasureT-loop
 loop-holds : tie.Need-loop-holds Inv-loop μ-loop
 loop-holds c = (omega arith, λ v l. absurd (omega arith))
 
-element-copy-out-if1 : tie.Need-element-copy-out-if1 Inv-loop μ-loop
-element-copy-out-if1 c = omega arith
+sub-block : tie.Need-sub-block Inv-loop μ-loop
+sub-block c = omega arith
 
-add-v : tie.Need-add-v Inv-loop μ-loop
-add-v c = omega arith
+block-requires : tie.Need-block-requires Inv-loop μ-loop
+block-requires c κs = tt
+
+add-to : tie.Need-add-to Inv-loop μ-loop
+add-to c = omega arith
+
+are-backed-requires : tie.Need-are-backed-requires Inv-loop μ-loop
+are-backed-requires c κs = let p = c .before .before .before .before .pre in (p .0, (omega arith, p .1 .0))
+
+returns : tie.Need-returns Inv-loop μ-loop
+returns c = (
+  λ e. clash e refl,
+  λ e all. c .before .are-backed .ensures .1 (not-true _ (c .if1 .taken)) (λ v l h. all v (omega arith)),
+)
 
 loop-less : tie.Need-loop-less Inv-loop μ-loop
 loop-less c = omega arith
 
 loop-again : tie.Need-loop-again Inv-loop μ-loop
-loop-again c = (omega arith, below-more _ _ (c .before .before .before .loop .inv .1) (λ f. c .if1 .taken))
-
-value-of-requires : tie.Need-value-of-requires Inv-loop μ-loop
-value-of-requires c κs = search needs
-
-returns : tie.Need-returns Inv-loop μ-loop
-returns c =
-    let v = c .before .before in
-    let i = v .before in
-    let t = i .before .before in (
-      λ e. absurd (true≢false (sym e)),
-      λ e all. i .if1 .left (all (t .before .loop .v) (omega (arith, t .loop-test .taken)) (ap finite (ap meaning (sym (v .value-of .ensures)) ∙ meaning-finite (c .if2 .taken)))),
-    )
-
-add-v-2 : tie.Need-add-v-2 Inv-loop μ-loop
-add-v-2 c = omega arith
-
-loop-less-2 : tie.Need-loop-less-2 Inv-loop μ-loop
-loop-less-2 c = omega arith
-
-loop-again-2 : tie.Need-loop-again-2 Inv-loop μ-loop
-loop-again-2 c =
-    let v = c .before .before in
-    let t = v .before .before .before in
-    (omega arith, below-more _ _ (t .before .loop .inv .1) (λ f. clash f (ap finite (ap meaning (sym (v .value-of .ensures)) ∙ meaning-infinite (c .if2 .left)))))
+loop-again c = (omega arith, below-block _ _ _ (c .before .before .before .before .loop .inv .1) (c .before .are-backed .ensures .0 (not-false _ (c .if1 .left))))
 
 returns-2 : tie.Need-returns-2 Inv-loop μ-loop
-returns-2 c = (λ e v l. c .before .loop .inv .1 v (omega arith), λ e. absurd (true≢false e))
+returns-2 c = (λ e v l. c .before .loop .inv .1 v (omega arith), λ e. clash refl e)
 
 pub all-backed-spec : {M : Type 1} → statement M
 all-backed-spec =
@@ -69,13 +53,11 @@ all-backed-spec =
     Inv-loop
     μ-loop
     loop-holds
-    element-copy-out-if1
-    add-v
+    sub-block
+    block-requires
+    add-to
+    are-backed-requires
+    returns
     loop-less
     loop-again
-    value-of-requires
-    returns
-    add-v-2
-    loop-less-2
-    loop-again-2
     returns-2)

@@ -5,9 +5,11 @@ use denote.Ref.{now}
 use native.Mathlib.Omega.{arith}
 use borrow.Author.Needs.{needs}
 use borrow.Author.Tests.{not-true, not-false}
+use Rattle.lists.proofs.Tests.{by, clash}
 use Rattle.wire.specs.Read.{good}
 use Rattle.wire.specs.Reader.{one}
 use Rattle.wire.specs.declared.State.{State}
+use Rattle.wire.proofs.Reading.{follows-both, both-follow}
 use Rattle.graph.specs.Message.{covers}
 use Rattle.graph.specs.Format.{coverWidth}
 use Rattle.graph.specs.Layouts.{coverLayout}
@@ -35,7 +37,7 @@ fits : (c : tie.Else2) → let b = start (source c) in CoverFits (now (b .args .
 fits c =
     let n = source c in
     let b = start n in
-    let order = c .before .before .before .in-order .ensures .0 (not-false _ (c .before .before .if1 .left)) in
+    let order = follows-both (n .number-at .result) (b .args .n) (b .args .prev) (by (c .before .before .before .follows .ensures) (not-false _ (c .before .before .if1 .left))) in
     record {
       ok = record {
         inside = b .pre .0 .0;
@@ -66,16 +68,16 @@ found c q =
 number-at-requires : tie.Need-number-at-requires
 number-at-requires c κs = search needs
 
-in-order-requires : tie.Need-in-order-requires
-in-order-requires c κs = search needs
+follows-requires : tie.Need-follows-requires
+follows-requires c κs = search needs
 
 returns : tie.Need-returns
 returns c next e fair =
     let n = c .before .before in
     let b = start n in
     let f = cover-fits (now (b .args .s)) (b .args .n) (state b) e in
-    let low = c .before .in-order .ensures .1 (not-true _ (c .if1 .taken)) (omega (arith, n .number-at .ensures, f .ok .named)) in
-    omega (arith, n .number-at .ensures, f .ordered)
+    let passed = both-follow (n .number-at .result) (b .args .n) (b .args .prev) (omega (arith, n .number-at .ensures, f .ok .named)) (omega (arith, n .number-at .ensures, f .ordered)) in
+    clash (c .before .follows .ensures ∙ passed) (not-true _ (c .if1 .taken))
 
 add-number-at : tie.Need-add-number-at
 add-number-at c = search needs
@@ -123,7 +125,7 @@ cover-edge-spec =
     tie.close
     (tie.spec
     number-at-requires
-    in-order-requires
+    follows-requires
     returns
     add-number-at
     number-at-requires-2

@@ -6,6 +6,7 @@ use lib.ListN.{getD}
 use native.Mathlib.Omega.{arith}
 use borrow.Author.Needs.{needs}
 use borrow.Author.Tests.{not-true, not-false}
+use Rattle.lists.proofs.Tests.{by, clash}
 use Rattle.value.specs.Stored.{stored}
 use Rattle.wire.specs.Bytes.{number}
 use Rattle.wire.specs.Layout.{items, Sound}
@@ -13,6 +14,7 @@ use Rattle.wire.specs.Read.{good}
 use Rattle.wire.specs.Reader.{one}
 use Rattle.wire.specs.declared.State.{State}
 use Rattle.wire.proofs.Bytes.{number-below}
+use Rattle.wire.proofs.Reading.{follows-both, both-follow}
 use Rattle.rules.specs.Rounds.{worst}
 use Rattle.graph.specs.Message.{hypers}
 use Rattle.graph.specs.Format.{targetCountAt, hyperWidth, targetWidth}
@@ -69,7 +71,7 @@ fits c =
     let e = given c .before in
     let k = counted e in
     let b = call k in
-    let order = e .before .before .before .in-order .ensures .0 (not-false _ (e .before .before .if2 .left)) in
+    let order = follows-both (k .before .number-at .result) (b .args .n) (b .args .prev) (by (e .before .before .before .follows .ensures) (not-false _ (e .before .before .if2 .left))) in
     let source : k .before .number-at .result ≡ number 2 (now (b .args .s)) (b .args .at) = k .before .number-at .ensures in
     let count : k .number-at2 .result ≡ number 2 (now (b .args .s)) (b .args .at + targetCountAt) = k .number-at2 .ensures in
     record {
@@ -123,15 +125,17 @@ add-number-at c = search needs
 number-at-requires-2 : tie.Need-number-at-requires-2
 number-at-requires-2 c κs = search needs
 
-in-order-requires : tie.Need-in-order-requires
-in-order-requires c κs = search needs
+follows-requires : tie.Need-follows-requires
+follows-requires c κs = search needs
 
 returns-2 : tie.Need-returns-2
 returns-2 c next e fair =
     let k = c .before .before in
-    let f = good-fits (call k) e in
-    let low = c .before .in-order .ensures .1 (not-true _ (c .if2 .taken)) (omega (arith, k .before .number-at .ensures, f .ok .named)) in
-    omega (arith, k .before .number-at .ensures, f .ordered)
+    let b = call k in
+    let f = good-fits b e in
+    let source = k .before .number-at in
+    let passed = both-follow (source .result) (b .args .n) (b .args .prev) (omega (arith, source .ensures, f .ok .named)) (omega (arith, source .ensures, f .ordered)) in
+    clash (c .before .follows .ensures ∙ passed) (not-true _ (c .if2 .taken))
 
 add-total : tie.Need-add-total
 add-total c = omega (arith, small (c .before .before), call (c .before .before) .pre .0)
@@ -226,7 +230,7 @@ hyper-edge-spec =
     number-at-requires
     add-number-at
     number-at-requires-2
-    in-order-requires
+    follows-requires
     returns-2
     add-total
     cast-if3

@@ -1,12 +1,15 @@
 -- `graph::four_named` meets its contract: each `return` is the test of four targets under the tests of those before.
 use Prim.Native.Nat.{_+_}
-use mathlib.Core.Path.{_≡_, refl, sym}
-use mathlib.Core.Bool.{true, and-true}
+use mathlib.Core.Path.{_≡_, refl}
+use mathlib.Core.Bool.{true}
 use denote.Ref.{now}
 use borrow.Author.Needs.{needs}
 use borrow.Author.Tests.{not-true, not-false}
+use native.Mathlib.Omega.{arith}
 use Rattle.lists.proofs.Tests.{by}
-use Rattle.graph.specs.Format.{targetWidth}
+use Rattle.wire.specs.Read.{found, below, misnamed}
+use Rattle.ordered.proofs.Told.{told-within, told-past, told-part}
+use Rattle.graph.specs.Format.{nodeAt, targetWidth}
 use Rattle.graph.specs.Names.{targetNamed, allNamed}
 use Rattle.graph.proofs.four_named.Statement.{statement}
 use Rattle.graph.proofs.four_named.Tie as tie
@@ -25,6 +28,15 @@ second-named c = by (c .before .named2 .ensures) (not-false _ (c .if2 .left))
 third-named : (c : tie.Else3) → let a = call (c .before .before .before .before) .args in
     targetNamed (now (a .s)) (a .n) (a .at + targetWidth + targetWidth) ≡ true
 third-named c = by (c .before .named3 .ensures) (not-false _ (c .if3 .left))
+
+-- behind the third target, seen from the read of the last node
+abbrev third : tie.After-read-below → tie.Else3
+third c = c .before .before
+
+-- the last node is read from the target's part as from the message
+last-read : (c : tie.After-read-below) → let a = call (third c .before .before .before .before) .args in
+    c .read-below .result ≡ found (below 2 (now (a .s)) (a .at + targetWidth + targetWidth + targetWidth + nodeAt) (a .n) (misnamed 0))
+last-read c = told-part 2 _ _ _ _ _ _ (omega arith) (omega arith) (c .read-below .ensures)
 
 add-second : tie.Need-add-second
 add-second c = search needs
@@ -58,18 +70,44 @@ returns-3 c =
     let two = c .before .before in
     rw (first-named (two .before .before), second-named two, by (c .before .named3 .ensures) (not-true _ (c .if3 .taken))) refl
 
-add-node-at : tie.Need-add-node-at
-add-node-at c = search needs
+add-end : tie.Need-add-end
+add-end c = search needs
 
-number-at-requires : tie.Need-number-at-requires
-number-at-requires c κs = search needs
+sub-read-below : tie.Need-sub-read-below
+sub-read-below c = search needs
+
+part-read-below-start : tie.Need-part-read-below-start
+part-read-below-start c = search needs
+
+part-read-below-end : tie.Need-part-read-below-end
+part-read-below-end c = search needs
+
+read-below-requires : tie.Need-read-below-requires
+read-below-requires c κs = search needs
+
+enum-told : tie.Need-enum-told
+enum-told c = search needs
+
+enum-told-2 : tie.Need-enum-told-2
+enum-told-2 c = search needs
 
 returns-4 : tie.Need-returns-4
 unfolding allNamed
 returns-4 c =
-    let three = c .before in
+    let r = c .before .before in
+    let three = r .before .before in
     let two = three .before .before in
-    rw (first-named (two .before .before), second-named two, third-named three, c .number-at .ensures) (sym (and-true _))
+    let last = told-past _ _ _ _ _ (last-read r) (omega arith) (c .enum-told2 .given .1) in
+    rw (first-named (two .before .before), second-named two, third-named three, last) refl
+
+returns-5 : tie.Need-returns-5
+unfolding allNamed
+returns-5 c =
+    let r = c .before .before in
+    let three = r .before .before in
+    let two = three .before .before in
+    let last = told-within _ _ _ _ _ (last-read r) (c .enum-told .given .1) in
+    rw (first-named (two .before .before), second-named two, third-named three, last) refl
 
 pub four-named-spec : {M : Type 1} → statement M
 four-named-spec =
@@ -84,6 +122,12 @@ four-named-spec =
     returns-2
     named-requires-3
     returns-3
-    add-node-at
-    number-at-requires
-    returns-4)
+    add-end
+    sub-read-below
+    part-read-below-start
+    part-read-below-end
+    read-below-requires
+    enum-told
+    enum-told-2
+    returns-4
+    returns-5)

@@ -7,7 +7,7 @@ use native.Mathlib.Omega.{arith}
 use borrow.Author.Count.{below-more}
 use borrow.Author.Tests.{eqb-true, eqb-false}
 use Rattle.halves.specs.Room.{Alike}
-use Rattle.halves.proofs.Apart.{still-same, both-same, none-apart}
+use Rattle.lists.proofs.Apart.{still-same, both-same, none-apart}
 use Rattle.halves.proofs.alike.Statement.{statement}
 use Rattle.halves.proofs.alike.Tie as tie
 

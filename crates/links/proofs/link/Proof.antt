@@ -1,7 +1,7 @@
 -- `links::link` meets its contract: the targets at q are left to link.
 use Prim.Native.Nat.{ℕ, _+_, _-_, _*_, _<_, _≤_}
 use mathlib.Core.List.{List, []}
-use mathlib.Core.Path.{_≡_, refl, subst}
+use mathlib.Core.Path.{_≡_, refl, subst, _∙_}
 use denote.Ref.{now}
 use lib.ListN.{length}
 use native.Mathlib.Omega.{arith}
@@ -18,28 +18,28 @@ use Rattle.links.proofs.link.Statement.{statement}
 use Rattle.links.proofs.link.Tie as tie
 
 -- how many of the k targets are left, from q on
-record Left (s : List ℕ) (n p k place end : ℕ) (heads₀ links₀ spots₀ sources₀ heads links spots sources : List ℕ) (q at : ℕ) : Type 0 where
+record Left (s : List ℕ) (n p k place end : ℕ) (heads₀ places₀ heads places : List ℕ) (q at : ℕ) : Type 0 where
   left : ℕ
   there : q + left * targetWidth ≡ end
   sound : Sound (targetLayout s n) left q
   all : at + left ≡ place + k
-  kept : Kept heads₀ links₀ spots₀ sources₀ heads links spots sources
+  kept : Kept heads₀ places₀ heads places
   linked : (middle j : ℕ) → p ≡ Layout.end (hyperLayout s n) j graphHeader
-      → Linked s n middle (j + 1) (items (targetLayout s n) k (p + hyperWidth)) 0 place heads₀ links₀ spots₀ sources₀
-      → Linked s n middle (j + 1) (items (targetLayout s n) left q) 0 at heads links spots sources
+      → Linked s n middle (j + 1) (items (targetLayout s n) k (p + hyperWidth)) 0 place heads₀ places₀
+      → Linked s n middle (j + 1) (items (targetLayout s n) left q) 0 at heads places
 
 abbrev Inv-loop : tie.InvT-loop
-Inv-loop s n p k place heads₀ links₀ spots₀ sources₀ source q₀ end at₀ heads links spots sources q at =
-    Left s n p k place end heads₀ links₀ spots₀ sources₀ heads links spots sources q at
+Inv-loop s n p k place heads₀ places₀ source q₀ end at₀ heads places q at =
+    Left s n p k place end heads₀ places₀ heads places q at
 
 abbrev μ-loop : tie.MeasureT-loop
-μ-loop s n p k place heads₀ links₀ spots₀ sources₀ source q₀ end at₀ heads links spots sources q at = end - q
+μ-loop s n p k place heads₀ places₀ source q₀ end at₀ heads places q at = end - q
 
 -- the message, and the call, from where the source is read; and this and the call, from the loop's test
-abbrev message : tie.After-slice-known4 Inv-loop μ-loop → tie.After-shared-slice-known Inv-loop μ-loop
-message c = c .before .before .before .before
+abbrev message : tie.After-slice-known2 Inv-loop μ-loop → tie.After-shared-slice-known Inv-loop μ-loop
+message c = c .before .before
 
-abbrev begun : tie.After-slice-known4 Inv-loop μ-loop → tie.Start Inv-loop μ-loop
+abbrev begun : tie.After-slice-known2 Inv-loop μ-loop → tie.Start Inv-loop μ-loop
 begun c = message c .before
 
 abbrev read : tie.In-loop Inv-loop μ-loop → tie.After-number-at Inv-loop μ-loop
@@ -50,11 +50,6 @@ start c = begun (read c .before)
 
 number-at-requires : tie.Need-number-at-requires Inv-loop μ-loop
 number-at-requires c κs = omega (arith, begun c .pre .1 .0)
-
-cast-source : tie.Need-cast-source Inv-loop μ-loop
-cast-source c =
-    let m = message (c .before) in
-    omega (arith, c .number-at .ensures, number-below 2 (now (m .before .args .s)) (m .before .args .p) (λ i. omega (arith, m .shared-slice-known .given i)))
 
 add-q : tie.Need-add-q Inv-loop μ-loop
 add-q c = omega (arith, begun (c .before) .pre .1 .0)
@@ -77,11 +72,11 @@ some c = omega (arith, c .loop-test .taken, c .before .loop .inv .there)
 here : (c : tie.In-loop Inv-loop μ-loop) → TargetOk (now (start c .args .s)) (start c .args .n) (c .before .loop .q)
 here c = sound-more _ (some c) (c .before .loop .inv .sound) .0
 
-long : (c : tie.In-loop Inv-loop μ-loop) → let l = c .before .loop in Long (start c .args .n) (l .heads) (l .links) (l .spots) (l .sources)
+long : (c : tie.In-loop Inv-loop μ-loop) → let l = c .before .loop in Long (start c .args .n) (l .heads) (l .places)
 long c = kept-long (c .before .loop .inv .kept) (start c .pre .1 .1 .0)
 
-free : (c : tie.In-loop Inv-loop μ-loop) → (c .before .loop .at < length (c .before .loop .links)) × (length (c .before .loop .links) ≤ 65535)
-free c = (omega (arith, some c, c .before .loop .inv .all, start c .pre .1 .1 .1 .1, c .before .loop .inv .kept .links-long), long c .short)
+free : (c : tie.In-loop Inv-loop μ-loop) → (c .before .loop .at < length (c .before .loop .places)) × (length (c .before .loop .places) ≤ 65535)
+free c = (omega (arith, some c, c .before .loop .inv .all, start c .pre .1 .1 .1 .1, c .before .loop .inv .kept .places-long), long c .short)
 
 named : (c : tie.After-number-at2 Inv-loop μ-loop) → c .number-at2 .result < start (c .before) .args .n
 named c = omega (arith, c .number-at2 .ensures, here (c .before) .named)
@@ -103,13 +98,7 @@ same-length : tie.Need-same-length Inv-loop μ-loop
 same-length c = c .before .before .before .loop .inv .kept .heads-long
 
 same-length-2 : tie.Need-same-length-2 Inv-loop μ-loop
-same-length-2 c = c .before .before .before .loop .inv .kept .links-long
-
-same-length-3 : tie.Need-same-length-3 Inv-loop μ-loop
-same-length-3 c = c .before .before .before .loop .inv .kept .spots-long
-
-same-length-4 : tie.Need-same-length-4 Inv-loop μ-loop
-same-length-4 c = c .before .before .before .loop .inv .kept .sources-long
+same-length-2 c = c .before .before .before .loop .inv .kept .places-long
 
 returns : tie.Need-returns Inv-loop μ-loop
 returns c = absurd (omega (arith, c .if1 .taken, c .before .number-at2 .ensures, here (c .before .before) .named))
@@ -120,69 +109,63 @@ mul-head c = omega (arith, in-heads (c .before))
 slice-read-head : tie.Need-slice-read-head Inv-loop μ-loop
 slice-read-head c = omega (arith, in-heads (c .before .before))
 
-mul-links : tie.Need-mul-links Inv-loop μ-loop
-mul-links c = omega (arith, free (c .before .before .before))
+place-of-requires : tie.Need-place-of-requires Inv-loop μ-loop
+place-of-requires c κs =
+    let k = read (c .before .before .before) in
+    let m = message (k .before) in
+    let a = m .before in
+    (a .pre .1 .1 .1 .0, omega (arith, k .number-at .ensures, number-below 2 (now (a .args .s)) (a .args .p) (λ i. omega (arith, m .shared-slice-known .given i))))
 
-slice-write-links : tie.Need-slice-write-links Inv-loop μ-loop
-slice-write-links c = omega (arith, free (c .before .before .before))
+-- the node, and the loop's test, from behind the number of its place
+abbrev node : tie.After-place-of Inv-loop μ-loop → tie.After-number-at2 Inv-loop μ-loop
+node c = c .before .before .before
 
-cast-spots : tie.Need-cast-spots Inv-loop μ-loop
-cast-spots c = omega (arith, start (c .before .before .before) .pre .1 .1 .1 .0)
+abbrev turn : tie.After-place-of Inv-loop μ-loop → tie.In-loop Inv-loop μ-loop
+turn c = node c .before
 
-mul-spots : tie.Need-mul-spots Inv-loop μ-loop
-mul-spots c = omega (arith, free (c .before .before .before))
+mul-places : tie.Need-mul-places Inv-loop μ-loop
+mul-places c = omega (arith, free (turn c))
 
-slice-write-spots : tie.Need-slice-write-spots Inv-loop μ-loop
-slice-write-spots c = let t = c .before .before .before in omega (arith, free t, long t .same)
-
-mul-sources : tie.Need-mul-sources Inv-loop μ-loop
-mul-sources c = omega (arith, free (c .before .before .before))
-
-slice-write-sources : tie.Need-slice-write-sources Inv-loop μ-loop
-slice-write-sources c = let t = c .before .before .before in omega (arith, free t, long t .also)
+slice-write-places : tie.Need-slice-write-places Inv-loop μ-loop
+slice-write-places c = omega (arith, free (turn c))
 
 add-at : tie.Need-add-at Inv-loop μ-loop
-add-at c = omega (arith, free (c .before .before .before))
+add-at c = omega (arith, free (turn c))
 
 cast-heads : tie.Need-cast-heads Inv-loop μ-loop
-cast-heads c = omega (arith, free (c .before .before .before))
+cast-heads c = omega (arith, free (turn c))
 
 mul-heads : tie.Need-mul-heads Inv-loop μ-loop
-mul-heads c = omega (arith, in-heads (c .before .before))
+mul-heads c = omega (arith, in-heads (node c))
 
 slice-write-heads : tie.Need-slice-write-heads Inv-loop μ-loop
-slice-write-heads c = omega (arith, in-heads (c .before .before))
+slice-write-heads c = omega (arith, in-heads (node c))
 
 add-q-2 : tie.Need-add-q-2 Inv-loop μ-loop
-add-q-2 c = omega (arith, here (c .before .before .before) .inside)
+add-q-2 c = omega (arith, here (turn c) .inside)
 
 loop-less : tie.Need-loop-less Inv-loop μ-loop
-loop-less c = omega (arith, c .before .before .before .loop-test .taken)
+loop-less c = omega (arith, turn c .loop-test .taken)
 
 loop-again : tie.Need-loop-again Inv-loop μ-loop
 loop-again c =
-    let t = c .before .before .before in
+    let t = turn c in
     let l = t .before .loop in
+    let tells = c .place-of .ensures in
     record {
       left = l .inv .left - 1;
       there = omega (arith, some t, l .inv .there);
       sound = sound-more _ (some t) (l .inv .sound) .1;
       all = omega (arith, some t, l .inv .all);
-      kept = kept-set (l .inv .kept) _ _ _ _ _ _;
-      linked = λ middle j e d. linked-turn _ _ (l .inv .linked middle j e d) j refl (some t) (free t .0) _ (c .before .before .number-at2 .ensures) (named (c .before .before)) _ e _ (read t .number-at .ensures);
+      kept = kept-set (l .inv .kept) _ _ _ _;
+      linked = λ middle j e d. linked-turn _ _ (l .inv .linked middle j e d) j refl (some t) (free t .0) _ (node c .number-at2 .ensures) (named (node c)) _ e _ (tells .0, tells .1, tells .2 ∙ read t .number-at .ensures);
     }
 
-same-length-5 : tie.Need-same-length-5 Inv-loop μ-loop
-same-length-5 c = c .before .loop .inv .kept .heads-long
+same-length-3 : tie.Need-same-length-3 Inv-loop μ-loop
+same-length-3 c = c .before .loop .inv .kept .heads-long
 
-same-length-6 : tie.Need-same-length-6 Inv-loop μ-loop
-same-length-6 c = c .before .loop .inv .kept .links-long
-
-same-length-7 : tie.Need-same-length-7 Inv-loop μ-loop
-same-length-7 c = c .before .loop .inv .kept .spots-long
-
-same-length-8 : tie.Need-same-length-8 Inv-loop μ-loop
-same-length-8 c = c .before .loop .inv .kept .sources-long
+same-length-4 : tie.Need-same-length-4 Inv-loop μ-loop
+same-length-4 c = c .before .loop .inv .kept .places-long
 
 returns-2 : tie.Need-returns-2 Inv-loop μ-loop
 returns-2 c =
@@ -191,7 +174,7 @@ returns-2 c =
     let none : l .inv .left ≡ 0 = omega (arith, l .inv .there) in
     let all : l .at ≡ a .place + a .k = omega (arith, none, l .inv .all) in (
       all,
-      λ middle j e d. subst (λ (places : ℕ). Linked (now (a .s)) (a .n) middle (j + 1) [] 0 places (l .heads) (l .links) (l .spots) (l .sources)) all (linked-end _ _ (l .inv .linked middle j e d) none),
+      λ middle j e d. subst (λ (many : ℕ). Linked (now (a .s)) (a .n) middle (j + 1) [] 0 many (l .heads) (l .places)) all (linked-end _ _ (l .inv .linked middle j e d) none),
     )
 
 pub link-spec : {M : Type 1} → statement M
@@ -201,7 +184,6 @@ link-spec =
     Inv-loop
     μ-loop
     number-at-requires
-    cast-source
     add-q
     mul-end
     add-end
@@ -211,18 +193,12 @@ link-spec =
     cast-v
     same-length
     same-length-2
-    same-length-3
-    same-length-4
     returns
     mul-head
     slice-read-head
-    mul-links
-    slice-write-links
-    cast-spots
-    mul-spots
-    slice-write-spots
-    mul-sources
-    slice-write-sources
+    place-of-requires
+    mul-places
+    slice-write-places
     add-at
     cast-heads
     mul-heads
@@ -230,8 +206,6 @@ link-spec =
     add-q-2
     loop-less
     loop-again
-    same-length-5
-    same-length-6
-    same-length-7
-    same-length-8
+    same-length-3
+    same-length-4
     returns-2)

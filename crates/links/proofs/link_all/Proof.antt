@@ -10,14 +10,14 @@ use Rattle.links.proofs.link_all.Tie as tie
 
 -- the places that the facts below look back to: the start, seen from where the hyperedges are linked; where they were linked, seen from where
 -- the cover edges are; and where these were linked, seen from the end
-abbrev start : tie.After-link-hypers-arg4 → tie.Start
-start c = c .before .before .before .before .before .before .before .before .before
+abbrev start : tie.After-link-hypers-arg2 → tie.Start
+start c = c .before .before .before .before .before
 
-abbrev linked : tie.After-link-covers-arg4 → tie.After-link-hypers
-linked c = c .before .before .before .before .before .before .before .before .before .before .before .before
+abbrev linked : tie.After-link-covers-arg2 → tie.After-link-hypers
+linked c = c .before .before .before .before .before .before
 
-abbrev covered : tie.After-slice-known12 → tie.After-link-covers
-covered c = c .before .before .before .before .before .before .before .before
+abbrev covered : tie.After-slice-known6 → tie.After-link-covers
+covered c = c .before .before .before .before
 
 link-hypers-requires : tie.Need-link-hypers-requires
 link-hypers-requires c κs =
@@ -39,14 +39,8 @@ same-length c = search needs
 same-length-2 : tie.Need-same-length-2
 same-length-2 c = search needs
 
-same-length-3 : tie.Need-same-length-3
-same-length-3 c = search needs
-
-same-length-4 : tie.Need-same-length-4
-same-length-4 c = search needs
-
 returns : tie.Need-returns
 returns c = covered c .link-covers .ensures
 
 pub link-all-spec : {M : Type 1} → statement M
-link-all-spec = tie.close (tie.spec link-hypers-requires link-covers-requires same-length same-length-2 same-length-3 same-length-4 returns)
+link-all-spec = tie.close (tie.spec link-hypers-requires link-covers-requires same-length same-length-2 returns)

@@ -19,18 +19,18 @@ use Rattle.links.proofs.link_covers.Statement.{statement}
 use Rattle.links.proofs.link_covers.Tie as tie
 
 abbrev Inv-loop : tie.InvT-loop
-Inv-loop s n h c middle place heads₀ links₀ spots₀ sources₀ j₀ p₀ at₀ heads links spots sources j p at =
-    (j ≤ c) × (at ≡ place + j) × (p ≡ coverAt s n middle j) × Linked s n middle h [] j at heads links spots sources
-    × Kept heads₀ links₀ spots₀ sources₀ heads links spots sources
+Inv-loop s n h c middle place heads₀ places₀ j₀ p₀ at₀ heads places j p at =
+    (j ≤ c) × (at ≡ place + j) × (p ≡ coverAt s n middle j) × Linked s n middle h [] j at heads places
+    × Kept heads₀ places₀ heads places
 
 abbrev μ-loop : tie.MeasureT-loop
-μ-loop s n h c middle place heads₀ links₀ spots₀ sources₀ j₀ p₀ at₀ heads links spots sources j p at = c - j
+μ-loop s n h c middle place heads₀ places₀ j₀ p₀ at₀ heads places j p at = c - j
 
--- the message, and the call, from where the loop begins, and from its test; and the test, from where the source is read
-abbrev opened : tie.After-slice-known4 Inv-loop μ-loop → tie.After-shared-slice-known Inv-loop μ-loop
-opened c = c .before .before .before .before
+-- the message, and the call, from where the loop begins, and from its test; and the target and the test, from behind the number of the place
+abbrev opened : tie.After-slice-known2 Inv-loop μ-loop → tie.After-shared-slice-known Inv-loop μ-loop
+opened c = c .before .before
 
-abbrev begun : tie.After-slice-known4 Inv-loop μ-loop → tie.Start Inv-loop μ-loop
+abbrev begun : tie.After-slice-known2 Inv-loop μ-loop → tie.Start Inv-loop μ-loop
 begun c = opened c .before
 
 abbrev message : tie.In-loop Inv-loop μ-loop → tie.After-shared-slice-known Inv-loop μ-loop
@@ -39,8 +39,11 @@ message c = opened (c .before .before)
 abbrev start : tie.In-loop Inv-loop μ-loop → tie.Start Inv-loop μ-loop
 start c = message c .before
 
-abbrev turn : tie.After-number-at2 Inv-loop μ-loop → tie.In-loop Inv-loop μ-loop
-turn c = c .before .before .before
+abbrev node : tie.After-place-of Inv-loop μ-loop → tie.After-number-at Inv-loop μ-loop
+node c = c .before .before .before
+
+abbrev turn : tie.After-place-of Inv-loop μ-loop → tie.In-loop Inv-loop μ-loop
+turn c = node c .before
 
 loop-holds : tie.Need-loop-holds Inv-loop μ-loop
 loop-holds c = (omega arith, omega arith, sym (end-none _ 0 _ refl), begun c .pre .1 .1, kept-none)
@@ -51,10 +54,10 @@ here c =
     let a = start c .args in
     subst (CoverOk (now (a .s)) (a .n)) (sym (c .before .loop .inv .2)) (sound-at (coverLayout (now (a .s)) (a .n)) (c .before .loop .j) (c .loop-test .taken) (start c .pre .0))
 
-free : (c : tie.In-loop Inv-loop μ-loop) → (c .before .loop .at < length (c .before .loop .links)) × (length (c .before .loop .links) ≤ 65535)
+free : (c : tie.In-loop Inv-loop μ-loop) → (c .before .loop .at < length (c .before .loop .places)) × (length (c .before .loop .places) ≤ 65535)
 free c =
     let l = c .before .loop in
-    (omega (arith, c .loop-test .taken, l .inv .1, start c .pre .1 .0 .1, l .inv .4 .links-long), l .inv .3 .long .short)
+    (omega (arith, c .loop-test .taken, l .inv .1, start c .pre .1 .0 .1, l .inv .4 .places-long), l .inv .3 .long .short)
 
 low : (c : tie.In-loop Inv-loop μ-loop) → c .before .loop .p + coverWidth ≤ 65535
 low c =
@@ -83,34 +86,21 @@ mul-head c = omega (arith, in-heads c)
 slice-read-head : tie.Need-slice-read-head Inv-loop μ-loop
 slice-read-head c = omega (arith, in-heads (c .before))
 
-mul-links : tie.Need-mul-links Inv-loop μ-loop
-mul-links c = omega (arith, free (c .before .before))
-
-slice-write-links : tie.Need-slice-write-links Inv-loop μ-loop
-slice-write-links c = omega (arith, free (c .before .before))
-
-cast-spots : tie.Need-cast-spots Inv-loop μ-loop
-cast-spots c = omega (arith, low (c .before .before))
-
-mul-spots : tie.Need-mul-spots Inv-loop μ-loop
-mul-spots c = omega (arith, free (c .before .before))
-
-slice-write-spots : tie.Need-slice-write-spots Inv-loop μ-loop
-slice-write-spots c = let t = c .before .before in omega (arith, free t, t .before .loop .inv .3 .long .same)
-
 number-at-requires-2 : tie.Need-number-at-requires-2 Inv-loop μ-loop
 number-at-requires-2 c κs = omega (arith, here (c .before .before) .inside)
 
-cast-sources : tie.Need-cast-sources Inv-loop μ-loop
-cast-sources c =
-    let m = message (turn c) in
-    omega (arith, c .number-at2 .ensures, number-below 2 (now (m .before .args .s)) (turn c .before .loop .p) (λ i. omega (arith, m .shared-slice-known .given i)))
+place-of-requires : tie.Need-place-of-requires Inv-loop μ-loop
+place-of-requires c κs =
+    let t = c .before .before .before in
+    let m = message t in
+    let source = number-below 2 (now (m .before .args .s)) (t .before .loop .p) (λ i. omega (arith, m .shared-slice-known .given i)) in
+    (omega (arith, low t), omega (arith, c .number-at2 .ensures, source))
 
-mul-sources : tie.Need-mul-sources Inv-loop μ-loop
-mul-sources c = omega (arith, free (turn c))
+mul-places : tie.Need-mul-places Inv-loop μ-loop
+mul-places c = omega (arith, free (turn c))
 
-slice-write-sources : tie.Need-slice-write-sources Inv-loop μ-loop
-slice-write-sources c = omega (arith, free (turn c), turn c .before .loop .inv .3 .long .also)
+slice-write-places : tie.Need-slice-write-places Inv-loop μ-loop
+slice-write-places c = omega (arith, free (turn c))
 
 add-at : tie.Need-add-at Inv-loop μ-loop
 add-at c = omega (arith, free (turn c))
@@ -119,10 +109,10 @@ cast-heads : tie.Need-cast-heads Inv-loop μ-loop
 cast-heads c = omega (arith, free (turn c))
 
 mul-heads : tie.Need-mul-heads Inv-loop μ-loop
-mul-heads c = omega (arith, in-heads (c .before .before))
+mul-heads c = omega (arith, in-heads (node c))
 
 slice-write-heads : tie.Need-slice-write-heads Inv-loop μ-loop
-slice-write-heads c = omega (arith, in-heads (c .before .before))
+slice-write-heads c = omega (arith, in-heads (node c))
 
 add-p : tie.Need-add-p Inv-loop μ-loop
 add-p c = omega (arith, low (turn c))
@@ -138,32 +128,27 @@ loop-again c =
     let t = turn c in
     let a = start t .args in
     let l = t .before .loop in
+    let tells = c .place-of .ensures in
     let L = coverLayout (now (a .s)) (a .n) in (
       omega (arith, t .loop-test .taken),
       omega (arith, l .inv .1),
       ap (L .next) (l .inv .2) ∙ sym (end-next L (l .j) (a .middle)),
-      linked-cover (l .inv .3) (free t .0) _ (c .before .before .number-at .ensures ∙ ap (λ (p : ℕ). number 2 (now (a .s)) (p + coverTargetAt)) (l .inv .2)) (named (c .before .before)) _ (l .inv .2) _ (c .number-at2 .ensures),
-      kept-set (l .inv .4) _ _ _ _ _ _,
+      linked-cover (l .inv .3) (free t .0) _ (node c .number-at .ensures ∙ ap (λ (p : ℕ). number 2 (now (a .s)) (p + coverTargetAt)) (l .inv .2)) (named (node c)) _ (l .inv .2) _ (tells .0, tells .1, tells .2 ∙ c .before .number-at2 .ensures),
+      kept-set (l .inv .4) _ _ _ _,
     )
 
 same-length : tie.Need-same-length Inv-loop μ-loop
 same-length c = c .before .loop .inv .4 .heads-long
 
 same-length-2 : tie.Need-same-length-2 Inv-loop μ-loop
-same-length-2 c = c .before .loop .inv .4 .links-long
-
-same-length-3 : tie.Need-same-length-3 Inv-loop μ-loop
-same-length-3 c = c .before .loop .inv .4 .spots-long
-
-same-length-4 : tie.Need-same-length-4 Inv-loop μ-loop
-same-length-4 c = c .before .loop .inv .4 .sources-long
+same-length-2 c = c .before .loop .inv .4 .places-long
 
 returns : tie.Need-returns Inv-loop μ-loop
 returns c =
     let l = c .before .loop in
     let a = begun (c .before .before) in
     let all : l .j ≡ a .args .c = omega (arith, l .inv .0) in
-    rw all at (linked-all (l .inv .3) (omega (arith, l .inv .1, l .inv .0, a .pre .1 .0 .1, l .inv .4 .links-long)))
+    rw all at (linked-all (l .inv .3) (omega (arith, l .inv .1, l .inv .0, a .pre .1 .0 .1, l .inv .4 .places-long)))
 
 pub link-covers-spec : {M : Type 1} → statement M
 link-covers-spec =
@@ -177,15 +162,10 @@ link-covers-spec =
     cast-target
     mul-head
     slice-read-head
-    mul-links
-    slice-write-links
-    cast-spots
-    mul-spots
-    slice-write-spots
     number-at-requires-2
-    cast-sources
-    mul-sources
-    slice-write-sources
+    place-of-requires
+    mul-places
+    slice-write-places
     add-at
     cast-heads
     mul-heads
@@ -196,6 +176,4 @@ link-covers-spec =
     loop-again
     same-length
     same-length-2
-    same-length-3
-    same-length-4
     returns)

@@ -17,25 +17,25 @@ use Rattle.links.proofs.link_hypers.Statement.{statement}
 use Rattle.links.proofs.link_hypers.Tie as tie
 
 abbrev Inv-loop : tie.InvT-loop
-Inv-loop s n h middle heads₀ links₀ spots₀ sources₀ j₀ p₀ place₀ heads links spots sources j p place =
-    (j ≤ h) × (p ≡ hyperAt s n j) × (p ≡ graphHeader + j * hyperWidth + place * targetWidth) × Linked s n middle j [] 0 place heads links spots sources
-    × Kept heads₀ links₀ spots₀ sources₀ heads links spots sources
+Inv-loop s n h middle heads₀ places₀ j₀ p₀ place₀ heads places j p place =
+    (j ≤ h) × (p ≡ hyperAt s n j) × (p ≡ graphHeader + j * hyperWidth + place * targetWidth) × Linked s n middle j [] 0 place heads places
+    × Kept heads₀ places₀ heads places
 
 abbrev μ-loop : tie.MeasureT-loop
-μ-loop s n h middle heads₀ links₀ spots₀ sources₀ j₀ p₀ place₀ heads links spots sources j p place = h - j
+μ-loop s n h middle heads₀ places₀ j₀ p₀ place₀ heads places j p place = h - j
 
 -- the call, from where the loop begins, and from its test; the count, from where the link is called; and the link, from behind
-abbrev begun : tie.After-slice-known4 Inv-loop μ-loop → tie.Start Inv-loop μ-loop
-begun c = c .before .before .before .before .before
+abbrev begun : tie.After-slice-known2 Inv-loop μ-loop → tie.Start Inv-loop μ-loop
+begun c = c .before .before .before
 
 abbrev start : tie.In-loop Inv-loop μ-loop → tie.Start Inv-loop μ-loop
 start c = begun (c .before .before)
 
-abbrev counted : tie.After-link-arg4 Inv-loop μ-loop → tie.After-number-at Inv-loop μ-loop
-counted c = c .before .before .before .before
+abbrev counted : tie.After-link-arg2 Inv-loop μ-loop → tie.After-number-at Inv-loop μ-loop
+counted c = c .before .before
 
-abbrev called : tie.After-slice-known8 Inv-loop μ-loop → tie.After-link Inv-loop μ-loop
-called c = c .before .before .before .before .before .before .before .before
+abbrev called : tie.After-slice-known4 Inv-loop μ-loop → tie.After-link Inv-loop μ-loop
+called c = c .before .before .before .before
 
 loop-holds : tie.Need-loop-holds Inv-loop μ-loop
 loop-holds c = (omega arith, sym (end-none _ 0 graphHeader refl), omega arith, begun c .pre .1 .1 .1, kept-none)
@@ -73,14 +73,14 @@ add-j c = omega (arith, c .before .loop-test .taken, start (c .before) .fits .h)
 
 -- what is asked for the targets of the next hyperedge, and what stands behind it, by its count
 asked : (t : tie.In-loop Inv-loop μ-loop) {k : ℕ} → let a = start t .args in let l = t .before .loop in k ≡ number 2 (now (a .s)) (l .p + targetCountAt)
-    → Sound (targetLayout (now (a .s)) (a .n)) k (l .p + hyperWidth) × ((l .p + hyperWidth ≤ length (now (a .s))) × (Long (a .n) (l .heads) (l .links) (l .spots) (l .sources) × ((l .p ≤ 65535) × (l .place + k ≤ length (l .links)))))
+    → Sound (targetLayout (now (a .s)) (a .n)) k (l .p + hyperWidth) × ((l .p + hyperWidth ≤ length (now (a .s))) × (Long (a .n) (l .heads) (l .places) × ((l .p ≤ 65535) × (l .place + k ≤ length (l .places)))))
 asked t is =
     let a = start t in
     let l = t .before .loop .inv in
-    (rw is (here t .sound), (omega (arith, here t .inside), (l .3 .long, (omega (arith, far t, a .pre .1 .1 .0 .0), omega (arith, far t, is, l .2, l .4 .links-long, t .loop-test .taken, a .pre .1 .1 .0 .1)))))
+    (rw is (here t .sound), (omega (arith, here t .inside), (l .3 .long, (omega (arith, far t, a .pre .1 .1 .0 .0), omega (arith, far t, is, l .2, l .4 .places-long, t .loop-test .taken, a .pre .1 .1 .0 .1)))))
 
 opened : (t : tie.In-loop Inv-loop μ-loop) {k : ℕ} → let a = start t .args in let l = t .before .loop in k ≡ number 2 (now (a .s)) (l .p + targetCountAt)
-    → Linked (now (a .s)) (a .n) (a .middle) (l .j + 1) (items (targetLayout (now (a .s)) (a .n)) k (l .p + hyperWidth)) 0 (l .place) (l .heads) (l .links) (l .spots) (l .sources)
+    → Linked (now (a .s)) (a .n) (a .middle) (l .j + 1) (items (targetLayout (now (a .s)) (a .n)) k (l .p + hyperWidth)) 0 (l .place) (l .heads) (l .places)
 opened t is =
     let a = start t .args in
     let l = t .before .loop in
@@ -94,7 +94,7 @@ more : (c : tie.After-link Inv-loop μ-loop) → let m = counted (c .before) in 
 more c = c .link .ensures .0
 
 -- so the next position is not behind the middle
-past : (c : tie.After-slice-known8 Inv-loop μ-loop) → let k = called c in let l = counted (k .before) .before .before .loop in
+past : (c : tie.After-slice-known4 Inv-loop μ-loop) → let k = called c in let l = counted (k .before) .before .before .loop in
     l .p + hyperWidth + (k .link .result - l .place) * targetWidth ≤ 65535
 past c =
     let k = called c in
@@ -128,20 +128,14 @@ loop-again c =
       omega (arith, next t, is, more k),
       omega (arith, l .inv .2, more k),
       rw (more k) (k .link .ensures .1 (start t .args .middle) (l .j) (l .inv .1) (opened t is)),
-      kept-on (l .inv .4) (as-long .0) (as-long .1 .0) (as-long .1 .1 .0) (as-long .1 .1 .1 .0),
+      kept-on (l .inv .4) (as-long .0) (as-long .1 .0),
     )
 
 same-length : tie.Need-same-length Inv-loop μ-loop
 same-length c = c .before .loop .inv .4 .heads-long
 
 same-length-2 : tie.Need-same-length-2 Inv-loop μ-loop
-same-length-2 c = c .before .loop .inv .4 .links-long
-
-same-length-3 : tie.Need-same-length-3 Inv-loop μ-loop
-same-length-3 c = c .before .loop .inv .4 .spots-long
-
-same-length-4 : tie.Need-same-length-4 Inv-loop μ-loop
-same-length-4 c = c .before .loop .inv .4 .sources-long
+same-length-2 c = c .before .loop .inv .4 .places-long
 
 returns : tie.Need-returns Inv-loop μ-loop
 returns c =
@@ -169,6 +163,4 @@ link-hypers-spec =
     loop-again
     same-length
     same-length-2
-    same-length-3
-    same-length-4
     returns)

@@ -1,13 +1,11 @@
 -- `marked::take_range` meets its contract.
-use Prim.Native.Nat.{ℕ, _+_, _-_, _≤_}
-use mathlib.Core.Path.{_≡_, sym, subst}
+use mathlib.Core.Path.{sym, subst}
 use denote.Ref.{now}
 use native.Mathlib.Omega.{arith}
-use lib.ListN.{length}
-use borrow.Author.Needs.{needs}
 use Rattle.wire.specs.Layout.{Sound}
 use Rattle.graph.specs.Layouts.{coverLayout}
 use Rattle.graph.specs.Ready.{Climbs}
+use Rattle.turns.proofs.Loop.{covers-behind}
 use Rattle.marked.proofs.Taking.{range-sound, range-past, took-range}
 use Rattle.marked.proofs.take_range.Statement.{statement}
 use Rattle.marked.proofs.take_range.Tie as tie
@@ -30,7 +28,7 @@ start c = c .before .before .before
 
 -- the cover edges stand behind the hyperedges, and their sources never fall
 covers-sound : (c : tie.Start) → Sound (coverLayout (now (c .args .s)) (c .args .n)) (c .args .c) (c .args .middle)
-covers-sound c = subst (Sound (coverLayout (now (c .args .s)) (c .args .n)) (c .args .c)) (sym (c .pre .1 .0)) (c .pre .0 .sound .covers)
+covers-sound c = covers-behind (c .pre .0) (c .pre .1 .0)
 
 covers-climb : (c : tie.Start) → Climbs (now (c .args .s)) (coverLayout (now (c .args .s)) (c .args .n)) (c .args .c) (c .args .middle)
 covers-climb c = subst (Climbs (now (c .args .s)) (coverLayout (now (c .args .s)) (c .args .n)) (c .args .c)) (sym (c .pre .1 .0)) (c .pre .0 .covers-climb)

@@ -1,18 +1,15 @@
 -- `rounds::run` meets its contract: rounds 0 and 1 stand in the room, then rounds 1 and 2, and `run_linked` or `run_on` goes on from there.
-use Prim.Native.Nat.{ℕ, _+_, _≤_}
-use mathlib.Core.List.{List}
-use mathlib.Core.Path.{sym, subst, _∙_}
+use Prim.Native.Nat.{_+_, _≤_}
+use mathlib.Core.Path.{sym, _∙_}
 use denote.Ref.{now}
 use native.Mathlib.Omega.{arith}
 use lib.ListN.{length}
-use Rattle.wire.specs.Layout.{Sound}
-use Rattle.graph.specs.Layouts.{coverLayout, decoded}
-use Rattle.halves.specs.Room.{Beside}
+use Rattle.graph.specs.Layouts.{decoded}
 use Rattle.scans.specs.Scan.{partOf}
 use Rattle.turns.specs.Turns.{AtRound}
 use Rattle.scans.proofs.Infinite.{covers-idle, stays-infinite}
 use Rattle.scans.proofs.Next.{round-done}
-use Rattle.turns.proofs.Loop.{begins, from-here, holds-filled, filled-on, ends-settled, ends-spent, goes-on, whole-part}
+use Rattle.turns.proofs.Loop.{begins, from-here, holds-filled, filled-on, ends-settled, ends-spent, covers-behind, full-round, anywhere}
 use Rattle.rounds.proofs.run.Statement.{statement}
 use Rattle.rounds.proofs.run.Tie as tie
 
@@ -78,10 +75,6 @@ begun c =
     begins _ (ready .closed) (ready .storable) k
     (round-done _ _ _ _ _ _ _ _ _ _ _ t (covers-idle _ _ _ _ _ (ready .sound .covers) (stays-infinite _ _ _ (t .this) (λ v l. k .cleared v (omega arith)))))
 
--- nothing is said of the halves yet
-anywhere : {n : ℕ} {b : List ℕ} → Beside n 0 n b
-anywhere = record { before = λ v l h. absurd (omega arith); behind = λ v l h. absurd (omega arith) }
-
 same-requires : tie.Need-same-requires
 same-requires c κs = (long (c .before .before .before), (omega arith, anywhere))
 
@@ -108,29 +101,22 @@ returns-2 c =
 raise-requires : tie.Need-raise-requires
 raise-requires c κs = long (first (c .before))
 
--- the cover edges stand behind the hyperedges
-covers-sound : (c : tie.After-first-round) → let a = start (cleared c) .args in Sound (coverLayout (now (a .s)) (a .n)) (a .c) (c .first-round .result)
-covers-sound c =
-    let a = start (cleared c) in
-    subst (Sound (coverLayout (now (a .args .s)) (a .args .n)) (a .args .c)) (sym (c .first-round .ensures .0)) (a .pre .0 .sound .covers)
-
 next-round-requires : tie.Need-next-round-requires
 next-round-requires c κs =
     let r = c .before .before .before in
     let f = first (unspent r) in
-    (start (cleared f) .pre .0 .sound .hypers, (covers-sound f, (omega arith, rw (r .raise .ensures .same-length) (long f))))
+    let ready = start (cleared f) .pre .0 in
+    (ready .sound .hypers, (covers-behind ready (f .first-round .ensures .0), (omega arith, rw (r .raise .ensures .same-length) (long f))))
 
 -- round 1 stands first, and round 2 behind it
 again : (c : tie.After-next-round) → let a = start (cleared (earlier c)) .args in
     AtRound (decoded (now (a .s)) (a .n) (a .h) (a .c)) (a .budget) 1 (now (a .room)) (c .next-round .last .1 .1 .1 .1 .1 .1 .1 .1 .0)
-unfolding decoded
 again c =
     let r = raised c in
     let u = unspent r in
     let f = first u in
-    let ready = start (cleared f) .pre .0 in
-    goes-on _ (ready .closed) (ready .storable) (begun f) (u .before .before .same .ensures .1 (u .before .if1 .left)) (λ e. u .if2 .left (sym e)) (r .raise .ensures) _
-    (whole-part _ _ _ _ _ _ (f .first-round .ensures .0)) (c .next-round .ensures .1)
+    full-round (start (cleared f) .pre .0) (f .first-round .ensures .0) (begun f) (u .before .before .same .ensures .1 (u .before .if1 .left)) (λ e. u .if2 .left (sym e)) (r .raise .ensures)
+    (c .next-round .ensures .1)
 
 -- and the room is still as long
 longer : (c : tie.After-next-round) → let a = start (cleared (earlier c)) .args in a .n + a .n ≤ length (c .next-round .last .1 .1 .1 .1 .1 .1 .1 .1 .0)
@@ -170,9 +156,11 @@ returns-4 c =
 
 run-on-requires : tie.Need-run-on-requires
 run-on-requires c κs =
-    let w = second (c .before .before) in
+    let unfit = c .before .before in
+    let w = second unfit in
     let f = earlier w in
-    (start (cleared f) .pre .0, (f .first-round .ensures .0, (longer w, from-here (again w))))
+    let another = unfit .before .before .same2 .ensures .1 (unfit .before .if3 .left) in
+    (start (cleared f) .pre .0, (f .first-round .ensures .0, (longer w, (from-here (again w), another))))
 
 same-length-5 : tie.Need-same-length-5
 same-length-5 c = gone-on c .run-on .kept .1 .1 .1 .1 .1 .1 .0 ∙ again (second (gone-on c .before .before .before)) .same-length

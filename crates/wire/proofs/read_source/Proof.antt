@@ -1,25 +1,15 @@
--- `wire::read_source` meets its contract: each `return` is the reading under the tests that led there. What wraps is below n only where the
--- source is not below the one before it, and below n.
-use Prim.Native.Nat.{ℕ, _+_, _-_, _^_, _%_, _≤_, _<_}
-use mathlib.Core.Path.{_≡_, sym, ap, _∙_}
+-- `wire::read_source` meets its contract: each `return` is the reading under the tests that led there.
+use mathlib.Core.Path.{_≡_, _∙_}
 use denote.Ref.{now}
 use borrow.Author.Needs.{needs}
-use borrow.Author.Tests.{lt-ltb, le-ltb, lt-leb}
-use native.Mathlib.Omega.{arith}
+use borrow.Author.Tests.{lt-ltb, le-ltb, le-leb}
 use Rattle.lists.proofs.Tests.{by}
 use Rattle.wire.specs.declared.Field.the-variants.{Number}
 use Rattle.wire.specs.Field.{fieldAt}
-use Rattle.wire.specs.Read.{ofField, found, below, sourceFrom}
-use Rattle.wire.proofs.Reading.{reading, there, found-bad, field-found, good-source}
+use Rattle.wire.specs.Read.{below, sourceFrom}
+use Rattle.wire.proofs.Reading.{reading, found-bad, field-found, follows-both}
 use Rattle.wire.proofs.read_source.Statement.{statement}
 use Rattle.wire.proofs.read_source.Tie as tie
-
--- how far a source is above another number, modulo 2^32
-within : (source prev n above : ℕ) → prev ≤ n → n < 2 ^ 32 → (above + prev) % 2 ^ 32 ≡ source → above < n - prev → (source < n) × (prev ≤ source)
-within source prev n above most fits wraps less = (omega arith, omega arith)
-
-beyond : (source prev n above : ℕ) → source < n → n < 2 ^ 32 → above < 2 ^ 32 → prev ≤ n → (above + prev) % 2 ^ 32 ≡ source → n - prev ≤ above → source < prev
-beyond source prev n above named fits small most wraps more = omega arith
 
 -- the source is there
 abbrev start : tie.After-known-told → tie.Start
@@ -43,19 +33,17 @@ returns c =
     let is = c .enum-told .given .1 in
     is ∙ simp (reading, found-bad _ (by (c .before .before .read .ensures ∙ field-found _) is))
 
-wrapping-sub-u32-requires : tie.Need-wrapping-sub-u32-requires
-wrapping-sub-u32-requires c κs = search needs
-
-sub-room : tie.Need-sub-room
-sub-room c = search needs
+follows-requires : tie.Need-follows-requires
+follows-requires c κs = search needs
 
 returns-2 : tie.Need-returns-2
+unfolding sourceFrom below
 returns-2 c =
-    let w = c .before in
-    let k = w .before in
+    let k = c .before .before in
     let a = start k .args in
-    let in-order = within (k .before .field .given .0 .0) (a .prev) (a .n) (w .wrapping-sub-u32 .result) (start k .pre) (omega arith) (w .wrapping-sub-u32 .ensures) (c .if1 .taken) in
-    simp (reading, good-source (now (a .s)) (a .at) (a .n) (a .prev) (a .offset) (ap ofField (source-there k) ∙ there _) (in-order .0) (in-order .1))
+    let source = k .before .field .given .0 .0 in
+    let order = follows-both source (a .n) (a .prev) (by (c .before .follows .ensures) (c .if1 .taken)) in
+    simp (reading, source-there k, lt-ltb _ _ (order .0), le-leb _ _ (order .1))
 
 returns-3 : tie.Need-returns-3
 unfolding sourceFrom below
@@ -65,11 +53,8 @@ returns-4 : tie.Need-returns-4
 unfolding sourceFrom below
 returns-4 c =
     let w = c .before .before in
-    let k = w .before in
-    let a = start k .args in
-    let source = k .before .field .given .0 .0 in
-    let unordered = beyond source (a .prev) (a .n) (w .wrapping-sub-u32 .result) (c .if2 .left) (omega arith) (omega arith) (start k .pre) (w .wrapping-sub-u32 .ensures) (c .before .if1 .left) in
-    simp (reading, source-there k, lt-ltb source (a .n) (c .if2 .left), lt-leb (a .prev) source unordered)
+    let named = lt-ltb _ _ (c .if2 .left) in
+    simp (reading, source-there (w .before), named, rw named at (by (w .follows .ensures) (c .before .if1 .left)))
 
 pub read-source-spec : {M : Type 1} → statement M
-read-source-spec = tie.close (tie.spec read-requires enum-known-field enum-told returns wrapping-sub-u32-requires sub-room returns-2 returns-3 returns-4)
+read-source-spec = tie.close (tie.spec read-requires enum-known-field enum-told returns follows-requires returns-2 returns-3 returns-4)

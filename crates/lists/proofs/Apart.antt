@@ -1,8 +1,8 @@
 -- The bits in which numbers differ: there are none exactly where the numbers are the same. Assumes nothing.
-use Prim.Native.Nat.{ℕ, _+_, _*_, _≤_}
-use mathlib.Core.Path.{_≡_, refl, ap, _∙_}
+use Prim.Native.Nat.{ℕ}
+use mathlib.Core.Path.{_≡_}
 use native.Mathlib.Omega.{arith}
-use lib.Bits.{bitAnd, bitOr, bitXor, and-le-l, and-le-r, or-add-and, xor-add-and, xor-self}
+use lib.Bits.{bitOr, bitXor, and-le-l, and-le-r, or-add-and, xor-add-and, xor-self}
 
 module _ (a b c : ℕ) where
   -- what was gathered before, and two numbers more

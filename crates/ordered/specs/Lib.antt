@@ -1,0 +1,2 @@
+-- Definitions: records in order.
+pub mod Ordered
