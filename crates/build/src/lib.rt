@@ -1,4 +1,5 @@
 // The graph of an accepted model and formula, written into a lent room.
+#![tactic(auto)]
 mod message;
 
 ghost use Rattle.std.specs.Prelude.{◌≡◌, ◌+◌, ◌*◌, ◌≤◌, length};
@@ -10,7 +11,7 @@ use refusal::Fault;
 use sizing::Size;
 
 // The length of the graph, or why it was not built.
-#[derive(Drop)]
+#[derive(Clone, Copy)]
 pub enum Built {
     Graph(usize),
     Refused(Fault),

@@ -1,4 +1,5 @@
 // What is claimed: of a node, of the targets of a hyperedge, and of all nodes.
+#![tactic(auto)]
 ghost use Rattle.std.specs.Prelude.{◌≡◌, ℕ, ◌+◌, ◌*◌, ◌<◌, ◌≤◌, min, true, false, length};
 ghost use Rattle.value.specs.Stored.{stored, infinite};
 ghost use Rattle.wire.specs.Bytes.{number};
@@ -22,7 +23,7 @@ pub const CLAIM: usize = 16;
 const BLOCK: usize = 64;
 
 // What the targets of a hyperedge give, and where they end; or one of them names no node.
-#[derive(Drop)]
+#[derive(Clone, Copy)]
 pub enum Given {
     Odd,
     Most(u64, usize),

@@ -1,4 +1,5 @@
 // Claims about a graph: a value and a rank for each node. A checker of claims.
+#![tactic(auto)]
 ghost use Rattle.std.specs.Prelude.{◌≡◌, true, false, ◌+◌, ◌*◌, ◌≤◌, length};
 ghost use Rattle.wire.specs.Read.{good};
 ghost use Rattle.graph.specs.Format.{graph_header, cover_width};
@@ -17,7 +18,7 @@ use graph::Checked;
 use refusal::Fault;
 
 // Accepted, not accepted, or refused.
-#[derive(Drop)]
+#[derive(Clone, Copy)]
 pub enum Judged {
     Yes,
     No,
@@ -49,7 +50,7 @@ impl Judged {
 }
 
 // How a scan of edges ended: one is odd, or none is, and what stands behind them.
-#[derive(Drop)]
+#[derive(Clone, Copy)]
 enum Scan {
     Odd,
     Past(usize),

@@ -1,4 +1,5 @@
 // An edge read and judged by the claims at once: it has a fault, or it is fair to them and may back its source.
+#![tactic(auto)]
 ghost use Rattle.std.specs.Prelude.{◌≡◌, ◌+◌, ◌*◌, ◌≤◌, length, get_or};
 ghost use Rattle.value.specs.Stored.{stored};
 ghost use Rattle.wire.specs.Bytes.{number};
@@ -16,7 +17,7 @@ use value::{Bound, Value};
 use wire::Width;
 
 // What an edge without fault is to the claims: it gives less than its source claims; it backs its source's value; or neither.
-#[derive(Drop)]
+#[derive(Clone, Copy)]
 enum Weighed {
     Less,
     Backs,
@@ -25,7 +26,7 @@ enum Weighed {
 
 // What an edge is: it has a fault, or gives less than its source claims; it backs its source's value; or neither. With the source, the
 // targets so far, and where the next edge stands.
-#[derive(Drop)]
+#[derive(Clone, Copy)]
 pub enum Edge {
     Odd,
     Backs(u32, u32, usize),

@@ -1,10 +1,11 @@
 // What is entered into the nightly sheet, and the entry of what a call of the library returned.
+#![tactic(auto)]
 ghost use Rattle.std.specs.Prelude.{◌≡◌};
 ghost use Rattle.entries.specs.Entries.{is_entry, rounds_of, count_place};
 ghost use Rattle.entries.specs.Returned.{entry_of};
 
 // What is entered: yes, no or a refusal's number, with the rounds that were reported.
-#[derive(Drop)]
+#[derive(Clone, Copy)]
 pub enum Entry {
     Yes(u32),
     No(u32),

@@ -1,4 +1,5 @@
 // The check of a formula message against a number of propositions: the first fault in the paper's order, or how many rows it has.
+#![tactic(auto)]
 ghost use Rattle.std.specs.Prelude.{◌≡◌, ℕ, ◌+◌, ◌≤◌, ◌<◌, List, [], ◌∷◌, ◌++◌, length};
 ghost use Rattle.lists.specs.Lists.{◌∈◌};
 ghost use Rattle.syntax.specs.Format.{formula_length};
@@ -38,7 +39,7 @@ const MISUSED: Fault = Fault {
 };
 
 // How many rows an accepted message has, or its first fault.
-#[derive(Drop)]
+#[derive(Clone, Copy)]
 pub enum Checked {
     Formula(u32),
     Refused(Fault),
@@ -84,7 +85,7 @@ fn header(s: &[u8]) -> Checked
 }
 
 // How many uses rows make of others, and which rows were used: row i is bit i of one number, which stays in a register.
-#[derive(Drop)]
+#[derive(Clone, Copy)]
 struct Uses {
     total: u32,
     rows: u64,

@@ -1,4 +1,5 @@
 // The check of a graph message: the first fault in the paper's order, or the counts of its header.
+#![tactic(auto)]
 ghost use Rattle.std.specs.Prelude.{◌≡◌, ◌+◌, ◌*◌, ◌≤◌, length};
 ghost use Rattle.wire.specs.Reader.{one, run};
 ghost use Rattle.wire.specs.Step.{step};
@@ -74,7 +75,7 @@ pub const COVER_TARGET_AT: usize = COVER_BOUND_AT + 4;
 pub const COVER: usize = COVER_TARGET_AT + 2;
 
 // How many nodes, hyperedges, cover edges and targets of all hyperedges an accepted message has, or its first fault.
-#[derive(Drop)]
+#[derive(Clone, Copy)]
 pub enum Checked {
     Graph(u32, u32, u32, u32),
     Refused(Fault),

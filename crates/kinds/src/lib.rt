@@ -1,4 +1,5 @@
 // The operands of a row by the kind of its operator, or the first fault of its fields in the paper's order.
+#![tactic(auto)]
 ghost use Rattle.std.specs.Prelude.{◌≡◌, ℕ, ◌+◌, ◌^◌, ◌<◌, false};
 ghost use Rattle.wire.specs.Read.{bad, below, found, misnamed};
 ghost use Rattle.syntax.specs.Format.{row_width};
@@ -11,7 +12,7 @@ use syntax::{BOUND_AT, LEFT_AT, RIGHT_AT, ZERO_AT};
 use wire::{Field, Width};
 
 // The fields of a row behind its operator.
-#[derive(Drop)]
+#[derive(Clone, Copy)]
 pub struct Fields {
     pub left: u32,
     pub right: u32,
@@ -20,7 +21,7 @@ pub struct Fields {
 }
 
 // The rows that a row has for operands.
-#[derive(Drop)]
+#[derive(Clone, Copy)]
 pub enum Operands {
     None,
     One(u32),
@@ -28,7 +29,7 @@ pub enum Operands {
 }
 
 // The operands of a row without fault, or its first fault.
-#[derive(Drop)]
+#[derive(Clone, Copy)]
 pub enum Judged {
     Fine(Operands),
     Refused(Fault),

@@ -1,4 +1,5 @@
 // The report of the nightly sheet: numbers, one on a line.
+#![tactic(auto)]
 ghost use Rattle.std.specs.Prelude.{◌≡◌, ◌≤◌, length};
 ghost use Rattle.wire.specs.Laid.{Laid};
 ghost use Rattle.lines.specs.Lines.{lines, reported_number, reported_length, reported_of, report_room};
@@ -6,7 +7,7 @@ ghost use Rattle.lines.specs.Lines.{lines, reported_number, reported_length, rep
 use refusal::Refusal;
 
 // The length of the report, or why it was not written.
-#[derive(Drop)]
+#[derive(Clone, Copy)]
 pub enum Reported {
     Text(usize),
     Refused(Refusal),

@@ -1,4 +1,5 @@
 // The check of a model message: the first fault in the paper's order, or the counts of its header.
+#![tactic(auto)]
 ghost use Rattle.std.specs.Prelude.{◌≡◌, ℕ, ◌+◌, ◌*◌, ◌≤◌, ◌^◌, length};
 ghost use Rattle.wire.specs.Reader.{one, run};
 ghost use Rattle.wire.specs.Step.{step};
@@ -54,7 +55,7 @@ pub const TO_AT: usize = ACTION_AT + 2;
 pub const TRANSITION: usize = TO_AT + 2;
 
 // How many states, propositions and transitions an accepted message has, or its first fault.
-#[derive(Drop)]
+#[derive(Clone, Copy)]
 pub enum Checked {
     Model(u32, u32, u32),
     Refused(Fault),

@@ -1,4 +1,5 @@
 // Where each node is a target: what a change of a node may reach is noted before, and marked when it changes.
+#![tactic(auto)]
 ghost use Rattle.std.specs.Prelude.{◌≡◌, ℕ, ◌+◌, ◌<◌, ◌≤◌, min, max, List, [], length};
 ghost use Rattle.wire.specs.Layout.{items, end, Sound};
 ghost use Rattle.graph.specs.Format.{graph_header, hyper_width};
@@ -52,7 +53,7 @@ fn note(
 }
 
 // The hyperedges that a changed node may reach: from the first, at a position, to before the last. And the cover edges.
-#[derive(Drop)]
+#[derive(Clone, Copy)]
 pub struct Marks {
     pub first: u32,
     pub last: u32,
@@ -215,7 +216,7 @@ fn publish_block(
 }
 
 // Nodes in two spans, one behind the other: from lo to before the gap, and from behind it to before hi.
-#[derive(Drop)]
+#[derive(Clone, Copy)]
 pub struct Span {
     pub lo: usize,
     pub gap: usize,

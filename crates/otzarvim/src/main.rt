@@ -1,5 +1,6 @@
 // Reads a model and a formula from standard input, and writes the answer for every state. It only moves bytes: what is written is
 // `report`'s.
+#![tactic(auto)]
 use libc::{STDIN_FILENO, STDOUT_FILENO};
 
 // One byte more than the longest input is read, so that a longer one shows.

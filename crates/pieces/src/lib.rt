@@ -1,4 +1,5 @@
 // The pieces of the program's output, line by line, and where the model ends in its input.
+#![tactic(auto)]
 ghost use Rattle.std.specs.Prelude.{◌≡◌, ◌+◌, ◌≤◌, ◌++◌, length};
 ghost use Rattle.decimals.specs.Decimal.{decimal};
 ghost use Rattle.wire.specs.Laid.{Laid};
@@ -11,7 +12,7 @@ use refusal::Fault;
 use wire::{Field, Width};
 
 // Where the model ends, or why there is none.
-#[derive(Drop)]
+#[derive(Clone, Copy)]
 pub enum Cut {
     At(usize),
     Refused(Fault),

@@ -1,10 +1,11 @@
 // A question: the check of a model, and of a formula with the model's p.
+#![tactic(auto)]
 ghost use Rattle.questions.specs.Asking.{Asking};
 
 use refusal::Fault;
 
 // The counts of an accepted model and formula, or the first fault.
-#[derive(Drop)]
+#[derive(Clone, Copy)]
 pub enum Asked {
     Question(u32, u32, u32, u32),
     Refused(Fault),

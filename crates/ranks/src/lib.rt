@@ -1,4 +1,5 @@
 // A writer of claims about a graph that the checker accepts: its values, and a rank for each node.
+#![tactic(auto)]
 ghost use Rattle.std.specs.Prelude.{◌≡◌, ◌++◌, ◌*◌, ◌≤◌, length, drop, replicate};
 ghost use Rattle.wire.specs.Layout.{end, Sound};
 ghost use Rattle.rules.specs.Walks.{CoverCycle};
@@ -21,7 +22,7 @@ use wire::Width;
 pub const WORDS: usize = 8;
 
 // Claims were written, or refused.
-#[derive(Drop)]
+#[derive(Clone, Copy)]
 pub enum Written {
     Claims,
     Refused(Fault),

@@ -1,9 +1,10 @@
 // Why a call is refused. The paper's number of each case is one definition, `number_of`. BUDGET is no case of it: a spent budget is an
 // answer of its own, with its count. Nor is DEAD, number 7: it is no longer given, since runs may stop.
+#![tactic(auto)]
 ghost use Rattle.std.specs.Prelude.{◌≡◌};
 ghost use Rattle.refusal.specs.Number.{number_of};
 
-#[derive(Drop)]
+#[derive(Clone, Copy)]
 pub enum Refusal {
     Length,
     Version,
@@ -17,7 +18,7 @@ pub enum Refusal {
 }
 
 // A refusal, and where in the message at fault the field starts that was found wrong: its offset, and 0 where no field is at fault.
-#[derive(Drop)]
+#[derive(Clone, Copy)]
 pub struct Fault {
     pub refusal: Refusal,
     pub offset: usize,

@@ -1,4 +1,5 @@
 // What a question answers, and the graph of an accepted one built and settled.
+#![tactic(auto)]
 ghost use Rattle.std.specs.Prelude.{◌≡◌};
 ghost use Rattle.transitions.specs.Held.{HoldsModel, HoldsRows};
 ghost use Rattle.questions.specs.Asking.{held_question};
@@ -10,7 +11,7 @@ use rounds::Outcome;
 use wire::Width;
 
 // Yes, no, or none where there is no verdict.
-#[derive(Drop)]
+#[derive(Clone, Copy)]
 pub enum Verdict {
     Yes,
     No,
@@ -18,7 +19,7 @@ pub enum Verdict {
 }
 
 // A verdict, with the count of rounds and the length of the graph; the budget spent, with both; or refused.
-#[derive(Drop)]
+#[derive(Clone, Copy)]
 pub enum Answer {
     Decided(Verdict, u32, usize),
     Spent(u32, usize),
@@ -27,7 +28,7 @@ pub enum Answer {
 
 // All states at once: settled, with the count of rounds, the length of the graph, the node of state 0, and how many states;
 // the budget spent; or refused.
-#[derive(Drop)]
+#[derive(Clone, Copy)]
 pub enum AllStates {
     Settled(u32, usize, u32, u32),
     Spent(u32, usize),

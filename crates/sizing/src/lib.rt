@@ -1,4 +1,5 @@
 // How much room the graph takes, before anything is written.
+#![tactic(auto)]
 ghost use Rattle.std.specs.Prelude.{true, not, ◌≡◌, ◌+◌, ◌≤◌, ◌<◌, min, max, length};
 ghost use Rattle.lists.specs.Making.{span};
 ghost use Rattle.graph.specs.Format.{graph_length};
@@ -13,7 +14,7 @@ use syntax::{Action, Quantifier, Row};
 use value::Bound;
 
 // How many hyperedges, how many targets in all, and in the one with the most.
-#[derive(Drop)]
+#[derive(Clone, Copy)]
 pub struct Size {
     pub hypers: u64,
     pub targets: u64,

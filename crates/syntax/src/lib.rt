@@ -1,4 +1,5 @@
 // Rows of formula messages: what each says, and the row that stands at a position of an accepted message.
+#![tactic(auto)]
 ghost use Rattle.std.specs.Prelude.{◌≡◌, ◌+◌, ◌≤◌, length};
 ghost use Rattle.syntax.specs.Rows as rows;
 ghost use Rattle.syntax.specs.Layouts.{row_at};
@@ -22,14 +23,14 @@ pub const BOUND_AT: usize = ZERO_AT + 1;
 pub const ROW: usize = BOUND_AT + 4;
 
 // On some run, or on every run; some transition, or every transition.
-#[derive(Drop)]
+#[derive(Clone, Copy)]
 pub enum Quantifier {
     Some,
     Every,
 }
 
 // Which transitions EX and AX look at: those of any action, or only those of one.
-#[derive(Drop)]
+#[derive(Clone, Copy)]
 pub enum Action {
     Any,
     Only(u32),
@@ -48,7 +49,7 @@ impl Action {
 }
 
 // A row: an operator, with propositions or earlier rows for its operands.
-#[derive(Drop)]
+#[derive(Clone, Copy)]
 pub enum Row {
     True,
     False,

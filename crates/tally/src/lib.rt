@@ -1,4 +1,5 @@
 // The nightly sheet: one running tally that each verdict is entered into. The tally goes in by value and comes back.
+#![tactic(auto)]
 ghost use Rattle.std.specs.Prelude.{◌≡◌, ◌+◌, ◌<◌, ◌^◌, get_or, ltb};
 ghost use Rattle.tally.specs.Tally.{most_accepted, together, at_zero, takes_more, counted_at};
 ghost use Rattle.tally.specs.Entered.{answer_number, enter_of};
@@ -18,7 +19,7 @@ pub struct Tally {
 }
 
 // Whether an entry was taken.
-#[derive(Drop)]
+#[derive(Clone, Copy)]
 pub enum Answer {
     Accepted,
     Refused(Refusal),

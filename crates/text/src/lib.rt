@@ -1,4 +1,5 @@
 // The text of a formula message, written into a lent room.
+#![tactic(auto)]
 ghost use Rattle.std.specs.Prelude.{◌≡◌};
 ghost use Rattle.text.specs.Written.{written_number, written_offset, written_length, written_of, text_room};
 ghost use Rattle.syntax.specs.Message.{read_formula};
@@ -7,7 +8,7 @@ use formula::Checked;
 use refusal::Fault;
 
 // The length of the text, or why it was not written.
-#[derive(Drop)]
+#[derive(Clone, Copy)]
 pub enum Written {
     Text(usize),
     Refused(Fault),

@@ -1,4 +1,5 @@
 // Answers a batch of calls from standard input with a line for each.
+#![tactic(auto)]
 mod answers;
 mod line;
 mod rooms;

@@ -1,11 +1,12 @@
 // How the rounds on a message end, and where each of their turns begins.
+#![tactic(auto)]
 ghost use Rattle.std.specs.Prelude.{◌≡◌};
 ghost use Rattle.turns.specs.Outcome.{outcome_number, outcome_offset, outcome_count};
 
 use refusal::Fault;
 
 // How the rounds on a message ended: settled, or the budget spent, after so many rounds; or refused.
-#[derive(Drop)]
+#[derive(Clone, Copy)]
 pub enum Outcome {
     Settled(u32),
     Spent(u32),

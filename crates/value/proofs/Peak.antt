@@ -24,4 +24,5 @@ module _ {A : Type 0} (v : A → Value) where
 
   -- a list with an element has one
   pub peak : {a : A} {l : List A} → a ∈ l → Peak l
+  peak {a = a} {l = []} m = elim m [ ]
   peak {l = c ∷ l} m = from c l

@@ -1,11 +1,12 @@
 // The value of a node, and the bound of a cover edge.
+#![tactic(auto)]
 ghost use Rattle.std.specs.Prelude.{◌≡◌, ℕ, ◌≤◌, leb};
 ghost use Rattle.value.specs.Value.{plus, greatest, least, meets};
 ghost use Rattle.value.specs.Coded.{bound_of, code_of};
 ghost use Rattle.value.specs.Stored.{infinite, meaning, stored};
 
 // How large a value may be: at most a number, or anything finite.
-#[derive(Drop)]
+#[derive(Clone, Copy)]
 pub enum Bound {
     Within(u32),
     Unbounded,
@@ -44,7 +45,7 @@ impl Bound {
 }
 
 // A whole number or infinity, as it is stored.
-#[derive(Drop)]
+#[derive(Clone, Copy)]
 pub struct Value(pub u64);
 
 impl Value {

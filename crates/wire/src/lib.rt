@@ -1,4 +1,5 @@
 // Numbers in message bytes, big-endian, over the width, and the start that all messages share.
+#![tactic(auto)]
 ghost use Rattle.std.specs.Prelude.{◌≡◌, ◌+◌, ◌≤◌, ◌&&◌, length, nat_le, nat_lt};
 ghost use Rattle.wire.specs.Bytes.{number, put};
 ghost use Rattle.wire.specs.Field.{width_of, long_width, field_at};
@@ -9,7 +10,7 @@ ghost use Rattle.wire.specs.Counts.{read_count};
 use refusal::{Fault, Refusal};
 
 // How many bytes a field has.
-#[derive(Drop)]
+#[derive(Clone, Copy)]
 pub enum Width {
     One,
     Two,
@@ -40,7 +41,7 @@ pub const TWO_MORE: u32 = 65536;
 pub const TWO_MORE_LONG: u64 = TWO_MORE as u64;
 
 // What reading a field finds: its number, or its fault.
-#[derive(Drop)]
+#[derive(Clone, Copy)]
 pub enum Field {
     Number(u32),
     Refused(Fault),
@@ -65,14 +66,14 @@ impl Field {
 }
 
 // The start of a message is as it should be, or its first fault.
-#[derive(Drop)]
+#[derive(Clone, Copy)]
 pub enum Opened {
     Open,
     Refused(Fault),
 }
 
 // The header of a kind of message: how long it is, its version and its kind.
-#[derive(Drop)]
+#[derive(Clone, Copy)]
 pub struct Head {
     pub length: usize,
     pub version: u32,
@@ -80,7 +81,7 @@ pub struct Head {
 }
 
 // A count in a header: where it stands, how wide it is, and what is allowed.
-#[derive(Drop)]
+#[derive(Clone, Copy)]
 pub struct Count {
     pub at: usize,
     pub width: Width,
@@ -97,7 +98,7 @@ pub const START: usize = 6;
 
 // Where a reading of records stands: the position, a count that the message's own rules need, and the source before. Two numbers of
 // 32 bits would share the bytes in which a step has a fault's offset, and the compiler would put them together and take them apart.
-#[derive(Drop)]
+#[derive(Clone, Copy)]
 pub struct State {
     pub at: usize,
     pub seen: usize,
@@ -105,7 +106,7 @@ pub struct State {
 }
 
 // The state past what was read, or the first fault.
-#[derive(Drop)]
+#[derive(Clone, Copy)]
 pub enum Step {
     Next(State),
     Refused(Fault),
