@@ -16,6 +16,8 @@ import sys
 
 NAME = r"[^\s(){}\[\].;,@\"«»]+"
 TOKEN = re.compile(r"\s+|--[^\n]*|\"[^\"\n]*\"|" + NAME + r"|.", re.S)
+# Fields that have other names today, where port.py did not see whose they are.
+WORDS = dict(taken="true", left="false", inv="invariant", kept="auto", last="new", came="branch")
 PLAIN = {"search rules", "omega arith", "tt", "refl", "search (rules)"}
 
 
@@ -69,6 +71,8 @@ class Turner:
         self.helpers = {}  # name -> (param places [or None..], result place or None)
         self.dropped = {}
         self.invs = []
+        self.views = set()
+        self.need = None
         self.cycle = path.split("/")[-1].startswith("+")
 
     # the place that a type names, or None
@@ -78,14 +82,16 @@ class Turner:
             return norm(m[1])
         return None
 
-    def inv_args(self):
-        return "".join(" goal.the-" + n for n in self.invs)
+    def view(self, place):
+        name = self.fn.d["places_by_name"][self.fn.places[place]["i"]]
+        self.views.add(name)
+        return name
 
     def types(self, text):
         def one(m):
             name = norm(m[1])
             if name in self.fn.places:
-                return "tie." + self.fn.places[name]["name"] + self.inv_args()
+                return self.view(name)
             if m[1].startswith("Need-"):
                 need = self.fn.needs.get(norm(m[1][5:])) or self.fn.needs.get(norm(re.sub(r"^overflow.", "", m[1][5:])))
                 if need:
@@ -94,44 +100,74 @@ class Turner:
 
         return re.sub(r"tie\.(" + NAME + r")((?:\s+(?:invariant|decreases)-[^\s()]*)*)", one, text)
 
-    # -- expressions
+    # -- expressions: env has for a name the variable that it stands for, the place of that variable, and its own place
     def conv(self, text, env):
         toks = TOKEN.findall(text)
         out, _ = self.seq(toks, 0, dict(env), None)
         return out
 
+    def operand(self, toks, i):
+        """Where the operand that begins at i ends: a name or a group, with its fields."""
+        if toks[i] == "(":
+            depth = 0
+            while i < len(toks):
+                depth += toks[i] in "([{"
+                depth -= toks[i] in ")]}"
+                i += 1
+                if depth == 0:
+                    break
+        else:
+            i += 1
+        while i + 1 < len(toks) and toks[i] == "." and re.fullmatch(NAME, toks[i + 1]):
+            i += 2
+        return i
+
     def seq(self, toks, i, env, close):
         """Turns tokens up to the closing one; env grows by the lets."""
         out = ""
-        pending = None
         while i < len(toks):
             t = toks[i]
             if close and t == close:
                 return out, i
-            if t in "([{":
-                end = {"(": ")", "[": "]", "{": "}"}[t]
-                inner_start = i + 1
-                inner, j = self.seq(toks, inner_start, dict(env), end)
-                raw = "".join(toks[inner_start:j])
-                place = self.value_place(raw, env) if t == "(" else None
-                j += 1
-                if place and j < len(toks) and toks[j] == ".":
-                    root = t + inner + end
-                    s, j = self.path(root, place, "lts", toks, j)
+            if t == "(":
+                j = self.operand(toks, i)
+                k = i + 1
+                depth = 1
+                while depth:
+                    depth += toks[k] in "([{"
+                    depth -= toks[k] in ")]}"
+                    k += 1
+                got = self.place_value("".join(toks[i:k]), env)
+                if got:
+                    s, i = self.fields(got, toks, k)
                     out += s
-                else:
-                    out += t + inner + end
-                i = j
+                    continue
+            if t in ("(", "[", "{"):
+                end = {"(": ")", "[": "]", "{": "}"}[t]
+                inner, j = self.seq(toks, i + 1, dict(env), end)
+                out += t + inner + end
+                i = j + 1
                 continue
-            if re.fullmatch(NAME, t) and t in env and (not out or out[-1] not in ".") and env[t]:
-                place, level = env[t]
-                s, i = self.path(t, place, level, toks, i + 1)
+            behind_dot = out.endswith(".")
+            if not behind_dot and t in self.helpers and self.helpers[t]["place"] and i + 2 < len(toks) and toks[i + 1].isspace():
+                j = self.operand(toks, i + 2)
+                got = self.place_value("".join(toks[i + 2:j]), env)
+                h = self.helpers[t]
+                if got and not h["result"]:
+                    out += self.call(t, h, got)
+                    i = j
+                    continue
+                if got and h["result"]:
+                    out += got[0]
+                    i = j
+                    continue
+            if re.fullmatch(NAME, t) and env.get(t) and not behind_dot:
+                s, i = self.fields(env[t], toks, i + 1)
                 out += s
                 continue
             if t == "let":
                 m = re.match(r"let(\s+)(" + NAME + r")(\s*)=(?=\s)", "".join(toks[i:i + 6]))
                 if m:
-                    # find the matching `in`
                     depth, j = 0, i + 1
                     while j < len(toks):
                         if toks[j] in ("(", "[", "{"):
@@ -146,11 +182,16 @@ class Turner:
                             depth -= 1
                         j += 1
                     k = toks.index("=", i)
-                    raw = "".join(toks[k + 1:j])
+                    got = self.place_value("".join(toks[k + 1:j]), env)
+                    if got:
+                        env[m[2]] = got
+                        i = j + 1
+                        while i < len(toks) and toks[i].isspace():
+                            i += 1
+                        continue
                     val, _ = self.seq(toks[k + 1:j], 0, dict(env), None)
-                    place = self.value_place(raw, env)
                     out += "".join(toks[i:k + 1]) + val + "in"
-                    env[m[2]] = (place, "lts") if place else None
+                    env[m[2]] = None
                     i = j + 1
                     continue
             if t == "λ":
@@ -164,64 +205,102 @@ class Turner:
             i += 1
         return out, i
 
-    def value_place(self, raw, env):
+    def place_value(self, raw, env):
+        """The variable, its place and the place meant, where the text is a place."""
         raw = raw.strip()
-        m = re.fullmatch(r"(" + NAME + r")((?:\.before)*)", raw)
-        if m and env.get(m[1]):
-            p = env[m[1]][0]
-            for _ in range(m[2].count(".before")):
-                p = self.fn.parent(p) if p else None
-            return p
-        m = re.fullmatch(r"(" + NAME + r")((?:\s+\S.*)?)", raw, re.S)
-        if m and m[1] in self.helpers and m[2].strip():
-            return self.helpers[m[1]][1]
-        if raw.startswith("(") and raw.endswith(")"):
-            return self.value_place(raw[1:-1], env)
-        m = re.fullmatch(r"\((.*)\)((?:\.before)+)", raw, re.S)
+        while raw.startswith("(") and self.closes(raw) == len(raw) - 1:
+            raw = raw[1:-1].strip()
+        m = re.fullmatch(r"(.*?)((?:\.before)+)", raw, re.S)
         if m:
-            p = self.value_place(m[1], env)
+            got = self.place_value(m[1], env)
+            if not got:
+                return None
+            root, at, p = got
             for _ in range(m[2].count(".before")):
                 p = self.fn.parent(p) if p else None
-            return p
+            return (root, at, p) if p else None
+        if re.fullmatch(NAME, raw):
+            return env.get(raw)
+        m = re.fullmatch(r"(" + NAME + r")\s+(\S.*)", raw, re.S)
+        if m and m[1] in self.helpers and self.helpers[m[1]]["place"] and self.helpers[m[1]]["result"]:
+            toks = TOKEN.findall(m[2])
+            if self.operand(toks, 0) != len(toks):
+                return None
+            got = self.place_value(m[2], env)
+            if got:
+                return (got[0], got[1], self.helpers[m[1]]["result"])
         return None
 
-    def path(self, root, place, level, toks, i):
-        """The fields behind a value of a place: toks[i:] begins with '.', or the value is passed whole."""
-        fields = []
+    def closes(self, raw):
+        depth = 0
+        for n, ch in enumerate(raw):
+            depth += ch in "([{"
+            depth -= ch in ")]}"
+            if depth == 0:
+                return n
+        return -1
+
+    def call(self, name, h, got):
+        root, at, p = got
+        if self.need:
+            if p == at:
+                return f"{name} {root}"
+            return f"{name} (goal.at.{self.need} {root}).{self.view(h['place'])}"
+        if p == at:
+            return f"{name} {root}"
+        if h["body"] is None:
+            return f"{name} {root}"
+        # a lemma's own text, at a place further in
+        body = self.rename(h["body"], h["var"], root)
+        ty = self.rename(h["type"], h["var"], root)
+        if not ty:
+            return f"({body})"
+        return f"(let it : {ty} = {body} in it)"
+
+    def rename(self, text, old, new):
+        if not text or old == new:
+            return text
+        out, prev = "", ""
+        for t in TOKEN.findall(text):
+            out += new if t == old and prev != "." else t
+            prev = t
+        return out
+
+    def fields(self, got, toks, i):
+        """The fields behind a place: toks[i:] begins with '.', or the place is passed whole."""
+        root, at, p = got
+        names = []
         j = i
         while j + 1 < len(toks) and toks[j] == "." and re.fullmatch(NAME, toks[j + 1]):
-            fields.append(toks[j + 1])
+            names.append(toks[j + 1])
             j += 2
-        ups, p, start = 0, place, place
-        while fields and fields[0] == "before" and p:
-            fields.pop(0)
+        while names and names[0] == "before" and p:
+            names.pop(0)
             p = self.fn.parent(p)
-            ups += 1
-        if not fields:
-            return root + ".before" * (ups + (1 if level == "view" else 0)), j
-        f = norm(fields[0])
-        info = self.fn.places.get(p)
-        if info and norm(info["old"]) == f:
-            rest = fields[1:]
-            if level == "view":
-                # what an arm has a name for
-                for q in self.fn.chain(start):
-                    arm = self.fn.d["arms"][self.fn.places[q]["i"]]
-                    if arm:
-                        best = None
-                        for field, step, inner in arm[2]:
-                            if norm(step) == f and inner and rest[:len(inner)] == inner and (not best or len(inner) > best[1]):
-                                best = (field, len(inner))
-                        if best:
-                            return ".".join([root, arm[0], best[0]] + rest[best[1]:]), j
+        if not names:
+            return root, j
+        f, rest = norm(names[0]), names[1:]
+        if f.endswith("_lem"):
+            f = f[:-4]
+        if rest and rest[0] in WORDS:
+            rest[0] = WORDS[rest[0]]
+        steps = [q for q in self.fn.chain(p)] if p else []
+        for q in steps:
+            if norm(self.fn.places[q]["old"]) == f:
+                for r in self.fn.chain(at):
+                    arm = self.fn.d["arms"][self.fn.places[r]["i"]]
+                    best = None
+                    for field, step, inner in (arm[2] if arm else []):
+                        if norm(step) == f and inner and rest[:len(inner)] == inner and (not best or len(inner) > best[1]):
+                            best = (field, len(inner))
+                    if best:
+                        return ".".join([root, arm[0], best[0]] + rest[best[1]:]), j
                 if rest[:1] == ["given"]:
-                    for name, step in self.fn.d["typed"][self.fn.places[start]["i"]]:
+                    for name, step in self.fn.d["typed"][self.fn.places[at]["i"]]:
                         if norm(step) == f:
                             return ".".join([root, "type_inv", name] + rest[1:]), j
-            if info["old"].startswith("loop") and info["old"] != "loop-test" and rest and norm(rest[0]) not in ("invariant",):
-                pass
-            return ".".join([root, info["new"]] + rest), j
-        return ".".join([root] + fields), j
+                return ".".join([root, self.fn.places[q]["new"]] + rest), j
+        return ".".join([root] + names), j
 
     # -- declarations
     def run(self):
@@ -261,6 +340,7 @@ class Turner:
                     answers.append(t)
                 continue
             answers.append(self.helper(b))
+        answers = [a for a in answers if a]
         goal = f"use Rattle.{self.crate}.proofs.{self.module}."
         result = {}
         top = "\n".join(head)
@@ -268,7 +348,7 @@ class Turner:
             result["Invariants.antt"] = top + "\n" + "\n".join(uses) + "\n" + goal + "Given as goal\n\n" + "\n\n".join(invariants) + "\n"
         if answers:
             body = "\n\n".join(answers)
-            tie = goal + "Tie as tie\n" if "tie." in body else ""
+            tie = goal + "Goals.{" + ", ".join(sorted(self.views)) + "}\n" if self.views else ""
             result["Answers.antt"] = top + "\n" + "\n".join(uses) + "\n" + goal + "Goals as goal\n" + tie + "\n" + body + "\n"
         return result
 
@@ -309,11 +389,12 @@ class Turner:
         new = info["new"] if info else need
         clauses = []
         single = None
+        self.need = new
         for head, body in b["clauses"]:
             ps = self.params(head)[1:]
             env = {}
             if ps and info and info["at"] in self.fn.places:
-                env[ps[0]] = (info["at"], "view")
+                env[ps[0]] = (ps[0], info["at"], info["at"])
             if "κs" in ps:
                 ps.remove("κs")
             text = self.conv(body, env)
@@ -328,35 +409,49 @@ class Turner:
         return t
 
     def helper(self, b):
+        self.need = None
         m = re.match(r"((?:pub |abbrev |unfoldable )*)(\S+) :\s*(.*)$", b["sig"], re.S)
         prefix, name, ty = m[1], m[2], m[3]
         parts = split_arrows(ty)
-        names, places, env = [], [], {}
-        for p in parts[:-1]:
-            mm = re.match(r"^\((.*?) : (.*)\)$", p, re.S)
+        vars_, places, env = [], [], {}
+        for part in parts[:-1]:
+            mm = re.match(r"^\((.*?) : (.*)\)$", part, re.S)
             if mm:
                 place = self.place_of(mm[2])
                 for v in mm[1].split():
-                    names.append(v)
+                    vars_.append(v)
                     places.append(place)
-                    env[v] = (place, "lts") if place else None
-            elif p.startswith("{"):
+                    env[v] = (v, place, place) if place else None
+            elif part.startswith("{"):
                 continue
             else:
-                names.append(None)
-                places.append(self.place_of(p))
+                vars_.append(None)
+                places.append(self.place_of(part))
         result = self.place_of(parts[-1])
-        self.helpers[name] = (places, result)
+        h = dict(place=places[0] if places else None, result=result, var=None, body=None, type=None)
+        if result and len(places) == 1 and places[0]:
+            self.helpers[name] = h
+            return None
         sig = prefix + name + " : " + self.types(self.conv(ty, env))
         clauses = []
         for head, body in b["clauses"]:
             ps = self.params(head)[1:]
             e = {}
-            explicit = [p for p in ps if not p.startswith("{")]
+            explicit = [q for q in ps if not q.startswith("{")]
             for v, place in zip(explicit, places):
                 if re.fullmatch(NAME, v):
-                    e[v] = (place, "lts") if place else None
-            clauses.append(head.rstrip() + " =" + self.types(self.conv(body, e)))
+                    e[v] = (v, place, place) if place else None
+            text = self.types(self.conv(body, e))
+            clauses.append(head.rstrip() + " =" + text)
+            if len(b["clauses"]) == 1 and len(explicit) == 1 and places and places[0]:
+                h["var"], h["body"] = explicit[0], text.strip()
+                inner = split_arrows(ty)[1:]
+                typed = dict(env)
+                if vars_[0] is None:
+                    h["type"] = self.types(self.conv(" → ".join(inner), {}))
+                else:
+                    h["type"] = self.rename(self.types(self.conv(" → ".join(inner), typed)), vars_[0], explicit[0])
+        self.helpers[name] = h
         unf = b["unfolding"] + "\n" if b["unfolding"] else ""
         return b["note"] + sig.rstrip() + "\n" + unf + "\n".join(c.rstrip() for c in clauses)
 

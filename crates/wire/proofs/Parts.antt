@@ -33,13 +33,13 @@ module _ {A : Type 0} (L : Layout A) where
   sound_first : {h at : ℕ} (k : ℕ) → k ≤ h → Sound L h at → Sound L k at
   sound_first zero l s = none
   sound_first (suc k) l none = absurd (not-suc-le-zero l)
-  sound_first (suc k) l (more ok s) = more ok (sound_first k (omega arith) s)
+  sound_first (suc k) l (more {k = h'} ok s) = more ok (sound_first {h = h'} k (omega arith) s)
 
   sound_rest : {h at : ℕ} (i k : ℕ) → i + k ≤ h → Sound L h at → Sound L k (end L i at)
   unfolding end
   sound_rest zero k l s = sound_first k (omega arith) s
   sound_rest (suc i) k l none = absurd (omega arith)
-  sound_rest (suc i) k l (more ok s) = sound_rest i k (omega arith) s
+  sound_rest (suc i) k l (more {k = h'} ok s) = sound_rest {h = h'} i k (omega arith) s
 
   pub sound_at : {h at : ℕ} (i : ℕ) → i < h → Sound L h at → L.Ok (end L i at)
   sound_at {h} {at} i l s = go (sound_rest i 1 (omega arith) s)

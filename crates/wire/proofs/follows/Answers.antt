@@ -1,8 +1,7 @@
 -- `wire::follows` meets its contract: what wraps is below what is left up to n only where the source is below n and not below the one before it.
 use Rattle.std.proofs.Common.{◌≡◌, ℕ, ◌+◌, ◌-◌, ◌%◌, ◌^◌, ◌<◌, ◌≤◌, ◌&&◌, ltb, leb, arith, rules, ltb-false, ltb-true, le-ltb, lt-ltb, leb-false, leb-true}
 use Rattle.lists.proofs.Tests.{by_test}
-use Rattle.wire.proofs.follows.Statement.{statement}
-use Rattle.wire.proofs.follows.Tie as tie
+use Rattle.wire.proofs.follows.Goals as goal
 
 -- how far a source is above the one before it, modulo 2^32
 tells : (source n prev above : ℕ) → prev ≤ n → n < 2 ^ 32 → above < 2 ^ 32 → (above + prev) % 2 ^ 32 ≡ source → ltb above (n - prev) ≡ (ltb source n && leb prev source)
@@ -14,17 +13,8 @@ tells source n prev above most fits small wraps =
     (λ down. let low = leb-false prev source down in rw (named, down) (le-ltb above (n - prev) (omega arith))))
     (λ unnamed. let high = ltb-false source n unnamed in rw unnamed (le-ltb above (n - prev) (omega arith)))
 
-wrapping-sub-u32-requires : tie.Need-wrapping-sub-u32-requires
-wrapping-sub-u32-requires c κs = search rules
-
-sub-room : tie.Need-overflow-sub-room
-sub-room c = search rules
-
-returns : tie.Need-returns
+pub returns : goal.returns
 returns c =
-    let w = c.wrapping-sub-u32 in
-    let a = c.before.args in
-    tells a.source a.n a.prev w.result c.before.requires (omega arith) (omega arith) w.ensures
-
-pub follows_spec : {M : Type 1} → statement M
-follows_spec = tie.close (tie.spec wrapping-sub-u32-requires sub-room returns)
+    let w = c.wrapping_sub_u32-above in
+    let a = c.args in
+    tells a.source a.n a.prev w.result c.requires (omega arith) (omega arith) w.ensures
