@@ -1,6 +1,6 @@
 # Shared by bindings/check.sh and bench/run.sh, which read it with `.`: how programs for x86-64 Linux are
 # built and run on this machine. On x86-64 they are built by the machine's own compilers and run as they are.
-# Elsewhere they are built by Debian's cross compiler and run under the emulator of the Rattle kit; for Rust,
+# Elsewhere they are built by Debian's cross compiler and run under the emulator of a Rattle kit that has one; for Rust,
 # which wants a library for x86-64 that rustup may be unable to fetch, Debian's compiler is unpacked below
 # target/, and programs with Rust's own `main` run under Debian's emulator, unpacked there too: the kit's
 # emulator cannot read /proc/self/maps, which such a program does when it starts.
@@ -13,8 +13,8 @@ die() {
 
 target=$root/target
 machine=$(uname -m)
-kit=$(dirname "$(dirname "$(rt doc)")")
-tools=$kit/on/$machine/toolchain
+kit=$(dirname "$(rt doc)")
+tools=$kit/toolchain
 triple=x86_64-unknown-linux-gnu
 
 # Runs a command as root: the installation of a Debian package.
@@ -38,7 +38,7 @@ c_tools() {
         nm=nm
         run=
         emulated="as they are"
-        command -v gcc >/dev/null || die "gcc is not on the path"
+        installed gcc gcc libc6-dev
         return
     fi
     gcc=x86_64-linux-gnu-gcc
@@ -53,7 +53,7 @@ c_tools() {
 # Sets `rustc`, `rustdoc` (for x86-64) and `run_rust`; fails where there is no way.
 rust_tools() {
     if [ "$machine" = x86_64 ]; then
-        command -v rustc >/dev/null || return 1
+        installed rustc rustc
         rustc="rustc --edition 2021"
         rustdoc="rustdoc --edition 2021"
         run_rust=
@@ -111,12 +111,10 @@ unpack_rust() {
     unpack "$(depended "$driver" libllvm)"
 }
 
-# The archive for C and Rust, proved and compiled: target/lib/libotzarvim.a. What it stands on is proved before, on all cores, since
-# rt staticlib takes one crate after another.
+# The archive for C and Rust, proved and compiled: target/lib/libotzarvim.a. What it stands on is proved before, one crate after another.
 archive() {
     mkdir -p "$target/lib"
-    # shellcheck disable=SC2046
-    (cd "$root" && rt check $(sed -n 's/^export: *//p' crates.txt) && rt staticlib export) >"$target/lib/log" 2>&1 ||
+    (cd "$root/crates/export" && rt lib) >"$target/lib/log" 2>&1 ||
         { cat "$target/lib/log"; die "the library is not proved"; }
-    cp "$target/staticlib/libexport.a" "$target/lib/libotzarvim.a"
+    cp "$root/crates/export/out/libexport.a" "$target/lib/libotzarvim.a"
 }
