@@ -33,5 +33,7 @@ caught() { # FOLDER NAME CRATE RT-WORD
         { cat "$folder/log"; die "$name is not proved"; }
     [ -e "$folder/kit/module.bc" ] || die "rt handed no module of $name to its compiler"
     "$kit_clang" --target="$triple" -S -emit-llvm -Xclang -disable-llvm-passes -x ir "$folder/kit/module.bc" -o "$folder/$name.ll"
-    sed -i -e '/^target triple/d' -e '/^target datalayout/d' -e 's/"target-cpu"="[^"]*"//' -e 's/"probe-stack"="inline-asm"//' -e 's/"stack-probe-size"="[0-9]*"//' "$folder/$name.ll"
+    # (ptrtoaddr gives as many bits as this machine's addresses have; ptrtoint any)
+    sed -i -e '/^target triple/d' -e '/^target datalayout/d' -e 's/"target-cpu"="[^"]*"//' -e 's/"probe-stack"="inline-asm"//' -e 's/"stack-probe-size"="[0-9]*"//' \
+        -e 's/= ptrtoaddr /= ptrtoint /' "$folder/$name.ll"
 }

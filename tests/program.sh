@@ -4,7 +4,7 @@
 #
 #   tests/program.sh [SEED] [CASES]
 #
-# The program is target/bin/otzarvim, as `rt check otzarvim` leaves it, or the file that OTZARVIM names,
+# The program is crates/otzarvim/out/otzarvim, as `rt run` there leaves it, or the file that OTZARVIM names,
 # and runs as rt runs programs, JOBS at a time (2 unless set). Each case is read from a file; some also
 # come through a pipe in pieces, with pauses. Exit status 1 at the first difference: the case is shown,
 # and left in target/program.
