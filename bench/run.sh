@@ -13,14 +13,15 @@ c_tools
 rust_tools || die "no Rust compiler for x86-64"
 
 # The Rattle library and the program; elsewhere than on x86-64 also the same LLVM modules for this machine.
-here() { # NAME CRATE RT-WORD
+here() { # NAME CRATE RT-WORDS
     caught "$out" "$@"
     "$kit_clang" --target="$machine-unknown-linux-gnu" -Wno-override-module -O3 -fPIC -c -x ir "$out/$1.ll" -o "$out/$1-here.o"
 }
 
 archive
 if [ "$machine" != x86_64 ]; then
-    here library export lib
+    # shellcheck disable=SC2086
+    here library export $archive_words
     here program otzarvim run
 else
     (cd "$root/crates/otzarvim" && rt run </dev/null) >"$out/log" 2>&1 || { cat "$out/log"; die "the program is not proved"; }

@@ -111,10 +111,14 @@ unpack_rust() {
     unpack "$(depended "$driver" libllvm)"
 }
 
+# The words by which rt makes the archive: for every x86-64 processor, since an archive, other than a program, does not look at what it runs on.
+archive_words="lib --cpu x86-64"
+
 # The archive for C and Rust, proved and compiled: target/lib/libotzarvim.a. What it stands on is proved before, one crate after another.
 archive() {
     mkdir -p "$target/lib"
-    (cd "$root/crates/export" && rt lib) >"$target/lib/log" 2>&1 ||
+    # shellcheck disable=SC2086
+    (cd "$root/crates/export" && rt $archive_words) >"$target/lib/log" 2>&1 ||
         { cat "$target/lib/log"; die "the library is not proved"; }
     cp "$root/crates/export/out/libexport.a" "$target/lib/libotzarvim.a"
 }

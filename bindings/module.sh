@@ -24,12 +24,13 @@ mirrored() { # FOLDER
 }
 
 # Has rt prove and compile a crate, by `lib` or by `run`, and leaves the module as FOLDER/NAME.ll, without what names a machine.
-caught() { # FOLDER NAME CRATE RT-WORD
-    local folder=$1 name=$2 crate=$root/crates/$3 word=$4
+caught() { # FOLDER NAME CRATE RT-WORDS
+    local folder=$1 name=$2 crate=$3
+    shift 3
     mkdir -p "$folder"
     mirrored "$folder/kit"
     # what the crate stands on is proved by the real kit, which shares its work; and with a stamp a program would not be compiled again
-    (cd "$crate" && rt "$word" </dev/null && rm -f "out/$3.stamp" && "$folder/kit/bin/rt" "$word" </dev/null) >"$folder/log" 2>&1 ||
+    (cd "$root/crates/$crate" && rt "$@" </dev/null && rm -f "out/$crate.stamp" && "$folder/kit/bin/rt" "$@" </dev/null) >"$folder/log" 2>&1 ||
         { cat "$folder/log"; die "$name is not proved"; }
     [ -e "$folder/kit/module.bc" ] || die "rt handed no module of $name to its compiler"
     "$kit_clang" --target="$triple" -S -emit-llvm -Xclang -disable-llvm-passes -x ir "$folder/kit/module.bc" -o "$folder/$name.ll"

@@ -10,7 +10,8 @@ work=$target/web-work
 most=65536 # bytes of the library
 
 # The functions that the header promises, and nothing else; the stack stands first, so that one that is too deep ends the call.
-caught "$work" library export lib
+# shellcheck disable=SC2086
+caught "$work" library export $archive_words
 "$kit_clang" --target=wasm32-unknown-unknown -Wno-override-module -mbulk-memory -O3 -c -x ir "$work/library.ll" -o "$work/library.o"
 ln -sf "$tools/bin/ld.lld" "$work/wasm-ld"
 grep -o '^uint8_t otzarvim_[a-z_]*' "$root/include/otzarvim.h" | cut -d' ' -f2 | sort >"$work/functions"

@@ -22,6 +22,7 @@ from .running import ROOT, build, built, command, environment, kit_tools, said_o
 
 VARIABLE = "OTZARVIM_LIBRARY"
 CRATE = "export"
+WORDS = "lib --cpu x86-64"  # of rt, which makes the archive, for every x86-64 processor
 _ASKED = ">III"
 _ANSWERED = ">BQIIIII"
 _LONGEST_MODEL, _LONGEST_FORMULA = 2_097_152, 4_096
@@ -160,9 +161,9 @@ def _find(root: Path) -> Path:
     archive = built(root, CRATE, f"lib{CRATE}.a")
     made = root / "target" / "otz" / ("libotzarvim.so" if os.uname().machine == "x86_64" else "bridge")
     if not archive.is_file() and not made.is_file():
-        build(root, "lib", CRATE, "The library")
+        build(root, WORDS, CRATE, "The library")
         if not archive.is_file():
-            raise Mistake(Place(str(archive)), f"{said_of('lib', CRATE)} left no archive here")
+            raise Mistake(Place(str(archive)), f"{said_of(WORDS, CRATE)} left no archive here")
     if archive.is_file() and (not made.is_file() or made.stat().st_mtime < archive.stat().st_mtime):
         link(root, archive, made)
     return made

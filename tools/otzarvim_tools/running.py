@@ -15,6 +15,7 @@ from .mistakes import Mistake, Place
 
 VARIABLE = "OTZARVIM"
 NAME = "otzarvim"
+WORDS = "run"  # of rt, which makes a program
 ROOT = Path(__file__).resolve().parents[2]
 
 
@@ -27,9 +28,9 @@ def find_program(option: Optional[str] = None, root: Path = ROOT) -> Path:
         return Path(given)
     program = built(root, NAME, NAME)
     if not program.is_file():
-        build(root, "run", NAME, "The checker")
+        build(root, WORDS, NAME, "The checker")
     if not program.is_file():
-        raise Mistake(Place(str(program)), f"{said_of('run', NAME)} left no program here")
+        raise Mistake(Place(str(program)), f"{said_of(WORDS, NAME)} left no program here")
     return program
 
 
@@ -38,23 +39,22 @@ def built(root: Path, crate: str, name: str) -> Path:
     return root / "crates" / crate / "out" / name
 
 
-def said_of(verb: str, crate: str) -> str:
+def said_of(words: str, crate: str) -> str:
     """The command that makes it."""
-    return f"'rt {verb}' in crates/{crate}"
+    return f"'rt {words}' in crates/{crate}"
 
 
-def build(root: Path, verb: str, crate: str, what: str) -> None:
+def build(root: Path, words: str, crate: str, what: str) -> None:
     """Proves and builds a crate, and says how far it has come. All else that `rt` says is shown only if it fails, without what it
     said of crates that it proved. A program is run once, on no input."""
-    said = said_of(verb, crate)
+    said = said_of(words, crate)
     if shutil.which("rt") is None:
         raise Mistake(Place(NAME), f"{what.lower()} isn't built, and there is no 'rt' on the path to build it with ('{said}'): install the Rattle kit, README.md says which")
     print(f"{what} isn't built yet. It is proved and built now, once; that takes some minutes ({said}).", file=sys.stderr, flush=True)
     total, proved = _crates(root, crate), 0
     name, began = crate, time.monotonic()  # the crate that is being proved
     block: List[str] = []  # what it said since it proved a crate
-    words, folder = ["rt", verb], root / "crates" / crate
-    with subprocess.Popen(words, cwd=folder, stdin=subprocess.DEVNULL, stdout=subprocess.PIPE, stderr=subprocess.STDOUT, text=True, errors="replace") as rt:
+    with subprocess.Popen(["rt", *words.split()], cwd=root / "crates" / crate, stdin=subprocess.DEVNULL, stdout=subprocess.PIPE, stderr=subprocess.STDOUT, text=True, errors="replace") as rt:
         for line in rt.stdout or ():
             block.append(line)
             begun = re.fullmatch(r"rt: chose --jobs \d+ for (\S+)\n", line)

@@ -146,7 +146,7 @@ class Building(Surroundings):
         made = self.find()
         self.assertEqual(made, self.folder / "target/otz" / ("libotzarvim.so" if native else "bridge"))
         self.assertEqual(self.asked(), ["lib", "ld.lld"] if native else ["lib", "clang", "ld.lld"])
-        self.assertIn("'rt lib' in crates/export", self.quiet.getvalue())
+        self.assertIn("'rt lib --cpu x86-64' in crates/export", self.quiet.getvalue())
         self.find()
         self.assertEqual(self.asked(), [])
         # a newer archive is linked again, and proved by whoever made it
@@ -170,7 +170,7 @@ class Building(Surroundings):
         self.mistake(lambda: library.link(ROOT, archive, made), "ended with status 5: no")
         self.assertFalse(made.exists())
         self.script("kit/bin/rt", "#!/bin/sh\nexit 0\n")
-        self.mistake(self.find, "'rt lib' in crates/export left no archive here")
+        self.mistake(self.find, "'rt lib --cpu x86-64' in crates/export left no archive here")
         os.environ["PATH"] = str(self.folder)
         self.mistake(lambda: library.link(ROOT, archive, made), "install the Rattle kit")
         self.mistake(self.find, "the library isn't built, and there is no 'rt'")
