@@ -4,6 +4,10 @@
 # The kit's compiler: the one that compiles the library. It comes without headers.
 kit_clang=$tools/bin/clang
 
+# A folder outside the checkout, removed at the end: rt ci refuses links in a checkout, and sources that no crate reads.
+room=$(mktemp -d)
+trap 'rm -rf "$room"' EXIT
+
 # A kit that is the real one but for its compiler, which also keeps the module that it is to compile: of an archive and of a program, which are
 # compiled at -O3, and of what `rt try` compiles with checks. rt goes by where its own file stands, so that is a copy.
 mirrored() { # FOLDER
@@ -28,12 +32,12 @@ caught() { # FOLDER NAME CRATE RT-WORDS
     local folder=$1 name=$2 crate=$3
     shift 3
     mkdir -p "$folder"
-    mirrored "$folder/kit"
+    mirrored "$room/kit"
     # what the crate stands on is proved by the real kit, which shares its work; and with a stamp a program would not be compiled again
-    (cd "$root/crates/$crate" && rt "$@" </dev/null && rm -f "out/$crate.stamp" && "$folder/kit/bin/rt" "$@" </dev/null) >"$folder/log" 2>&1 ||
+    (cd "$root/crates/$crate" && rt "$@" </dev/null && rm -f "out/$crate.stamp" && "$room/kit/bin/rt" "$@" </dev/null) >"$folder/log" 2>&1 ||
         { cat "$folder/log"; die "$name is not proved"; }
-    [ -e "$folder/kit/module.bc" ] || die "rt handed no module of $name to its compiler"
-    "$kit_clang" --target="$triple" -S -emit-llvm -Xclang -disable-llvm-passes -x ir "$folder/kit/module.bc" -o "$folder/$name.ll"
+    [ -e "$room/kit/module.bc" ] || die "rt handed no module of $name to its compiler"
+    "$kit_clang" --target="$triple" -S -emit-llvm -Xclang -disable-llvm-passes -x ir "$room/kit/module.bc" -o "$folder/$name.ll"
     # (ptrtoaddr gives as many bits as this machine's addresses have; ptrtoint any)
     sed -i -e '/^target triple/d' -e '/^target datalayout/d' -e 's/"target-cpu"="[^"]*"//' -e 's/"probe-stack"="inline-asm"//' -e 's/"stack-probe-size"="[0-9]*"//' \
         -e 's/= ptrtoaddr /= ptrtoint /' "$folder/$name.ll"
