@@ -34,6 +34,8 @@ class Function:
         self.needs = {}
         for i, (old, new) in enumerate(data["needs"]):
             self.needs[norm(old)] = dict(new=new, at=norm(data["asked_at"][i][0]) if i < len(data["asked_at"]) else None)
+        for it in list(self.needs.values()):
+            self.needs.setdefault(norm(it["new"]), it)
         self.settled = {norm(s) for s in data["settled"]}
         self.loops = {}
         for (names, vars_), changed in zip(data["loops"], data["changed"]):
@@ -299,7 +301,10 @@ class Turner:
                     for name, step in self.fn.d["typed"][self.fn.places[at]["i"]]:
                         if norm(step) == f:
                             return ".".join([root, "type_inv", name] + rest[1:]), j
-                return ".".join([root, self.fn.places[q]["new"]] + rest), j
+                new = self.fn.places[q]["new"]
+                if new.startswith("in_default") and rest[:1] == ["rest"]:
+                    rest = [new + "-own"] + rest
+                return ".".join([root, new] + rest), j
         return ".".join([root] + names), j
 
     # -- declarations
