@@ -105,6 +105,10 @@ class Turner:
         m = re.match(r"^\(?\s*tie\.(" + NAME + r")((?: +\(?(?:invariant|decreases)[^\s()]*\)?)*)\s*\)?$", ty.strip())
         if m and norm(m[1]) in self.fn.places:
             return norm(m[1])
+        if m:
+            other = re.sub(r"_arg(\d+)$", r"\1_arg", norm(m[1]))
+            if other in self.fn.places:
+                return other
         return None
 
     def view(self, place):
@@ -116,8 +120,8 @@ class Turner:
         text = re.sub(r"\b(\w+)\.inv\b", r"\1.invariant", text)
 
         def one(m):
-            name = norm(m[1])
-            if name in self.fn.places:
+            name = self.place_of("tie." + m[1])
+            if name:
                 return self.view(name)
             if m[1].startswith("Need-"):
                 need = self.fn.need(m[1][5:])
@@ -299,6 +303,11 @@ class Turner:
             for q in (self.fn.chain(p) if p else []):
                 if norm(self.fn.places[q]["old"]) == f:
                     callee = self.fn.d["places"][self.fn.places[q]["i"]][3]
+                    word = WORDS.get(rest[0], rest[0]) if rest else ""
+                    if word in ("new", "auto") and len(rest) > 1 and rest[1] == "1" and self.fn.d["params"].get(callee):
+                        named = by_name(rest[1:], self.fn.d["params"][callee] + ["none"])
+                        if not named or named[0] == "none":
+                            return got + (names,)
                     if rest[:1] == ["ensures"] and clause_names(callee, "ensures") and not (rest[1:] and by_name(rest[1:], clause_names(callee, "ensures"))):
                         return got + (names,)
                     if not rest and callee and clause_names(callee, "ensures"):
@@ -383,10 +392,10 @@ class Turner:
                     named = by_name(rest[1:], names_) if names_ else None
                     if named:
                         rest = ["ensures"] + named
-                if rest[:1] == ["new"] and len(rest) > 1 and rest[1] in "01" and self.fn.d["params"].get(callee):
+                if rest[:1] in (["new"], ["auto"]) and len(rest) > 1 and rest[1] in "01" and self.fn.d["params"].get(callee):
                     named = by_name(rest[1:], self.fn.d["params"][callee] + ["none"])
                     if named:
-                        rest = ["new"] + named
+                        rest = rest[:1] + named
                 if rest[:1] == ["given"]:
                     for name, step in self.fn.d["typed"][self.fn.places[at]["i"]]:
                         if norm(step) == f:
@@ -401,6 +410,8 @@ class Turner:
             named = by_name(names[1:], own) if own else None
             if named:
                 names = ["requires"] + named
+            elif own and all(n == "1" for n in names[1:]):
+                names = ["requires"]
         return ".".join([root] + names), j
 
     def source(self):
@@ -661,7 +672,7 @@ class Turner:
                     more = mm[1].split()[1:]
                     left = ([f"({' '.join(more)} : {mm[2]})"] if more else []) + groups[1:]
                     rest = ([" ".join(left)] if left else []) + rest
-                h["typevar"], h["type"] = vars_[0], " → ".join(rest)
+                h["typevar"], h["type"] = vars_[0], re.sub(r"\{([^{}]* : [^{}]*)\}", r"(\1)", " → ".join(rest))
                 h["plain"] = "abbrev" in prefix
         self.helpers[name] = h
         unf = b["unfolding"] + "\n" if b["unfolding"] else ""
@@ -773,6 +784,8 @@ def top_parts(text):
 
 def as_record(body, names):
     """A tuple for several clauses as a record by their names."""
+    if len(names) == 2 and re.fullmatch(r"\s*" + NAME + r" [^\n]*", body) and not re.match(r"\s*(search|omega|grind|simp|rw|let|elim|subst|cc|record|absurd)\b", body):
+        return f"let it = {body.strip()} in record {{ {names[0]} = it.0; {names[1]} = it.1 }}"
     m = list(re.finditer(r"\bin\b\s", body))
     starts = [0] + [x.end() for x in m]
     for start in starts:
@@ -834,7 +847,7 @@ def split_blocks(text):
             raise SystemExit("no declaration: " + line)
         name = m[1]
         j = i + 1
-        while j < n and lines[j].startswith((" ", ")")):
+        while j < n and lines[j].startswith((" ", ")", "}")):
             j += 1
         sig = "\n".join(lines[i:j])
         unfolding = ""
@@ -853,7 +866,7 @@ def split_blocks(text):
                 break
             if re.match(re.escape(name) + r"(\s|$)", lines[j]):
                 k = j + 1
-                while k < n and lines[k].startswith((" ", ")")):
+                while k < n and lines[k].startswith((" ", ")", "}")):
                     k += 1
                 chunk = "\n".join(lines[j:k])
                 eq = top_equals(chunk)
