@@ -34,6 +34,7 @@ finites_some g i v l e = how_many_some (λ v. finite (rounds g i v)) (up_to g.no
 
 -- w for each of the nodes before the last, and w once more
 one_more : (w m a : ℕ) → a ≤ w → 0 < m → a + (m - 1) * w ≤ m * w
+one_more w zero a h l = elim l [ ]
 one_more w (suc m) a h l = let e : suc m - 1 ≡ m = omega arith in rw (suc-mul, e) (omega arith)
 
 module _ (g : Graph) (closed : Closed g) (w : ℕ) (light : Light g w) where

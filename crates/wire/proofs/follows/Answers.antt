@@ -17,4 +17,4 @@ pub returns : goal.returns
 returns c =
     let w = c.wrapping_sub_u32-above in
     let a = c.args in
-    tells a.source a.n a.prev w.result c.requires (omega arith) (omega arith) w.ensures
+    tells a.source a.n a.prev w.result c.requires (omega arith) (omega arith) w.ensures.value

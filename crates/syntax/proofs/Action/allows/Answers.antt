@@ -1,0 +1,6 @@
+-- `syntax::Action::allows` meets its contract: the one action given, or any.
+use borrow.Author.Rules.{rules}
+use Rattle.syntax.proofs.Action.allows.Goals as goal
+
+pub returns-in-Only : goal.returns-in-Only
+returns-in-Only c = rw c.in-Only.is

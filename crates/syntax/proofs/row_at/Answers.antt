@@ -1,0 +1,7 @@
+-- `syntax::row_at` meets its contract: the row of the fields that stand there.
+use borrow.Author.Rules.{rules}
+use Rattle.syntax.proofs.row_at.Goals as goal
+
+pub returns : goal.returns
+returns c =
+    rw (← c.number_at-operator.ensures, ← c.number_at-left.ensures, ← c.number_at-right.ensures, ← c.number_at-bound.ensures) c.row_of.ensures
