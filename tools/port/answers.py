@@ -101,6 +101,7 @@ class Turner:
         self.dropped = {}
         self.invs = []
         self.views = set()
+        self.unfolds = set()
         self.need = None
         self.cycle = path.split("/")[-1].startswith("+")
 
@@ -348,8 +349,9 @@ class Turner:
             return f"{name} {root}"
         # a lemma's own text, at a place further in
         here = (root, at, h["place"])
+        self.unfolds.update(h["unfolds"])
         body = self.types(self.conv(h["body"], {h["var"]: here})).strip()
-        if h["plain"]:
+        if h["plain"] and not body.startswith("λ"):
             return f"({body})"
         ty = self.types(self.conv(h["type"], {h["typevar"]: here} if h["typevar"] else {})).strip()
         return f"(let it : {ty} = {body} in it)" + " _" * h["hidden"]
@@ -654,7 +656,8 @@ class Turner:
                     places.append(place)
                     env[v] = (v, place, place) if place else None
         result = self.place_of(parts[-1])
-        h = dict(place=places[0] if places else None, result=result, var=None, body=None, type=None, hidden=0)
+        h = dict(place=places[0] if places else None, result=result, var=None, body=None, type=None, hidden=0, unfolds=b["unfolding"].split()[1:])
+        self.unfolds = set()
         if result and len(places) == 1 and places[0]:
             self.helpers[name] = h
             return None
@@ -685,7 +688,8 @@ class Turner:
                 h["typevar"], h["type"] = vars_[0], re.sub(r"\{([^{}]* : [^{}]*)\}", r"(\1)", " → ".join(rest))
                 h["plain"] = "abbrev" in prefix
         self.helpers[name] = h
-        unf = b["unfolding"] + "\n" if b["unfolding"] else ""
+        h["unfolds"] = h["unfolds"] + sorted(self.unfolds - set(h["unfolds"]))
+        unf = "unfolding " + " ".join(h["unfolds"]) + "\n" if h["unfolds"] else ""
         return b["note"] + sig.rstrip() + "\n" + unf + "\n".join(c.rstrip() for c in clauses)
 
     def invariant(self, b, kind, loop):
@@ -709,8 +713,11 @@ class Turner:
                     subst[p] = f"l.{v if isinstance(v, str) else v[0]}"
             toks = TOKEN.findall(body)
             res, prev = "", ""
-            for t in toks:
-                if t in subst and prev != ".":
+            for n, t in enumerate(toks):
+                follows = [x for x in toks[n + 1:n + 3] if not x.isspace()][:1]
+                # the name of a record's field is no variable
+                field = follows == ["="] and res.rstrip()[-1:] in "{;"
+                if t in subst and prev != "." and not field:
                     res += subst[t]
                 else:
                     res += t
@@ -794,9 +801,6 @@ def top_parts(text):
 
 def as_record(body, names, own=()):
     """A tuple for several clauses as a record by their names; own are those of the function's requires."""
-    if len(names) >= 2 and re.fullmatch(r"\s*" + NAME + r" [^\n]*", body) and not re.match(r"\s*(search|omega|grind|simp|rw|let|elim|subst|cc|record|absurd)\b", body):
-        paths = [".1" * i + (".0" if i < len(names) - 1 else "") for i in range(len(names))]
-        return f"let it = {body.strip()} in record {{ " + "; ".join(f"{n} = it{p}" for n, p in zip(names, paths)) + " }"
     m = list(re.finditer(r"\bin\b\s", body))
     starts = [0] + [x.end() for x in m]
     for start in starts:
@@ -817,6 +821,12 @@ def as_record(body, names, own=()):
         if len(parts) == len(names):
             space = re.match(r"\s*", body[start:])[0]
             return body[:start] + space + "record { " + "; ".join(f"{n} = {q}" for n, q in zip(names, parts)) + " }"
+    tail = starts[-1]
+    space = re.match(r"\s*", body[tail:])[0]
+    tail += len(space)
+    if re.match(NAME + r"\s+\S", body[tail:]) and not re.match(r"(search|omega|grind|simp|rw|let|elim|subst|cc|record|absurd|λ)\b", body[tail:]):
+        paths = [".1" * i + (".0" if i < len(names) - 1 else "") for i in range(len(names))]
+        return body[:tail] + f"let it = {body[tail:].strip()} in record {{ " + "; ".join(f"{n} = it{p}" for n, p in zip(names, paths)) + " }"
     return body
 
 
