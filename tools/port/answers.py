@@ -33,21 +33,44 @@ class Function:
             self.places[norm(name)] = dict(name=name, parent=norm(parent) if parent else None, old=step[0], new=step[1], i=i)
         self.needs = {}
         for i, (old, new) in enumerate(data["needs"]):
-            self.needs[norm(old)] = dict(new=new, at=norm(data["asked_at"][i][0]) if i < len(data["asked_at"]) else None)
-        for it in list(self.needs.values()):
-            self.needs.setdefault(norm(it["new"]), it)
+            self.needs[norm(old)] = dict(new=new, at=norm(data["asked_at"][i][0]) if i < len(data["asked_at"]) else None, view=data["asked_at"][i][1] if i < len(data["asked_at"]) else None)
+        self.by_new = {norm(it["new"]): it for it in self.needs.values()}
         self.settled = {norm(s) for s in data["settled"]}
         self.loops = {}
         for (names, vars_), changed in zip(data["loops"], data["changed"]):
             self.loops[norm(names[0])] = (names[1], vars_, changed)
 
     def parent(self, p):
-        return self.places[p]["parent"] if p in self.places else None
+        # what was a step of its own before the first place is part of the start today
+        return (self.places[p]["parent"] or p) if p in self.places else None
+
+    def need(self, name):
+        for n in (norm(re.sub(r"^overflow[-_]", "", name)), norm(name)):
+            if n in self.needs:
+                return self.needs[n]
+        return self.by_new.get(norm(name))
 
     def chain(self, p):
         while p:
             yield p
-            p = self.parent(p)
+            p = self.places[p]["parent"] if p in self.places else None
+
+
+def binders(part):
+    """The groups of a part such as (a b : A) {c : C}; None for a type."""
+    groups, depth, start = [], 0, None
+    for n, ch in enumerate(part):
+        if ch in "([{":
+            if depth == 0:
+                start = n
+            depth += 1
+        elif ch in ")]}":
+            depth -= 1
+            if depth == 0:
+                groups.append(part[start:n + 1])
+        elif depth == 0 and not ch.isspace():
+            return None
+    return groups if groups and all(" : " in g for g in groups) else None
 
 
 def split_arrows(text):
@@ -90,12 +113,14 @@ class Turner:
         return name
 
     def types(self, text):
+        text = re.sub(r"\b(\w+)\.inv\b", r"\1.invariant", text)
+
         def one(m):
             name = norm(m[1])
             if name in self.fn.places:
                 return self.view(name)
             if m[1].startswith("Need-"):
-                need = self.fn.needs.get(norm(m[1][5:])) or self.fn.needs.get(norm(re.sub(r"^overflow.", "", m[1][5:])))
+                need = self.fn.need(m[1][5:])
                 if need:
                     return "goal." + need["new"]
             return m[0]
@@ -106,7 +131,10 @@ class Turner:
     def conv(self, text, env):
         toks = TOKEN.findall(text)
         out, _ = self.seq(toks, 0, dict(env), None)
-        return out
+        # what a test of a negation says is said of the test itself today
+        at = r"(\w+\.(?:if|loop)[^\s()]*\.(?:true|false))"
+        out = re.sub(r"\(not[-_](?:true|false) _ " + at + r"\)", r"\1", out)
+        return re.sub(r"\bnot[-_](?:true|false) _ " + at, r"\1", out)
 
     def operand(self, toks, i):
         """Where the operand that begins at i ends: a name or a group, with its fields."""
@@ -164,7 +192,10 @@ class Turner:
                     i = j
                     continue
             if re.fullmatch(NAME, t) and env.get(t) and not behind_dot:
-                s, i = self.fields(env[t], toks, i + 1)
+                if len(env[t]) == 4:
+                    s, i = self.fields(env[t][:3], toks, i + 1, env[t][3])
+                else:
+                    s, i = self.fields(env[t], toks, i + 1)
                 out += s
                 continue
             if t == "let":
@@ -191,6 +222,13 @@ class Turner:
                         while i < len(toks) and toks[i].isspace():
                             i += 1
                         continue
+                    part = self.partial("".join(toks[k + 1:j]), env)
+                    if part:
+                        env[m[2]] = part
+                        i = j + 1
+                        while i < len(toks) and toks[i].isspace():
+                            i += 1
+                        continue
                     val, _ = self.seq(toks[k + 1:j], 0, dict(env), None)
                     out += "".join(toks[i:k + 1]) + val + "in"
                     env[m[2]] = None
@@ -213,7 +251,7 @@ class Turner:
         while raw.startswith("(") and self.closes(raw) == len(raw) - 1:
             raw = raw[1:-1].strip()
         m = re.fullmatch(r"(.*?)((?:\.before)+)", raw, re.S)
-        if m:
+        if m and (re.fullmatch(NAME, m[1]) or m[1].startswith("(") and self.closes(m[1]) == len(m[1]) - 1):
             got = self.place_value(m[1], env)
             if not got:
                 return None
@@ -222,7 +260,8 @@ class Turner:
                 p = self.fn.parent(p) if p else None
             return (root, at, p) if p else None
         if re.fullmatch(NAME, raw):
-            return env.get(raw)
+            got = env.get(raw)
+            return got if got and len(got) == 3 else None
         m = re.fullmatch(r"(" + NAME + r")\s+(\S.*)", raw, re.S)
         if m and m[1] in self.helpers and self.helpers[m[1]]["place"] and self.helpers[m[1]]["result"]:
             toks = TOKEN.findall(m[2])
@@ -231,6 +270,46 @@ class Turner:
             got = self.place_value(m[2], env)
             if got:
                 return (got[0], got[1], self.helpers[m[1]]["result"])
+        return None
+
+    def partial(self, raw, env):
+        """A path whose parts have names of their own, as what an arm binds, or several clauses: the place, and the old path."""
+        raw = raw.strip()
+        m = re.fullmatch(r"(.*?)\.(" + NAME + r"(?:\." + NAME + r")*)", raw, re.S)
+        if not m:
+            return None
+        # the longest front that is a place
+        steps = raw.split(".")
+        for n in range(len(steps) - 1, 0, -1):
+            front = ".".join(steps[:n])
+            if front.count("(") != front.count(")"):
+                continue
+            got = self.place_value(front, env)
+            if not got and re.fullmatch(NAME, front) and env.get(front) and len(env[front]) == 4:
+                got, before = env[front][:3], env[front][3]
+                names = before + steps[n:]
+            elif got and len(got) == 3:
+                names = steps[n:]
+            else:
+                continue
+            f, rest = norm(names[0]), names[1:]
+            root, at, p = got
+            if f in ("requires", "pre") and clause_names(self.source(), "requires") and not (rest and by_name(rest, clause_names(self.source(), "requires"))):
+                return got + (names,)
+            for q in (self.fn.chain(p) if p else []):
+                if norm(self.fn.places[q]["old"]) == f:
+                    callee = self.fn.d["places"][self.fn.places[q]["i"]][3]
+                    if rest[:1] == ["ensures"] and clause_names(callee, "ensures") and not (rest[1:] and by_name(rest[1:], clause_names(callee, "ensures"))):
+                        return got + (names,)
+                    if not rest and callee and clause_names(callee, "ensures"):
+                        return got + (names,)
+                    for r in self.fn.chain(at):
+                        arm = self.fn.d["arms"][self.fn.places[r]["i"]]
+                        for field, step, inner in (arm[2] if arm else []):
+                            if norm(step) == f and len(inner) > len(rest) and inner[:len(rest)] == rest:
+                                return got + (names,)
+                    break
+            return None
         return None
 
     def closes(self, raw):
@@ -245,7 +324,7 @@ class Turner:
     def call(self, name, h, got):
         root, at, p = got
         if self.need:
-            if p == at:
+            if h["place"] == at and self.view(h["place"]) == self.need_view:
                 return f"{name} {root}"
             return f"{name} (goal.at.{self.need} {root}).{self.view(h['place'])}"
         if p == at:
@@ -253,10 +332,11 @@ class Turner:
         if h["body"] is None:
             return f"{name} {root}"
         # a lemma's own text, at a place further in
-        body = self.rename(h["body"], h["var"], root)
-        ty = self.rename(h["type"], h["var"], root)
-        if not ty:
+        here = (root, at, h["place"])
+        body = self.types(self.conv(h["body"], {h["var"]: here})).strip()
+        if h["plain"]:
             return f"({body})"
+        ty = self.types(self.conv(h["type"], {h["typevar"]: here} if h["typevar"] else {})).strip()
         return f"(let it : {ty} = {body} in it)"
 
     def rename(self, text, old, new):
@@ -268,10 +348,10 @@ class Turner:
             prev = t
         return out
 
-    def fields(self, got, toks, i):
+    def fields(self, got, toks, i, names=()):
         """The fields behind a place: toks[i:] begins with '.', or the place is passed whole."""
         root, at, p = got
-        names = []
+        names = list(names)
         j = i
         while j + 1 < len(toks) and toks[j] == "." and re.fullmatch(NAME, toks[j + 1]):
             names.append(toks[j + 1])
@@ -286,7 +366,7 @@ class Turner:
             f = f[:-4]
         if rest and rest[0] in WORDS:
             rest[0] = WORDS[rest[0]]
-        steps = [q for q in self.fn.chain(p)] if p else []
+        steps = [q for q in self.fn.chain(p)] + [q for q in self.fn.chain(at)]
         for q in steps:
             if norm(self.fn.places[q]["old"]) == f:
                 for r in self.fn.chain(at):
@@ -297,6 +377,16 @@ class Turner:
                             best = (field, len(inner))
                     if best:
                         return ".".join([root, arm[0], best[0]] + rest[best[1]:]), j
+                callee = self.fn.d["places"][self.fn.places[q]["i"]][3]
+                if rest[:1] == ["ensures"] and len(rest) > 1 and rest[1] in "01":
+                    names_ = clause_names(callee, "ensures")
+                    named = by_name(rest[1:], names_) if names_ else None
+                    if named:
+                        rest = ["ensures"] + named
+                if rest[:1] == ["new"] and len(rest) > 1 and rest[1] in "01" and self.fn.d["params"].get(callee):
+                    named = by_name(rest[1:], self.fn.d["params"][callee] + ["none"])
+                    if named:
+                        rest = ["new"] + named
                 if rest[:1] == ["given"]:
                     for name, step in self.fn.d["typed"][self.fn.places[at]["i"]]:
                         if norm(step) == f:
@@ -305,7 +395,16 @@ class Turner:
                 if new.startswith("in_default") and rest[:1] == ["rest"]:
                     rest = [new + "-own"] + rest
                 return ".".join([root, new] + rest), j
+        names[0] = {"pre": "requires", "fits": "ranges", "good": "well_formed"}.get(names[0], names[0])
+        if names[0] == "requires" and len(names) > 1:
+            own = clause_names(self.source(), "requires")
+            named = by_name(names[1:], own) if own else None
+            if named:
+                names = ["requires"] + named
         return ".".join([root] + names), j
+
+    def source(self):
+        return self.crate + "::" + self.where.replace("/", "::")
 
     # -- declarations
     def run(self):
@@ -327,6 +426,8 @@ class Turner:
             elif m:
                 self.invs.append(m[1] + "-" + m[2])
         invariants, answers, inner = [], [], []
+        decls, shared, given = self.shared(decls)
+        self.macros(decls)
         for b in decls:
             name = b["name"]
             if name is None:
@@ -349,13 +450,101 @@ class Turner:
         goal = f"use Rattle.{self.crate}.proofs.{self.module}."
         result = {}
         top = "\n".join(head)
+        if given:
+            uses_too = goal + "Invariants.{" + ", ".join(given) + "}\n"
+        else:
+            uses_too = ""
         if invariants:
-            result["Invariants.antt"] = top + "\n" + "\n".join(uses) + "\n" + goal + "Given as goal\n\n" + "\n\n".join(invariants) + "\n"
+            result["Invariants.antt"] = top + "\n" + "\n".join(uses) + "\n" + goal + "Given as goal\n\n" + "\n\n".join(shared + invariants) + "\n"
         if answers:
             body = "\n\n".join(answers)
             tie = goal + "Goals.{" + ", ".join(sorted(self.views)) + "}\n" if self.views else ""
-            result["Answers.antt"] = top + "\n" + "\n".join(uses) + "\n" + goal + "Goals as goal\n" + tie + "\n" + body + "\n"
+            result["Answers.antt"] = top + "\n" + "\n".join(uses) + "\n" + uses_too + goal + "Goals as goal\n" + tie + "\n" + body + "\n"
         return result
+
+    def macros(self, decls):
+        """An invariant that a proof uses by its name is written out there."""
+        for b in decls:
+            if not re.match(r"invariant-", b["name"] or "") or len(b["clauses"]) != 1:
+                continue
+            head, body = b["clauses"][0]
+            ps = self.params(head)[1:]
+            for d in decls:
+                if d is b or not d["name"]:
+                    continue
+                d["clauses"] = [(h, self.written_out(t, b["name"], ps, body)) for h, t in d["clauses"]]
+                d["sig"] = self.written_out(d["sig"], b["name"], ps, body)
+
+    def written_out(self, text, name, ps, body):
+        if name not in text:
+            return text
+        toks = TOKEN.findall(text)
+        out, i = "", 0
+        while i < len(toks):
+            if toks[i] != name:
+                out += toks[i]
+                i += 1
+                continue
+            args, j = [], i + 1
+            while len(args) < len(ps) and j + 1 < len(toks) and toks[j].isspace() and (re.fullmatch(NAME, toks[j + 1]) or toks[j + 1] == "("):
+                if toks[j + 1] in ("→", "in", "decreases-loop", "≡", "×") or toks[j + 1].startswith("decreases-"):
+                    break
+                k = self.operand(toks, j + 1)
+                args.append("".join(toks[j + 1:k]))
+                j = k
+            if len(args) < len(ps):
+                out += toks[i]
+                i += 1
+                continue
+            subst = dict(zip(ps, args))
+            res, prev = "", ""
+            for t in TOKEN.findall(body.strip()):
+                res += subst[t] if t in subst and prev != "." else t
+                prev = t
+            out += "(" + res + ")"
+            i = j
+        return out
+
+    def shared(self, decls):
+        """Definitions that name no place and that an invariant uses: they go with the invariants."""
+        pure, names = [], {}
+        for b in decls:
+            if "tie." in b["text"]:
+                continue
+            if b["name"]:
+                mine = [b["name"]]
+            else:
+                mine = re.findall(r"(?m)^(?:pub )?(?:record|data) (" + NAME + ")", b["text"])
+                if re.search(r"(?m)^(?:pub )?data ", b["text"]):
+                    mine += re.findall(r"(?m)^  (" + NAME + r") :", b["text"])
+            pure.append(b)
+            for n in mine:
+                names[n] = b
+        wanted, queue = [], [b["text"] for b in decls if re.match(r"(invariant|decreases)-", b["name"] or "")]
+        while queue:
+            for word in re.findall(NAME, queue.pop()):
+                b = names.get(word)
+                if b is not None and not any(b is w for w in wanted):
+                    wanted.append(b)
+                    queue.append(b["text"])
+        if not wanted:
+            return decls, [], []
+        shared, given = [], []
+        for b in decls:
+            if not any(b is w for w in wanted):
+                continue
+            text = b["text"]
+            if b["name"] is None:
+                text = re.sub(r"(?m)^(record|data) ", r"pub \1 ", text)
+                if re.search(r"(?m)^pub record ", text):
+                    text = re.sub(r"(?m)^  (?!pub |--|→)(" + NAME + r"(?: " + NAME + r")*) :", r"  pub \1 :", text)
+            else:
+                text = b["note"] + text
+                text = re.sub(r"(?m)^abbrev (?!pub)" + re.escape(b["name"]), "abbrev pub " + b["name"], text)
+                text = re.sub(r"(?m)^" + re.escape(b["name"]) + r" :", "pub " + b["name"] + " :", text)
+            shared.append(text)
+        given = sorted(n for n, b in names.items() if any(b is w for w in wanted))
+        return [b for b in decls if not any(b is w for w in wanted)], shared, given
 
     def section(self, b):
         return self.types(b["text"]) + "\n-- TODO section"
@@ -364,10 +553,7 @@ class Turner:
         m = re.search(r"(?:^|\n)\S+ :\s+tie\.Need-(" + NAME + r")", b["sig"])
         if not m:
             return None
-        for n in (norm(m[1]), norm(re.sub(r"^overflow-", "", m[1]))):
-            if n in self.fn.needs:
-                return n
-        return norm(m[1])
+        return m[1]
 
     def params(self, clause_head):
         toks = TOKEN.findall(clause_head)
@@ -388,13 +574,15 @@ class Turner:
         return out
 
     def answer(self, b, need):
-        info = self.fn.needs.get(need)
+        info = self.fn.need(need)
+        need = norm(re.sub(r"^overflow-", "", need))
         if need in self.fn.settled or (info and norm(info["new"]) in self.fn.settled):
             return None
         new = info["new"] if info else need
         clauses = []
         single = None
         self.need = new
+        self.need_view = info["view"] if info else None
         for head, body in b["clauses"]:
             ps = self.params(head)[1:]
             env = {}
@@ -403,6 +591,18 @@ class Turner:
             if "κs" in ps:
                 ps.remove("κs")
             text = self.conv(body, env)
+            if new.startswith("returns"):
+                names = clause_names(self.source(), "ensures")
+            else:
+                names = []
+                if need.endswith("requires") or "requires_" in need:
+                    step = re.sub(r"_requires(_\d+)?$", "", need)
+                    for place in self.fn.d["places"]:
+                        if norm(place[2][0]).rstrip("0123456789") == step and place[3]:
+                            names = clause_names(place[3], "requires")
+            text = re.sub(r"\b(\w+)\.inv\b", r"\1.invariant", text)
+            if names:
+                text = " " + as_record(text, names).strip()
             single = text.strip()
             clauses.append(" ".join([new] + ps) + " =" + text)
         note = b["note"]
@@ -420,18 +620,20 @@ class Turner:
         parts = split_arrows(ty)
         vars_, places, env = [], [], {}
         for part in parts[:-1]:
-            mm = re.match(r"^\((.*?) : (.*)\)$", part, re.S)
-            if mm:
+            groups = binders(part)
+            if groups is None:
+                vars_.append(None)
+                places.append(self.place_of(part))
+                continue
+            for group in groups:
+                if group.startswith("{"):
+                    continue
+                mm = re.match(r"^\((.*?) : (.*)\)$", group, re.S)
                 place = self.place_of(mm[2])
                 for v in mm[1].split():
                     vars_.append(v)
                     places.append(place)
                     env[v] = (v, place, place) if place else None
-            elif part.startswith("{"):
-                continue
-            else:
-                vars_.append(None)
-                places.append(self.place_of(part))
         result = self.place_of(parts[-1])
         h = dict(place=places[0] if places else None, result=result, var=None, body=None, type=None)
         if result and len(places) == 1 and places[0]:
@@ -448,14 +650,19 @@ class Turner:
                     e[v] = (v, place, place) if place else None
             text = self.types(self.conv(body, e))
             clauses.append(head.rstrip() + " =" + text)
-            if len(b["clauses"]) == 1 and len(explicit) == 1 and places and places[0]:
-                h["var"], h["body"] = explicit[0], text.strip()
-                inner = split_arrows(ty)[1:]
-                typed = dict(env)
-                if vars_[0] is None:
-                    h["type"] = self.types(self.conv(" → ".join(inner), {}))
-                else:
-                    h["type"] = self.rename(self.types(self.conv(" → ".join(inner), typed)), vars_[0], explicit[0])
+            if len(b["clauses"]) == 1 and explicit and places and places[0] and len(explicit) == len([q for q in ps if not q.startswith("{")]):
+                h["var"], h["body"] = explicit[0], body.strip()
+                if len(explicit) > 1:
+                    h["body"] = "λ " + " ".join(explicit[1:]) + ". " + h["body"]
+                first, rest = split_arrows(ty)[0], split_arrows(ty)[1:]
+                groups = binders(first)
+                if groups:
+                    mm = re.match(r"^\((.*?) : (.*)\)$", groups[0], re.S)
+                    more = mm[1].split()[1:]
+                    left = ([f"({' '.join(more)} : {mm[2]})"] if more else []) + groups[1:]
+                    rest = ([" ".join(left)] if left else []) + rest
+                h["typevar"], h["type"] = vars_[0], " → ".join(rest)
+                h["plain"] = "abbrev" in prefix
         self.helpers[name] = h
         unf = b["unfolding"] + "\n" if b["unfolding"] else ""
         return b["note"] + sig.rstrip() + "\n" + unf + "\n".join(c.rstrip() for c in clauses)
@@ -489,6 +696,100 @@ class Turner:
                 prev = t
             out.append(f"{kind}-{new} l =" + res.rstrip())
         return b["note"] + f"abbrev pub {kind}-{new} : goal.{kind}-{new}\n" + (b["unfolding"] + "\n" if b["unfolding"] else "") + "\n".join(out)
+
+
+CLAUSE = re.compile(r"^\s*(requires|ensures)(?:\s+(\w+))?\s*\{")
+CONTRACTS = {}
+
+
+def contracts(crate):
+    """The names of the clauses of each function of a crate, by its path in the source."""
+    if crate in CONTRACTS:
+        return CONTRACTS[crate]
+    found = CONTRACTS[crate] = {}
+    src = os.path.join("crates", crate, "src")
+    for folder, _, files in os.walk(src):
+        for f in files:
+            if not f.endswith(".rt"):
+                continue
+            module = os.path.relpath(os.path.join(folder, f), src)[:-3].replace("/", "::")
+            prefix = crate + ("" if module in ("lib", "main") else "::" + module)
+            owner, name = "", None
+            for line in open(os.path.join(folder, f), encoding="utf-8"):
+                m = re.match(r"impl(?:<[^>]*>)? (\w+)", line)
+                if m:
+                    owner = "::" + m[1]
+                elif line.startswith("}"):
+                    owner = ""
+                m = re.match(r"\s*(?:pub )?(?:unsafe )?(?:extern \"C\" )?fn (\w+)", line)
+                if m:
+                    name = prefix + (owner if line.startswith(" ") else "") + "::" + m[1]
+                    found[name] = dict(requires=[], ensures=[])
+                m = CLAUSE.match(line)
+                if m and name:
+                    found[name][m[1]].append(m[2])
+    return found
+
+
+def clause_names(function, kind):
+    names = contracts(function.split("::")[0]).get(function, {}).get(kind, []) if function else []
+    return names if len(names) > 1 and all(names) else []
+
+
+def by_name(path, names):
+    """The clause that a path of positions in nested pairs means, and what is left of the path."""
+    at = 0
+    path = list(path)
+    while path and at < len(names) - 1:
+        if path[0] == "0":
+            return [names[at]] + path[1:]
+        if path[0] != "1":
+            return None
+        path.pop(0)
+        at += 1
+    return [names[at]] + path if at == len(names) - 1 else None
+
+
+def top_parts(text):
+    """The parts of a tuple, with a tuple in the last place laid flat; None for another term."""
+    text = text.strip()
+    if not text.startswith("("):
+        return None
+    depth, cuts = 0, []
+    for n, ch in enumerate(text):
+        depth += ch in "([{"
+        depth -= ch in ")]}"
+        if ch == "," and depth == 1:
+            cuts.append(n)
+        if depth == 0:
+            if n != len(text) - 1:
+                return None
+            break
+    if not cuts:
+        return None
+    edges = [0] + cuts + [len(text) - 1]
+    return [text[a + 1:b].strip() for a, b in zip(edges, edges[1:]) if text[a + 1:b].strip()]
+
+
+def as_record(body, names):
+    """A tuple for several clauses as a record by their names."""
+    m = list(re.finditer(r"\bin\b\s", body))
+    starts = [0] + [x.end() for x in m]
+    for start in starts:
+        parts = top_parts(body[start:])
+        if parts is None:
+            continue
+        while len(parts) < len(names):
+            inner = top_parts(parts[-1])
+            if inner is None:
+                break
+            parts = parts[:-1] + inner
+        if len(parts) == len(names) + 1 and parts[-1] == "tt":
+            parts.pop()
+        if len(parts) == len(names):
+            space = re.match(r"\s*", body[start:])[0]
+            return body[:start] + space + "record { " + "; ".join(f"{n} = {q}" for n, q in zip(names, parts)) + " }"
+    return body
 
 
 def split_blocks(text):
@@ -533,7 +834,7 @@ def split_blocks(text):
             raise SystemExit("no declaration: " + line)
         name = m[1]
         j = i + 1
-        while j < n and lines[j].startswith(" "):
+        while j < n and lines[j].startswith((" ", ")")):
             j += 1
         sig = "\n".join(lines[i:j])
         unfolding = ""
@@ -552,7 +853,7 @@ def split_blocks(text):
                 break
             if re.match(re.escape(name) + r"(\s|$)", lines[j]):
                 k = j + 1
-                while k < n and lines[k].startswith(" "):
+                while k < n and lines[k].startswith((" ", ")")):
                     k += 1
                 chunk = "\n".join(lines[j:k])
                 eq = top_equals(chunk)
