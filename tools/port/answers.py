@@ -56,6 +56,10 @@ class Function:
             p = self.places[p]["parent"] if p in self.places else None
 
 
+def nested(parts):
+    return parts[0] if len(parts) == 1 else f"({parts[0]}, {nested(parts[1:])})"
+
+
 def binders(part):
     """The groups of a part such as (a b : A) {c : C}; None for a type."""
     groups, depth, start = [], 0, None
@@ -105,6 +109,12 @@ class Turner:
         m = re.match(r"^\(?\s*tie\.(" + NAME + r")((?: +\(?(?:invariant|decreases)[^\s()]*\)?)*)\s*\)?$", ty.strip())
         if m and norm(m[1]) in self.fn.places:
             return norm(m[1])
+        if m:
+            # not each place where an argument of a call is lent is a place of its own today
+            base = norm(re.sub(r"[-_]arg\d*$", "", m[1]))
+            lent = [q for q in self.fn.places if q.startswith(base + "_arg")]
+            if base != norm(m[1]) and (lent or base in self.fn.places):
+                return lent[-1] if lent else base
         return None
 
     def view(self, place):
@@ -116,8 +126,8 @@ class Turner:
         text = re.sub(r"\b(\w+)\.inv\b", r"\1.invariant", text)
 
         def one(m):
-            name = norm(m[1])
-            if name in self.fn.places:
+            name = self.place_of("tie." + m[1])
+            if name:
                 return self.view(name)
             if m[1].startswith("Need-"):
                 need = self.fn.need(m[1][5:])
@@ -299,6 +309,11 @@ class Turner:
             for q in (self.fn.chain(p) if p else []):
                 if norm(self.fn.places[q]["old"]) == f:
                     callee = self.fn.d["places"][self.fn.places[q]["i"]][3]
+                    word = WORDS.get(rest[0], rest[0]) if rest else ""
+                    if word in ("new", "auto") and len(rest) > 1 and rest[1] == "1" and self.fn.d["params"].get(callee):
+                        named = by_name(rest[1:], self.fn.d["params"][callee] + ["none"])
+                        if not named or named[0] == "none":
+                            return got + (names,)
                     if rest[:1] == ["ensures"] and clause_names(callee, "ensures") and not (rest[1:] and by_name(rest[1:], clause_names(callee, "ensures"))):
                         return got + (names,)
                     if not rest and callee and clause_names(callee, "ensures"):
@@ -337,7 +352,7 @@ class Turner:
         if h["plain"]:
             return f"({body})"
         ty = self.types(self.conv(h["type"], {h["typevar"]: here} if h["typevar"] else {})).strip()
-        return f"(let it : {ty} = {body} in it)"
+        return f"(let it : {ty} = {body} in it)" + " _" * h["hidden"]
 
     def rename(self, text, old, new):
         if not text or old == new:
@@ -383,10 +398,10 @@ class Turner:
                     named = by_name(rest[1:], names_) if names_ else None
                     if named:
                         rest = ["ensures"] + named
-                if rest[:1] == ["new"] and len(rest) > 1 and rest[1] in "01" and self.fn.d["params"].get(callee):
+                if rest[:1] in (["new"], ["auto"]) and len(rest) > 1 and rest[1] in "01" and self.fn.d["params"].get(callee):
                     named = by_name(rest[1:], self.fn.d["params"][callee] + ["none"])
                     if named:
-                        rest = ["new"] + named
+                        rest = rest[:1] + named
                 if rest[:1] == ["given"]:
                     for name, step in self.fn.d["typed"][self.fn.places[at]["i"]]:
                         if norm(step) == f:
@@ -401,6 +416,10 @@ class Turner:
             named = by_name(names[1:], own) if own else None
             if named:
                 names = ["requires"] + named
+            elif own and all(n == "1" for n in names[1:]):
+                return nested([f"{root}.requires.{n}" for n in own[len(names) - 1:]]), j
+        elif names == ["requires"] and clause_names(self.source(), "requires"):
+            return nested([f"{root}.requires.{n}" for n in clause_names(self.source(), "requires")]), j
         return ".".join([root] + names), j
 
     def source(self):
@@ -602,7 +621,7 @@ class Turner:
                             names = clause_names(place[3], "requires")
             text = re.sub(r"\b(\w+)\.inv\b", r"\1.invariant", text)
             if names:
-                text = " " + as_record(text, names).strip()
+                text = " " + as_record(text, names, clause_names(self.source(), "requires")).strip()
             single = text.strip()
             clauses.append(" ".join([new] + ps) + " =" + text)
         note = b["note"]
@@ -635,7 +654,7 @@ class Turner:
                     places.append(place)
                     env[v] = (v, place, place) if place else None
         result = self.place_of(parts[-1])
-        h = dict(place=places[0] if places else None, result=result, var=None, body=None, type=None)
+        h = dict(place=places[0] if places else None, result=result, var=None, body=None, type=None, hidden=0)
         if result and len(places) == 1 and places[0]:
             self.helpers[name] = h
             return None
@@ -652,8 +671,10 @@ class Turner:
             clauses.append(head.rstrip() + " =" + text)
             if len(b["clauses"]) == 1 and explicit and places and places[0] and len(explicit) == len([q for q in ps if not q.startswith("{")]):
                 h["var"], h["body"] = explicit[0], body.strip()
-                if len(explicit) > 1:
-                    h["body"] = "λ " + " ".join(explicit[1:]) + ". " + h["body"]
+                hidden = [w for g in re.findall(r"\{([^{}]*?) : [^{}]*\}", " ".join(split_arrows(ty)[:-1])) for w in g.split()]
+                h["hidden"] = len(hidden)
+                if len(explicit) > 1 or hidden:
+                    h["body"] = "λ " + " ".join(hidden + explicit[1:]) + ". " + h["body"]
                 first, rest = split_arrows(ty)[0], split_arrows(ty)[1:]
                 groups = binders(first)
                 if groups:
@@ -661,7 +682,7 @@ class Turner:
                     more = mm[1].split()[1:]
                     left = ([f"({' '.join(more)} : {mm[2]})"] if more else []) + groups[1:]
                     rest = ([" ".join(left)] if left else []) + rest
-                h["typevar"], h["type"] = vars_[0], " → ".join(rest)
+                h["typevar"], h["type"] = vars_[0], re.sub(r"\{([^{}]* : [^{}]*)\}", r"(\1)", " → ".join(rest))
                 h["plain"] = "abbrev" in prefix
         self.helpers[name] = h
         unf = b["unfolding"] + "\n" if b["unfolding"] else ""
@@ -771,8 +792,11 @@ def top_parts(text):
     return [text[a + 1:b].strip() for a, b in zip(edges, edges[1:]) if text[a + 1:b].strip()]
 
 
-def as_record(body, names):
-    """A tuple for several clauses as a record by their names."""
+def as_record(body, names, own=()):
+    """A tuple for several clauses as a record by their names; own are those of the function's requires."""
+    if len(names) >= 2 and re.fullmatch(r"\s*" + NAME + r" [^\n]*", body) and not re.match(r"\s*(search|omega|grind|simp|rw|let|elim|subst|cc|record|absurd)\b", body):
+        paths = [".1" * i + (".0" if i < len(names) - 1 else "") for i in range(len(names))]
+        return f"let it = {body.strip()} in record {{ " + "; ".join(f"{n} = it{p}" for n, p in zip(names, paths)) + " }"
     m = list(re.finditer(r"\bin\b\s", body))
     starts = [0] + [x.end() for x in m]
     for start in starts:
@@ -786,6 +810,10 @@ def as_record(body, names):
             parts = parts[:-1] + inner
         if len(parts) == len(names) + 1 and parts[-1] == "tt":
             parts.pop()
+        m2 = re.fullmatch(r"\(?(\S+\.requires)(\.\w+)*.*", parts[-1])
+        left = len(names) - len(parts) + 1
+        if m2 and left > 1 and len(own) >= left:
+            parts[-1:] = [f"{m2[1]}.{n}" for n in own[-left:]]
         if len(parts) == len(names):
             space = re.match(r"\s*", body[start:])[0]
             return body[:start] + space + "record { " + "; ".join(f"{n} = {q}" for n, q in zip(names, parts)) + " }"
@@ -834,7 +862,7 @@ def split_blocks(text):
             raise SystemExit("no declaration: " + line)
         name = m[1]
         j = i + 1
-        while j < n and lines[j].startswith((" ", ")")):
+        while j < n and lines[j].startswith((" ", ")", "}")):
             j += 1
         sig = "\n".join(lines[i:j])
         unfolding = ""
@@ -853,7 +881,7 @@ def split_blocks(text):
                 break
             if re.match(re.escape(name) + r"(\s|$)", lines[j]):
                 k = j + 1
-                while k < n and lines[k].startswith((" ", ")")):
+                while k < n and lines[k].startswith((" ", ")", "}")):
                     k += 1
                 chunk = "\n".join(lines[j:k])
                 eq = top_equals(chunk)

@@ -92,7 +92,7 @@ more : (c : Else-sum-value) (most : ℕ) → most ≡ max c.loop-p.most c.wrappi
     × (max most (stored (worst (claimed_value a.claims.now) (items (target_layout a.s.now a.n) i (c.loop-p.p + target_width)))) ≡ stored (worst (claimed_value a.claims.now) (items (target_layout a.s.now a.n) k a.at))))
 more c most is k e =
     let (i, q, r, w) = c.loop-p.invariant k e in
-    let h = (let it : {i : ℕ} → c.loop-p.p + i * target_width ≡ c.args.end → 0 < i = λ e. omega (arith, c.loop-p-test.true) in it) q in (
+    let h : 0 < i = omega (arith, c.loop-p-test.true) in (
       i - 1,
       omega arith,
       rest_more r h ((let it : let a = c.args in TargetOk a.s.now a.n c.loop-p.p = record { inside = omega (arith, (let it : let a = c.args in (c.loop-p.p + target_width ≤ a.end) × (a.end ≤ length a.s.now) = let b = c.requires.parted in
