@@ -379,7 +379,8 @@ class Turner:
         f, rest = norm(names[0]), names[1:]
         if f.endswith("_lem"):
             f = f[:-4]
-        if rest and rest[0] in WORDS:
+        # a variable of a loop may have such a name too
+        if rest and rest[0] in WORDS and not (f in self.fn.loops and rest[0] in self.fn.loops[f][1]):
             rest[0] = WORDS[rest[0]]
         steps = [q for q in self.fn.chain(p)] + [q for q in self.fn.chain(at)]
         for q in steps:
@@ -709,8 +710,10 @@ class Turner:
                     subst[p] = f"l.{v if isinstance(v, str) else v[0]}"
             toks = TOKEN.findall(body)
             res, prev = "", ""
-            for t in toks:
-                if t in subst and prev != ".":
+            for n, t in enumerate(toks):
+                # a field of a record may have a variable's name
+                is_field = "".join(toks[n + 1:n + 3]).lstrip(" ")[:1] == "="
+                if t in subst and prev != "." and not is_field:
                     res += subst[t]
                 else:
                     res += t
