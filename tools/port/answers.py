@@ -381,7 +381,8 @@ class Turner:
         f, rest = norm(names[0]), names[1:]
         if f.endswith("_lem"):
             f = f[:-4]
-        if rest and rest[0] in WORDS:
+        # a variable of a loop may have such a name too
+        if rest and rest[0] in WORDS and not (f in self.fn.loops and rest[0] in self.fn.loops[f][1]):
             rest[0] = WORDS[rest[0]]
         steps = [q for q in self.fn.chain(p)] + [q for q in self.fn.chain(at)]
         for q in steps:
