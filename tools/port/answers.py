@@ -552,7 +552,7 @@ def split_blocks(text):
                 break
             if re.match(re.escape(name) + r"(\s|$)", lines[j]):
                 k = j + 1
-                while k < n and lines[k].startswith(" "):
+                while k < n and lines[k].startswith((" ", ")", "]", "}")):
                     k += 1
                 chunk = "\n".join(lines[j:k])
                 eq = top_equals(chunk)

@@ -7,8 +7,7 @@ use lib.Dec.{eqb}
 use native.Mathlib.Decide.{dec_lt}
 use native.Mathlib.Omega.{arith}
 use borrow.Author.Tests.{eq-eqb, ne_eqb}
-use Rattle.kinds.proofs.all_zero.Statement.{statement}
-use Rattle.kinds.proofs.all_zero.Tie as tie
+use Rattle.kinds.proofs.all_zero.Goals as goal
 
 -- two numbers have no bit together exactly where neither has one
 or_zero : (a b : ℕ) → eqb (bit_or a b) 0 ≡ (eqb a 0 && eqb b 0)
@@ -28,10 +27,7 @@ in_turn false b c = refl
 gathered : (a b c d : ℕ) → eqb (bit_or (bit_or a b) (bit_or c d)) 0 ≡ (eqb a 0 && (eqb b 0 && (eqb c 0 && eqb d 0)))
 gathered a b c d = or_zero (bit_or a b) (bit_or c d) ∙ rw (or_zero a b, or_zero c d) (in_turn (eqb a 0) (eqb b 0) (eqb c 0 && eqb d 0))
 
-returns : tie.Need-returns
+pub returns : goal.returns
 returns c =
-    let f = c.before.before.args.fields in
+    let f = c.args.fields in
     gathered f.left f.right f.zero f.bound
-
-pub all_zero_spec : {M : Type 1} → statement M
-all_zero_spec = tie.close (tie.spec returns)
