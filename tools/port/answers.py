@@ -305,6 +305,8 @@ class Turner:
                 if new.startswith("in_default") and rest[:1] == ["rest"]:
                     rest = [new + "-own"] + rest
                 return ".".join([root, new] + rest), j
+        if names[0] == "pre":
+            names[0] = "requires"
         return ".".join([root] + names), j
 
     # -- declarations
