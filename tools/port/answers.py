@@ -106,7 +106,8 @@ class Turner:
     def conv(self, text, env):
         toks = TOKEN.findall(text)
         out, _ = self.seq(toks, 0, dict(env), None)
-        return out
+        # a step's fields, where a let names the step
+        return re.sub(r"(?<=\w\.)(inv|came)(?=[.\s),])", lambda m: WORDS[m[1]], out)
 
     def operand(self, toks, i):
         """Where the operand that begins at i ends: a name or a group, with its fields."""
@@ -213,7 +214,7 @@ class Turner:
         while raw.startswith("(") and self.closes(raw) == len(raw) - 1:
             raw = raw[1:-1].strip()
         m = re.fullmatch(r"(.*?)((?:\.before)+)", raw, re.S)
-        if m:
+        if m and self.operand(TOKEN.findall(m[1]), 0) == len(TOKEN.findall(m[1])):
             got = self.place_value(m[1], env)
             if not got:
                 return None
@@ -305,8 +306,8 @@ class Turner:
                 if new.startswith("in_default") and rest[:1] == ["rest"]:
                     rest = [new + "-own"] + rest
                 return ".".join([root, new] + rest), j
-        if names[0] == "pre":
-            names[0] = "requires"
+        if p:
+            names[0] = dict(pre="requires", good="well_formed").get(names[0], names[0])
         return ".".join([root] + names), j
 
     # -- declarations
@@ -328,11 +329,17 @@ class Turner:
                 self.invs.append(m[1] + "-" + self.fn.loops[norm(m[2])][0])
             elif m:
                 self.invs.append(m[1] + "-" + m[2])
-        invariants, answers, inner = [], [], []
+        invariants, answers, shared = [], [], self.shared(decls)
         for b in decls:
             name = b["name"]
             if name is None:
-                answers.append(self.section(b))
+                if b["names"] & shared:
+                    invariants.append(public(b["text"]))
+                else:
+                    answers.append(self.section(b))
+                continue
+            if name in shared:
+                invariants.append(public(b["text"]))
                 continue
             if re.search(r"(^|\n)" + re.escape(name) + r"\s*=\s*tie\.close", b["text"]) or name.endswith("spec") and "statement" in b["text"]:
                 continue
@@ -356,11 +363,31 @@ class Turner:
         if answers:
             body = "\n\n".join(answers)
             tie = goal + "Goals.{" + ", ".join(sorted(self.views)) + "}\n" if self.views else ""
+            if shared:
+                tie += goal + "Invariants.{" + ", ".join(sorted(shared)) + "}\n"
             result["Answers.antt"] = top + "\n" + "\n".join(uses) + "\n" + goal + "Goals as goal\n" + tie + "\n" + body + "\n"
         return result
 
+    def shared(self, decls):
+        """The names of records and definitions that an invariant or a measure uses."""
+        known = {}
+        for b in decls:
+            if b["name"] is None:
+                for n in b["names"]:
+                    known[n] = b
+            elif not re.match(r"(invariant|decreases)-", b["name"]) and "tie." not in b["text"]:
+                known[b["name"]] = b
+        todo = [b for b in decls if b["name"] and re.match(r"(invariant|decreases)-", b["name"])]
+        found = set()
+        while todo:
+            for t in set(TOKEN.findall(todo.pop()["text"])):
+                if t in known and t not in found:
+                    found.add(t)
+                    todo.append(known[t])
+        return found
+
     def section(self, b):
-        return self.types(b["text"]) + "\n-- TODO section"
+        return self.types(b["text"]) + ("\n-- TODO section" if "tie." in b["text"] else "")
 
     def need_of(self, b):
         m = re.search(r"(?:^|\n)\S+ :\s+tie\.Need-(" + NAME + r")", b["sig"])
@@ -493,6 +520,24 @@ class Turner:
         return b["note"] + f"abbrev pub {kind}-{new} : goal.{kind}-{new}\n" + (b["unfolding"] + "\n" if b["unfolding"] else "") + "\n".join(out)
 
 
+def public(text):
+    """The text of a definition or a record, for other files too."""
+    out, record = [], False
+    for line in text.split("\n"):
+        if re.match(r"record ", line) or re.match(r"pub record ", line):
+            record = True
+        if re.match(r"(record|data) ", line):
+            line = "pub " + line
+        elif re.match(r"(abbrev|unfoldable) (?!pub )\S+ ", line):
+            line = re.sub(r"^(abbrev|unfoldable) ", r"\1 pub ", line)
+        elif re.match(NAME + r" :\s", line):
+            line = "abbrev pub " + line
+        elif record and re.match(r"  (" + NAME + r" )+:\s", line):
+            line = "  pub " + line[2:]
+        out.append(line)
+    return "\n".join(out)
+
+
 def split_blocks(text):
     """Top-level pieces: the head comment, use lines, and declarations with their notes."""
     lines = text.split("\n")
@@ -527,7 +572,8 @@ def split_blocks(text):
             j = i + 1
             while j < n and (not lines[j].strip() or lines[j].startswith(" ")):
                 j += 1
-            blocks.append(dict(kind="section", text=note + "\n".join(lines[i:j]).rstrip(), name=None))
+            named = re.match(r"(?:pub )?(?:record|data) (" + NAME + ")", line)
+            blocks.append(dict(kind="section", text=note + "\n".join(lines[i:j]).rstrip(), name=None, names={named[1]} if named else set()))
             i, note = j, ""
             continue
         m = re.match(r"(?:pub |abbrev |unfoldable )*(" + NAME + r")\s*(?:\{[^}]*\} )*:(?:\s|$)", line)
