@@ -164,6 +164,12 @@ class Turner:
                     out += got[0]
                     i = j
                     continue
+            if re.fullmatch(NAME, t) and isinstance(env.get(t), dict) and not behind_dot:
+                j = self.operand(toks, i)
+                s, _ = self.seq(env[t]["alias"] + toks[i + 1:j], 0, dict(env[t]["env"]), None)
+                out += s
+                i = j
+                continue
             if re.fullmatch(NAME, t) and env.get(t) and not behind_dot:
                 s, i = self.fields(env[t], toks, i + 1)
                 out += s
@@ -185,7 +191,13 @@ class Turner:
                             depth -= 1
                         j += 1
                     k = toks.index("=", i)
-                    got = self.place_value("".join(toks[k + 1:j]), env)
+                    value = "".join(toks[k + 1:j]).strip()
+                    got = self.place_value(value, env)
+                    if not got:
+                        # part of what a pattern matched: its names are known only with the fields behind it
+                        part = re.fullmatch(r"(.*)\." + NAME + r"\.given(?:\.\d)*", value, re.S)
+                        if part and self.place_value(part[1], env):
+                            got = dict(alias=TOKEN.findall(value), env=dict(env))
                     if got:
                         env[m[2]] = got
                         i = j + 1
@@ -223,7 +235,7 @@ class Turner:
                 p = self.fn.parent(p) if p else None
             return (root, at, p) if p else None
         if re.fullmatch(NAME, raw):
-            return env.get(raw)
+            return None if isinstance(env.get(raw), dict) else env.get(raw)
         m = re.fullmatch(r"(" + NAME + r")\s+(\S.*)", raw, re.S)
         if m and m[1] in self.helpers and self.helpers[m[1]]["place"] and self.helpers[m[1]]["result"]:
             toks = TOKEN.findall(m[2])
