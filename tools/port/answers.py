@@ -106,6 +106,10 @@ class Turner:
     def conv(self, text, env):
         toks = TOKEN.findall(text)
         out, _ = self.seq(toks, 0, dict(env), None)
+        # what a test of a negation says is said of the test itself today
+        at = r"(\w+\.(?:if|loop)[^\s()]*\.(?:true|false))"
+        out = re.sub(r"\(not[-_](?:true|false) _ " + at + r"\)", r"\1", out)
+        out = re.sub(r"\bnot[-_](?:true|false) _ " + at, r"\1", out)
         # a step's fields, where a let names the step
         return re.sub(r"(?<=\w\.)(inv|came)(?=[.\s),])", lambda m: WORDS[m[1]], out)
 
@@ -164,14 +168,11 @@ class Turner:
                     out += got[0]
                     i = j
                     continue
-            if re.fullmatch(NAME, t) and isinstance(env.get(t), dict) and not behind_dot:
-                j = self.operand(toks, i)
-                s, _ = self.seq(env[t]["alias"] + toks[i + 1:j], 0, dict(env[t]["env"]), None)
-                out += s
-                i = j
-                continue
             if re.fullmatch(NAME, t) and env.get(t) and not behind_dot:
-                s, i = self.fields(env[t], toks, i + 1)
+                if len(env[t]) == 4:
+                    s, i = self.fields(env[t][:3], toks, i + 1, env[t][3])
+                else:
+                    s, i = self.fields(env[t], toks, i + 1)
                 out += s
                 continue
             if t == "let":
@@ -191,15 +192,16 @@ class Turner:
                             depth -= 1
                         j += 1
                     k = toks.index("=", i)
-                    value = "".join(toks[k + 1:j]).strip()
-                    got = self.place_value(value, env)
-                    if not got:
-                        # part of what a pattern matched: its names are known only with the fields behind it
-                        part = re.fullmatch(r"(.*)\." + NAME + r"\.given(?:\.\d)*", value, re.S)
-                        if part and self.place_value(part[1], env):
-                            got = dict(alias=TOKEN.findall(value), env=dict(env))
+                    got = self.place_value("".join(toks[k + 1:j]), env)
                     if got:
                         env[m[2]] = got
+                        i = j + 1
+                        while i < len(toks) and toks[i].isspace():
+                            i += 1
+                        continue
+                    part = self.partial("".join(toks[k + 1:j]), env)
+                    if part:
+                        env[m[2]] = part
                         i = j + 1
                         while i < len(toks) and toks[i].isspace():
                             i += 1
@@ -235,7 +237,8 @@ class Turner:
                 p = self.fn.parent(p) if p else None
             return (root, at, p) if p else None
         if re.fullmatch(NAME, raw):
-            return None if isinstance(env.get(raw), dict) else env.get(raw)
+            got = env.get(raw)
+            return got if got and len(got) == 3 else None
         m = re.fullmatch(r"(" + NAME + r")\s+(\S.*)", raw, re.S)
         if m and m[1] in self.helpers and self.helpers[m[1]]["place"] and self.helpers[m[1]]["result"]:
             toks = TOKEN.findall(m[2])
@@ -244,6 +247,46 @@ class Turner:
             got = self.place_value(m[2], env)
             if got:
                 return (got[0], got[1], self.helpers[m[1]]["result"])
+        return None
+
+    def partial(self, raw, env):
+        """A path whose parts have names of their own, as what an arm binds, or several clauses: the place, and the old path."""
+        raw = raw.strip()
+        m = re.fullmatch(r"(.*?)\.(" + NAME + r"(?:\." + NAME + r")*)", raw, re.S)
+        if not m:
+            return None
+        # the longest front that is a place
+        steps = raw.split(".")
+        for n in range(len(steps) - 1, 0, -1):
+            front = ".".join(steps[:n])
+            if front.count("(") != front.count(")"):
+                continue
+            got = self.place_value(front, env)
+            if not got and re.fullmatch(NAME, front) and env.get(front) and len(env[front]) == 4:
+                got, before = env[front][:3], env[front][3]
+                names = before + steps[n:]
+            elif got and len(got) == 3:
+                names = steps[n:]
+            else:
+                continue
+            f, rest = norm(names[0]), names[1:]
+            root, at, p = got
+            if f == "requires" and clause_names(self.source(), "requires") and not (rest and by_name(rest, clause_names(self.source(), "requires"))):
+                return got + (names,)
+            for q in (self.fn.chain(p) if p else []):
+                if norm(self.fn.places[q]["old"]) == f:
+                    callee = self.fn.d["places"][self.fn.places[q]["i"]][3]
+                    if rest[:1] == ["ensures"] and clause_names(callee, "ensures") and not (rest[1:] and by_name(rest[1:], clause_names(callee, "ensures"))):
+                        return got + (names,)
+                    if not rest and callee and clause_names(callee, "ensures"):
+                        return got + (names,)
+                    for r in self.fn.chain(at):
+                        arm = self.fn.d["arms"][self.fn.places[r]["i"]]
+                        for field, step, inner in (arm[2] if arm else []):
+                            if norm(step) == f and len(inner) > len(rest) and inner[:len(rest)] == rest:
+                                return got + (names,)
+                    break
+            return None
         return None
 
     def closes(self, raw):
@@ -281,10 +324,10 @@ class Turner:
             prev = t
         return out
 
-    def fields(self, got, toks, i):
+    def fields(self, got, toks, i, names=()):
         """The fields behind a place: toks[i:] begins with '.', or the place is passed whole."""
         root, at, p = got
-        names = []
+        names = list(names)
         j = i
         while j + 1 < len(toks) and toks[j] == "." and re.fullmatch(NAME, toks[j + 1]):
             names.append(toks[j + 1])
@@ -310,6 +353,12 @@ class Turner:
                             best = (field, len(inner))
                     if best:
                         return ".".join([root, arm[0], best[0]] + rest[best[1]:]), j
+                callee = self.fn.d["places"][self.fn.places[q]["i"]][3]
+                if rest[:1] == ["ensures"] and len(rest) > 1 and rest[1] in "01":
+                    names_ = clause_names(callee, "ensures")
+                    named = by_name(rest[1:], names_) if names_ else None
+                    if named:
+                        rest = ["ensures"] + named
                 if rest[:1] == ["given"]:
                     for name, step in self.fn.d["typed"][self.fn.places[at]["i"]]:
                         if norm(step) == f:
@@ -320,7 +369,15 @@ class Turner:
                 return ".".join([root, new] + rest), j
         if p:
             names[0] = dict(pre="requires", good="well_formed").get(names[0], names[0])
+        if names[0] == "requires" and len(names) > 1:
+            own = clause_names(self.source(), "requires")
+            named = by_name(names[1:], own) if own else None
+            if named:
+                names = ["requires"] + named
         return ".".join([root] + names), j
+
+    def source(self):
+        return self.crate + "::" + self.where.replace("/", "::")
 
     # -- declarations
     def run(self):
@@ -341,17 +398,12 @@ class Turner:
                 self.invs.append(m[1] + "-" + self.fn.loops[norm(m[2])][0])
             elif m:
                 self.invs.append(m[1] + "-" + m[2])
-        invariants, answers, shared = [], [], self.shared(decls)
+        invariants, answers, inner = [], [], []
+        decls, shared, given = self.shared(decls)
         for b in decls:
             name = b["name"]
             if name is None:
-                if b["names"] & shared:
-                    invariants.append(public(b["text"]))
-                else:
-                    answers.append(self.section(b))
-                continue
-            if name in shared:
-                invariants.append(public(b["text"]))
+                answers.append(self.section(b))
                 continue
             if re.search(r"(^|\n)" + re.escape(name) + r"\s*=\s*tie\.close", b["text"]) or name.endswith("spec") and "statement" in b["text"]:
                 continue
@@ -370,36 +422,61 @@ class Turner:
         goal = f"use Rattle.{self.crate}.proofs.{self.module}."
         result = {}
         top = "\n".join(head)
+        if given:
+            uses_too = goal + "Invariants.{" + ", ".join(given) + "}\n"
+        else:
+            uses_too = ""
         if invariants:
-            result["Invariants.antt"] = top + "\n" + "\n".join(uses) + "\n" + goal + "Given as goal\n\n" + "\n\n".join(invariants) + "\n"
+            result["Invariants.antt"] = top + "\n" + "\n".join(uses) + "\n" + goal + "Given as goal\n\n" + "\n\n".join(shared + invariants) + "\n"
         if answers:
             body = "\n\n".join(answers)
             tie = goal + "Goals.{" + ", ".join(sorted(self.views)) + "}\n" if self.views else ""
-            if shared:
-                tie += goal + "Invariants.{" + ", ".join(sorted(shared)) + "}\n"
-            result["Answers.antt"] = top + "\n" + "\n".join(uses) + "\n" + goal + "Goals as goal\n" + tie + "\n" + body + "\n"
+            result["Answers.antt"] = top + "\n" + "\n".join(uses) + "\n" + uses_too + goal + "Goals as goal\n" + tie + "\n" + body + "\n"
         return result
 
     def shared(self, decls):
-        """The names of records and definitions that an invariant or a measure uses."""
-        known = {}
+        """Definitions that name no place and that an invariant uses: they go with the invariants."""
+        pure, names = [], {}
         for b in decls:
+            if "tie." in b["text"]:
+                continue
+            if b["name"]:
+                mine = [b["name"]]
+            else:
+                mine = re.findall(r"(?m)^(?:pub )?(?:record|data) (" + NAME + ")", b["text"])
+                if re.search(r"(?m)^(?:pub )?data ", b["text"]):
+                    mine += re.findall(r"(?m)^  (" + NAME + r") :", b["text"])
+            pure.append(b)
+            for n in mine:
+                names[n] = b
+        wanted, queue = [], [b["text"] for b in decls if re.match(r"(invariant|decreases)-", b["name"] or "")]
+        while queue:
+            for word in re.findall(NAME, queue.pop()):
+                b = names.get(word)
+                if b is not None and not any(b is w for w in wanted):
+                    wanted.append(b)
+                    queue.append(b["text"])
+        if not wanted:
+            return decls, [], []
+        shared, given = [], []
+        for b in decls:
+            if not any(b is w for w in wanted):
+                continue
+            text = b["text"]
             if b["name"] is None:
-                for n in b["names"]:
-                    known[n] = b
-            elif not re.match(r"(invariant|decreases)-", b["name"]) and "tie." not in b["text"]:
-                known[b["name"]] = b
-        todo = [b for b in decls if b["name"] and re.match(r"(invariant|decreases)-", b["name"])]
-        found = set()
-        while todo:
-            for t in set(TOKEN.findall(todo.pop()["text"])):
-                if t in known and t not in found:
-                    found.add(t)
-                    todo.append(known[t])
-        return found
+                text = re.sub(r"(?m)^(record|data) ", r"pub \1 ", text)
+                if re.search(r"(?m)^pub record ", text):
+                    text = re.sub(r"(?m)^  (?!pub |--|→)(" + NAME + r"(?: " + NAME + r")*) :", r"  pub \1 :", text)
+            else:
+                text = b["note"] + text
+                text = re.sub(r"(?m)^abbrev (?!pub)" + re.escape(b["name"]), "abbrev pub " + b["name"], text)
+                text = re.sub(r"(?m)^" + re.escape(b["name"]) + r" :", "pub " + b["name"] + " :", text)
+            shared.append(text)
+        given = sorted(n for n, b in names.items() if any(b is w for w in wanted))
+        return [b for b in decls if not any(b is w for w in wanted)], shared, given
 
     def section(self, b):
-        return self.types(b["text"]) + ("\n-- TODO section" if "tie." in b["text"] else "")
+        return self.types(b["text"]) + "\n-- TODO section"
 
     def need_of(self, b):
         m = re.search(r"(?:^|\n)\S+ :\s+tie\.Need-(" + NAME + r")", b["sig"])
@@ -444,6 +521,17 @@ class Turner:
             if "κs" in ps:
                 ps.remove("κs")
             text = self.conv(body, env)
+            if new.startswith("returns"):
+                names = clause_names(self.source(), "ensures")
+            else:
+                names = []
+                if need.endswith("requires") or "requires_" in need:
+                    step = re.sub(r"_requires(_\d+)?$", "", need)
+                    for place in self.fn.d["places"]:
+                        if norm(place[2][0]).rstrip("0123456789") == step and place[3]:
+                            names = clause_names(place[3], "requires")
+            if names:
+                text = " " + as_record(text, names).strip()
             single = text.strip()
             clauses.append(" ".join([new] + ps) + " =" + text)
         note = b["note"]
@@ -532,22 +620,97 @@ class Turner:
         return b["note"] + f"abbrev pub {kind}-{new} : goal.{kind}-{new}\n" + (b["unfolding"] + "\n" if b["unfolding"] else "") + "\n".join(out)
 
 
-def public(text):
-    """The text of a definition or a record, for other files too."""
-    out, record = [], False
-    for line in text.split("\n"):
-        if re.match(r"record ", line) or re.match(r"pub record ", line):
-            record = True
-        if re.match(r"(record|data) ", line):
-            line = "pub " + line
-        elif re.match(r"(abbrev|unfoldable) (?!pub )\S+ ", line):
-            line = re.sub(r"^(abbrev|unfoldable) ", r"\1 pub ", line)
-        elif re.match(NAME + r" :\s", line):
-            line = "abbrev pub " + line
-        elif record and re.match(r"  (" + NAME + r" )+:\s", line):
-            line = "  pub " + line[2:]
-        out.append(line)
-    return "\n".join(out)
+CLAUSE = re.compile(r"^\s*(requires|ensures)(?:\s+(\w+))?\s*\{")
+CONTRACTS = {}
+
+
+def contracts(crate):
+    """The names of the clauses of each function of a crate, by its path in the source."""
+    if crate in CONTRACTS:
+        return CONTRACTS[crate]
+    found = CONTRACTS[crate] = {}
+    src = os.path.join("crates", crate, "src")
+    for folder, _, files in os.walk(src):
+        for f in files:
+            if not f.endswith(".rt"):
+                continue
+            module = os.path.relpath(os.path.join(folder, f), src)[:-3].replace("/", "::")
+            prefix = crate + ("" if module in ("lib", "main") else "::" + module)
+            owner, name = "", None
+            for line in open(os.path.join(folder, f), encoding="utf-8"):
+                m = re.match(r"impl(?:<[^>]*>)? (\w+)", line)
+                if m:
+                    owner = "::" + m[1]
+                elif line.startswith("}"):
+                    owner = ""
+                m = re.match(r"\s*(?:pub )?(?:unsafe )?(?:extern \"C\" )?fn (\w+)", line)
+                if m:
+                    name = prefix + (owner if line.startswith(" ") else "") + "::" + m[1]
+                    found[name] = dict(requires=[], ensures=[])
+                m = CLAUSE.match(line)
+                if m and name:
+                    found[name][m[1]].append(m[2])
+    return found
+
+
+def clause_names(function, kind):
+    names = contracts(function.split("::")[0]).get(function, {}).get(kind, []) if function else []
+    return names if len(names) > 1 and all(names) else []
+
+
+def by_name(path, names):
+    """The clause that a path of positions in nested pairs means, and what is left of the path."""
+    at = 0
+    path = list(path)
+    while path and at < len(names) - 1:
+        if path[0] == "0":
+            return [names[at]] + path[1:]
+        if path[0] != "1":
+            return None
+        path.pop(0)
+        at += 1
+    return [names[at]] + path if at == len(names) - 1 else None
+
+
+def top_parts(text):
+    """The parts of a tuple, with a tuple in the last place laid flat; None for another term."""
+    text = text.strip()
+    if not text.startswith("("):
+        return None
+    depth, cuts = 0, []
+    for n, ch in enumerate(text):
+        depth += ch in "([{"
+        depth -= ch in ")]}"
+        if ch == "," and depth == 1:
+            cuts.append(n)
+        if depth == 0:
+            if n != len(text) - 1:
+                return None
+            break
+    if not cuts:
+        return None
+    edges = [0] + cuts + [len(text) - 1]
+    return [text[a + 1:b].strip() for a, b in zip(edges, edges[1:]) if text[a + 1:b].strip()]
+
+
+def as_record(body, names):
+    """A tuple for several clauses as a record by their names."""
+    m = list(re.finditer(r"\bin\b\s", body))
+    starts = [0] + [x.end() for x in m]
+    for start in starts:
+        parts = top_parts(body[start:])
+        if parts is None:
+            continue
+        while len(parts) < len(names):
+            inner = top_parts(parts[-1])
+            if inner is None:
+                break
+            parts = parts[:-1] + inner
+        if len(parts) == len(names) + 1 and parts[-1] == "tt":
+            parts.pop()
+        if len(parts) == len(names):
+            return body[:start] + "record { " + "; ".join(f"{n} = {q}" for n, q in zip(names, parts)) + " }"
+    return body
 
 
 def split_blocks(text):
@@ -584,8 +747,7 @@ def split_blocks(text):
             j = i + 1
             while j < n and (not lines[j].strip() or lines[j].startswith(" ")):
                 j += 1
-            named = re.match(r"(?:pub )?(?:record|data) (" + NAME + ")", line)
-            blocks.append(dict(kind="section", text=note + "\n".join(lines[i:j]).rstrip(), name=None, names={named[1]} if named else set()))
+            blocks.append(dict(kind="section", text=note + "\n".join(lines[i:j]).rstrip(), name=None))
             i, note = j, ""
             continue
         m = re.match(r"(?:pub |abbrev |unfoldable )*(" + NAME + r")\s*(?:\{[^}]*\} )*:(?:\s|$)", line)
@@ -593,7 +755,7 @@ def split_blocks(text):
             raise SystemExit("no declaration: " + line)
         name = m[1]
         j = i + 1
-        while j < n and lines[j].startswith(" "):
+        while j < n and lines[j].startswith((" ", ")")):
             j += 1
         sig = "\n".join(lines[i:j])
         unfolding = ""
@@ -612,7 +774,7 @@ def split_blocks(text):
                 break
             if re.match(re.escape(name) + r"(\s|$)", lines[j]):
                 k = j + 1
-                while k < n and lines[k].startswith((" ", ")", "]", "}")):
+                while k < n and lines[k].startswith((" ", ")")):
                     k += 1
                 chunk = "\n".join(lines[j:k])
                 eq = top_equals(chunk)
