@@ -66,6 +66,25 @@ def split_arrows(text):
     return parts
 
 
+def binders(part):
+    """The groups of `(a : A) (b : B)`, one by one; a type that is no such row stays as it is."""
+    found, depth, start = [], 0, 0
+    if not re.match(r"[({]", part):
+        return [part]
+    for n, ch in enumerate(part):
+        if ch in "([{":
+            if depth == 0:
+                start = n
+            depth += 1
+        elif ch in ")]}":
+            depth -= 1
+            if depth == 0:
+                found.append(part[start:n + 1])
+        elif depth == 0 and not ch.isspace():
+            return [part]
+    return found if all(" : " in q for q in found) else [part]
+
+
 class Turner:
     def __init__(self, fn, crate, path, module, text):
         self.fn, self.crate, self.where, self.module = fn, crate, path, module
@@ -548,7 +567,7 @@ class Turner:
         prefix, name, ty = m[1], m[2], m[3]
         parts = split_arrows(ty)
         vars_, places, env = [], [], {}
-        for part in parts[:-1]:
+        for part in [q for part in parts[:-1] for q in binders(part)]:
             mm = re.match(r"^\((.*?) : (.*)\)$", part, re.S)
             if mm:
                 place = self.place_of(mm[2])
