@@ -383,7 +383,7 @@ class Turner:
                         if norm(step) == f:
                             return ".".join([root, "type_inv", name] + rest[1:]), j
                 new = self.fn.places[q]["new"]
-                if new.startswith("in_default") and rest[:1] == ["rest"]:
+                if new.startswith("in_default") and rest and (rest[0] == "rest" or rest[0].startswith("keys")):
                     rest = [new + "-own"] + rest
                 return ".".join([root, new] + rest), j
         if p:
@@ -728,7 +728,8 @@ def as_record(body, names):
         if len(parts) == len(names) + 1 and parts[-1] == "tt":
             parts.pop()
         if len(parts) == len(names):
-            return body[:start] + "record { " + "; ".join(f"{n} = {q}" for n, q in zip(names, parts)) + " }"
+            lead = len(body[start:]) - len(body[start:].lstrip())
+            return body[:start + lead] + "record { " + "; ".join(f"{n} = {q}" for n, q in zip(names, parts)) + " }"
     return body
 
 
