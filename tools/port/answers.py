@@ -171,7 +171,8 @@ class Turner:
             if t in ("(", "[", "{"):
                 end = {"(": ")", "[": "]", "{": "}"}[t]
                 inner, j = self.seq(toks, i + 1, dict(env), end)
-                out += t + inner + end
+                once = t == "(" and inner.startswith("(") and self.closes(inner) == len(inner) - 1
+                out += inner if once else t + inner + end
                 i = j + 1
                 continue
             behind_dot = out.endswith(".")
@@ -328,11 +329,11 @@ class Turner:
         if h["body"] is None:
             return f"{name} {root}"
         # a lemma's own text, at a place further in
-        body = self.rename(h["body"], h["var"], root)
-        ty = self.rename(h["type"], h["var"], root)
-        if not ty:
-            return f"({body})"
-        return f"(let it : {ty} = {body} in it)"
+        env = {h["var"]: got}
+        body = self.types(self.conv(h["body"], env)).strip()
+        if h["abbrev"]:
+            return body if re.fullmatch(NAME + r"(?:\." + NAME + r")*", body) else f"({body})"
+        return f"(let it : {self.types(self.conv(h['type'], env))} = {body} in it)"
 
     def rename(self, text, old, new):
         if not text or old == new:
@@ -501,10 +502,16 @@ class Turner:
         m = re.search(r"(?:^|\n)\S+ :\s+tie\.Need-(" + NAME + r")", b["sig"])
         if not m:
             return None
-        for n in (norm(m[1]), norm(re.sub(r"^overflow-", "", m[1]))):
+        # by the old name first: a new one may mean another goal
+        short, whole = norm(re.sub(r"^(overflow|slice[-_]bounds)[-_]", "", m[1])), norm(m[1])
+        old = {norm(o) for o, _ in self.fn.d["needs"]}
+        for n in (whole, short):
+            if n in old:
+                return n
+        for n in (whole, short):
             if n in self.fn.needs:
                 return n
-        return norm(m[1])
+        return whole
 
     def params(self, clause_head):
         toks = TOKEN.findall(clause_head)
@@ -581,7 +588,7 @@ class Turner:
                 vars_.append(None)
                 places.append(self.place_of(part))
         result = self.place_of(parts[-1])
-        h = dict(place=places[0] if places else None, result=result, var=None, body=None, type=None)
+        h = dict(place=places[0] if places else None, result=result, var=None, body=None, type=None, abbrev="abbrev" in prefix)
         if result and len(places) == 1 and places[0]:
             self.helpers[name] = h
             return None
@@ -597,13 +604,9 @@ class Turner:
             text = self.types(self.conv(body, e))
             clauses.append(head.rstrip() + " =" + text)
             if len(b["clauses"]) == 1 and len(explicit) == 1 and places and places[0]:
-                h["var"], h["body"] = explicit[0], text.strip()
-                inner = split_arrows(ty)[1:]
-                typed = dict(env)
-                if vars_[0] is None:
-                    h["type"] = self.types(self.conv(" → ".join(inner), {}))
-                else:
-                    h["type"] = self.rename(self.types(self.conv(" → ".join(inner), typed)), vars_[0], explicit[0])
+                h["var"], h["body"] = explicit[0], body.strip()
+                inner = " → ".join(split_arrows(ty)[1:])
+                h["type"] = inner if vars_[0] is None else self.rename(inner, vars_[0], explicit[0])
         self.helpers[name] = h
         unf = b["unfolding"] + "\n" if b["unfolding"] else ""
         return b["note"] + sig.rstrip() + "\n" + unf + "\n".join(c.rstrip() for c in clauses)
