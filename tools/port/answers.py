@@ -33,21 +33,44 @@ class Function:
             self.places[norm(name)] = dict(name=name, parent=norm(parent) if parent else None, old=step[0], new=step[1], i=i)
         self.needs = {}
         for i, (old, new) in enumerate(data["needs"]):
-            self.needs[norm(old)] = dict(new=new, at=norm(data["asked_at"][i][0]) if i < len(data["asked_at"]) else None)
-        for it in list(self.needs.values()):
-            self.needs.setdefault(norm(it["new"]), it)
+            self.needs[norm(old)] = dict(new=new, at=norm(data["asked_at"][i][0]) if i < len(data["asked_at"]) else None, view=data["asked_at"][i][1] if i < len(data["asked_at"]) else None)
+        self.by_new = {norm(it["new"]): it for it in self.needs.values()}
         self.settled = {norm(s) for s in data["settled"]}
         self.loops = {}
         for (names, vars_), changed in zip(data["loops"], data["changed"]):
             self.loops[norm(names[0])] = (names[1], vars_, changed)
 
     def parent(self, p):
-        return self.places[p]["parent"] if p in self.places else None
+        # what was a step of its own before the first place is part of the start today
+        return (self.places[p]["parent"] or p) if p in self.places else None
+
+    def need(self, name):
+        for n in (norm(re.sub(r"^overflow[-_]", "", name)), norm(name)):
+            if n in self.needs:
+                return self.needs[n]
+        return self.by_new.get(norm(name))
 
     def chain(self, p):
         while p:
             yield p
-            p = self.parent(p)
+            p = self.places[p]["parent"] if p in self.places else None
+
+
+def binders(part):
+    """The groups of a part such as (a b : A) {c : C}; None for a type."""
+    groups, depth, start = [], 0, None
+    for n, ch in enumerate(part):
+        if ch in "([{":
+            if depth == 0:
+                start = n
+            depth += 1
+        elif ch in ")]}":
+            depth -= 1
+            if depth == 0:
+                groups.append(part[start:n + 1])
+        elif depth == 0 and not ch.isspace():
+            return None
+    return groups if groups and all(" : " in g for g in groups) else None
 
 
 def split_arrows(text):
@@ -66,25 +89,6 @@ def split_arrows(text):
     return parts
 
 
-def binders(part):
-    """The groups of `(a : A) (b : B)`, one by one; a type that is no such row stays as it is."""
-    found, depth, start = [], 0, 0
-    if not re.match(r"[({]", part):
-        return [part]
-    for n, ch in enumerate(part):
-        if ch in "([{":
-            if depth == 0:
-                start = n
-            depth += 1
-        elif ch in ")]}":
-            depth -= 1
-            if depth == 0:
-                found.append(part[start:n + 1])
-        elif depth == 0 and not ch.isspace():
-            return [part]
-    return found if all(" : " in q for q in found) else [part]
-
-
 class Turner:
     def __init__(self, fn, crate, path, module, text):
         self.fn, self.crate, self.where, self.module = fn, crate, path, module
@@ -101,6 +105,10 @@ class Turner:
         m = re.match(r"^\(?\s*tie\.(" + NAME + r")((?: +\(?(?:invariant|decreases)[^\s()]*\)?)*)\s*\)?$", ty.strip())
         if m and norm(m[1]) in self.fn.places:
             return norm(m[1])
+        if m:
+            other = re.sub(r"_arg(\d+)$", r"\1_arg", norm(m[1]))
+            if other in self.fn.places:
+                return other
         return None
 
     def view(self, place):
@@ -109,12 +117,14 @@ class Turner:
         return name
 
     def types(self, text):
+        text = re.sub(r"\b(\w+)\.inv\b", r"\1.invariant", text)
+
         def one(m):
-            name = norm(m[1])
-            if name in self.fn.places:
+            name = self.place_of("tie." + m[1])
+            if name:
                 return self.view(name)
             if m[1].startswith("Need-"):
-                need = self.fn.needs.get(norm(m[1][5:])) or self.fn.needs.get(norm(re.sub(r"^overflow.", "", m[1][5:])))
+                need = self.fn.need(m[1][5:])
                 if need:
                     return "goal." + need["new"]
             return m[0]
@@ -248,7 +258,7 @@ class Turner:
         while raw.startswith("(") and self.closes(raw) == len(raw) - 1:
             raw = raw[1:-1].strip()
         m = re.fullmatch(r"(.*?)((?:\.before)+)", raw, re.S)
-        if m and self.operand(TOKEN.findall(m[1]), 0) == len(TOKEN.findall(m[1])):
+        if m and (re.fullmatch(NAME, m[1]) or m[1].startswith("(") and self.closes(m[1]) == len(m[1]) - 1):
             got = self.place_value(m[1], env)
             if not got:
                 return None
@@ -291,11 +301,16 @@ class Turner:
                 continue
             f, rest = norm(names[0]), names[1:]
             root, at, p = got
-            if f == "requires" and clause_names(self.source(), "requires") and not (rest and by_name(rest, clause_names(self.source(), "requires"))):
+            if f in ("requires", "pre") and clause_names(self.source(), "requires") and not (rest and by_name(rest, clause_names(self.source(), "requires"))):
                 return got + (names,)
             for q in (self.fn.chain(p) if p else []):
                 if norm(self.fn.places[q]["old"]) == f:
                     callee = self.fn.d["places"][self.fn.places[q]["i"]][3]
+                    word = WORDS.get(rest[0], rest[0]) if rest else ""
+                    if word in ("new", "auto") and len(rest) > 1 and rest[1] == "1" and self.fn.d["params"].get(callee):
+                        named = by_name(rest[1:], self.fn.d["params"][callee] + ["none"])
+                        if not named or named[0] == "none":
+                            return got + (names,)
                     if rest[:1] == ["ensures"] and clause_names(callee, "ensures") and not (rest[1:] and by_name(rest[1:], clause_names(callee, "ensures"))):
                         return got + (names,)
                     if not rest and callee and clause_names(callee, "ensures"):
@@ -321,7 +336,7 @@ class Turner:
     def call(self, name, h, got):
         root, at, p = got
         if self.need:
-            if p == at:
+            if h["place"] == at and self.view(h["place"]) == self.need_view:
                 return f"{name} {root}"
             return f"{name} (goal.at.{self.need} {root}).{self.view(h['place'])}"
         if p == at:
@@ -329,11 +344,12 @@ class Turner:
         if h["body"] is None:
             return f"{name} {root}"
         # a lemma's own text, at a place further in
-        env = {h["var"]: got}
-        body = self.types(self.conv(h["body"], env)).strip()
-        if h["abbrev"]:
-            return body if re.fullmatch(NAME + r"(?:\." + NAME + r")*", body) else f"({body})"
-        return f"(let it : {self.types(self.conv(h['type'], env))} = {body} in it)"
+        here = (root, at, h["place"])
+        body = self.types(self.conv(h["body"], {h["var"]: here})).strip()
+        if h["plain"]:
+            return f"({body})"
+        ty = self.types(self.conv(h["type"], {h["typevar"]: here} if h["typevar"] else {})).strip()
+        return f"(let it : {ty} = {body} in it)"
 
     def rename(self, text, old, new):
         if not text or old == new:
@@ -362,7 +378,7 @@ class Turner:
             f = f[:-4]
         if rest and rest[0] in WORDS:
             rest[0] = WORDS[rest[0]]
-        steps = [q for q in self.fn.chain(p)] if p else []
+        steps = [q for q in self.fn.chain(p)] + [q for q in self.fn.chain(at)]
         for q in steps:
             if norm(self.fn.places[q]["old"]) == f:
                 for r in self.fn.chain(at):
@@ -379,6 +395,10 @@ class Turner:
                     named = by_name(rest[1:], names_) if names_ else None
                     if named:
                         rest = ["ensures"] + named
+                if rest[:1] in (["new"], ["auto"]) and len(rest) > 1 and rest[1] in "01" and self.fn.d["params"].get(callee):
+                    named = by_name(rest[1:], self.fn.d["params"][callee] + ["none"])
+                    if named:
+                        rest = rest[:1] + named
                 if rest[:1] == ["given"]:
                     for name, step in self.fn.d["typed"][self.fn.places[at]["i"]]:
                         if norm(step) == f:
@@ -387,13 +407,14 @@ class Turner:
                 if new.startswith("in_default") and rest and (rest[0] == "rest" or rest[0].startswith("keys")):
                     rest = [new + "-own"] + rest
                 return ".".join([root, new] + rest), j
-        if p:
-            names[0] = dict(pre="requires", good="well_formed").get(names[0], names[0])
+        names[0] = {"pre": "requires", "fits": "ranges", "good": "well_formed"}.get(names[0], names[0])
         if names[0] == "requires" and len(names) > 1:
             own = clause_names(self.source(), "requires")
             named = by_name(names[1:], own) if own else None
             if named:
                 names = ["requires"] + named
+            elif own and all(n == "1" for n in names[1:]):
+                names = ["requires"]
         return ".".join([root] + names), j
 
     def source(self):
@@ -420,6 +441,7 @@ class Turner:
                 self.invs.append(m[1] + "-" + m[2])
         invariants, answers, inner = [], [], []
         decls, shared, given = self.shared(decls)
+        self.macros(decls)
         for b in decls:
             name = b["name"]
             if name is None:
@@ -453,6 +475,49 @@ class Turner:
             tie = goal + "Goals.{" + ", ".join(sorted(self.views)) + "}\n" if self.views else ""
             result["Answers.antt"] = top + "\n" + "\n".join(uses) + "\n" + uses_too + goal + "Goals as goal\n" + tie + "\n" + body + "\n"
         return result
+
+    def macros(self, decls):
+        """An invariant that a proof uses by its name is written out there."""
+        for b in decls:
+            if not re.match(r"invariant-", b["name"] or "") or len(b["clauses"]) != 1:
+                continue
+            head, body = b["clauses"][0]
+            ps = self.params(head)[1:]
+            for d in decls:
+                if d is b or not d["name"]:
+                    continue
+                d["clauses"] = [(h, self.written_out(t, b["name"], ps, body)) for h, t in d["clauses"]]
+                d["sig"] = self.written_out(d["sig"], b["name"], ps, body)
+
+    def written_out(self, text, name, ps, body):
+        if name not in text:
+            return text
+        toks = TOKEN.findall(text)
+        out, i = "", 0
+        while i < len(toks):
+            if toks[i] != name:
+                out += toks[i]
+                i += 1
+                continue
+            args, j = [], i + 1
+            while len(args) < len(ps) and j + 1 < len(toks) and toks[j].isspace() and (re.fullmatch(NAME, toks[j + 1]) or toks[j + 1] == "("):
+                if toks[j + 1] in ("→", "in", "decreases-loop", "≡", "×") or toks[j + 1].startswith("decreases-"):
+                    break
+                k = self.operand(toks, j + 1)
+                args.append("".join(toks[j + 1:k]))
+                j = k
+            if len(args) < len(ps):
+                out += toks[i]
+                i += 1
+                continue
+            subst = dict(zip(ps, args))
+            res, prev = "", ""
+            for t in TOKEN.findall(body.strip()):
+                res += subst[t] if t in subst and prev != "." else t
+                prev = t
+            out += "(" + res + ")"
+            i = j
+        return out
 
     def shared(self, decls):
         """Definitions that name no place and that an invariant uses: they go with the invariants."""
@@ -502,16 +567,7 @@ class Turner:
         m = re.search(r"(?:^|\n)\S+ :\s+tie\.Need-(" + NAME + r")", b["sig"])
         if not m:
             return None
-        # by the old name first: a new one may mean another goal
-        short, whole = norm(re.sub(r"^(overflow|slice[-_]bounds)[-_]", "", m[1])), norm(m[1])
-        old = {norm(o) for o, _ in self.fn.d["needs"]}
-        for n in (whole, short):
-            if n in old:
-                return n
-        for n in (whole, short):
-            if n in self.fn.needs:
-                return n
-        return whole
+        return m[1]
 
     def params(self, clause_head):
         toks = TOKEN.findall(clause_head)
@@ -532,13 +588,15 @@ class Turner:
         return out
 
     def answer(self, b, need):
-        info = self.fn.needs.get(need)
+        info = self.fn.need(need)
+        need = norm(re.sub(r"^overflow-", "", need))
         if need in self.fn.settled or (info and norm(info["new"]) in self.fn.settled):
             return None
         new = info["new"] if info else need
         clauses = []
         single = None
         self.need = new
+        self.need_view = info["view"] if info else None
         for head, body in b["clauses"]:
             ps = self.params(head)[1:]
             env = {}
@@ -556,6 +614,7 @@ class Turner:
                     for place in self.fn.d["places"]:
                         if norm(place[2][0]).rstrip("0123456789") == step and place[3]:
                             names = clause_names(place[3], "requires")
+            text = re.sub(r"\b(\w+)\.inv\b", r"\1.invariant", text)
             if names:
                 text = " " + as_record(text, names).strip()
             single = text.strip()
@@ -574,21 +633,23 @@ class Turner:
         prefix, name, ty = m[1], m[2], m[3]
         parts = split_arrows(ty)
         vars_, places, env = [], [], {}
-        for part in [q for part in parts[:-1] for q in binders(part)]:
-            mm = re.match(r"^\((.*?) : (.*)\)$", part, re.S)
-            if mm:
+        for part in parts[:-1]:
+            groups = binders(part)
+            if groups is None:
+                vars_.append(None)
+                places.append(self.place_of(part))
+                continue
+            for group in groups:
+                if group.startswith("{"):
+                    continue
+                mm = re.match(r"^\((.*?) : (.*)\)$", group, re.S)
                 place = self.place_of(mm[2])
                 for v in mm[1].split():
                     vars_.append(v)
                     places.append(place)
                     env[v] = (v, place, place) if place else None
-            elif part.startswith("{"):
-                continue
-            else:
-                vars_.append(None)
-                places.append(self.place_of(part))
         result = self.place_of(parts[-1])
-        h = dict(place=places[0] if places else None, result=result, var=None, body=None, type=None, abbrev="abbrev" in prefix)
+        h = dict(place=places[0] if places else None, result=result, var=None, body=None, type=None)
         if result and len(places) == 1 and places[0]:
             self.helpers[name] = h
             return None
@@ -603,10 +664,19 @@ class Turner:
                     e[v] = (v, place, place) if place else None
             text = self.types(self.conv(body, e))
             clauses.append(head.rstrip() + " =" + text)
-            if len(b["clauses"]) == 1 and len(explicit) == 1 and places and places[0]:
+            if len(b["clauses"]) == 1 and explicit and places and places[0] and len(explicit) == len([q for q in ps if not q.startswith("{")]):
                 h["var"], h["body"] = explicit[0], body.strip()
-                inner = " → ".join(split_arrows(ty)[1:])
-                h["type"] = inner if vars_[0] is None else self.rename(inner, vars_[0], explicit[0])
+                if len(explicit) > 1:
+                    h["body"] = "λ " + " ".join(explicit[1:]) + ". " + h["body"]
+                first, rest = split_arrows(ty)[0], split_arrows(ty)[1:]
+                groups = binders(first)
+                if groups:
+                    mm = re.match(r"^\((.*?) : (.*)\)$", groups[0], re.S)
+                    more = mm[1].split()[1:]
+                    left = ([f"({' '.join(more)} : {mm[2]})"] if more else []) + groups[1:]
+                    rest = ([" ".join(left)] if left else []) + rest
+                h["typevar"], h["type"] = vars_[0], re.sub(r"\{([^{}]* : [^{}]*)\}", r"(\1)", " → ".join(rest))
+                h["plain"] = "abbrev" in prefix
         self.helpers[name] = h
         unf = b["unfolding"] + "\n" if b["unfolding"] else ""
         return b["note"] + sig.rstrip() + "\n" + unf + "\n".join(c.rstrip() for c in clauses)
@@ -717,6 +787,8 @@ def top_parts(text):
 
 def as_record(body, names):
     """A tuple for several clauses as a record by their names."""
+    if len(names) == 2 and re.fullmatch(r"\s*" + NAME + r" [^\n]*", body) and not re.match(r"\s*(search|omega|grind|simp|rw|let|elim|subst|cc|record|absurd)\b", body):
+        return f"let it = {body.strip()} in record {{ {names[0]} = it.0; {names[1]} = it.1 }}"
     m = list(re.finditer(r"\bin\b\s", body))
     starts = [0] + [x.end() for x in m]
     for start in starts:
@@ -731,8 +803,8 @@ def as_record(body, names):
         if len(parts) == len(names) + 1 and parts[-1] == "tt":
             parts.pop()
         if len(parts) == len(names):
-            lead = len(body[start:]) - len(body[start:].lstrip())
-            return body[:start + lead] + "record { " + "; ".join(f"{n} = {q}" for n, q in zip(names, parts)) + " }"
+            space = re.match(r"\s*", body[start:])[0]
+            return body[:start] + space + "record { " + "; ".join(f"{n} = {q}" for n, q in zip(names, parts)) + " }"
     return body
 
 
@@ -778,7 +850,7 @@ def split_blocks(text):
             raise SystemExit("no declaration: " + line)
         name = m[1]
         j = i + 1
-        while j < n and lines[j].startswith((" ", ")")):
+        while j < n and lines[j].startswith((" ", ")", "}")):
             j += 1
         sig = "\n".join(lines[i:j])
         unfolding = ""
@@ -797,7 +869,7 @@ def split_blocks(text):
                 break
             if re.match(re.escape(name) + r"(\s|$)", lines[j]):
                 k = j + 1
-                while k < n and lines[k].startswith((" ", ")")):
+                while k < n and lines[k].startswith((" ", ")", "}")):
                     k += 1
                 chunk = "\n".join(lines[j:k])
                 eq = top_equals(chunk)
