@@ -145,7 +145,9 @@ class Turner:
         # what a test of a negation says is said of the test itself today
         at = r"(\w+\.(?:if|loop)[^\s()]*\.(?:true|false))"
         out = re.sub(r"\(not[-_](?:true|false) _ " + at + r"\)", r"\1", out)
-        return re.sub(r"\bnot[-_](?:true|false) _ " + at, r"\1", out)
+        out = re.sub(r"\bnot[-_](?:true|false) _ " + at, r"\1", out)
+        # a step's fields, where a let names the step
+        return re.sub(r"(?<=\w\.)(inv|came)(?=[.\s),])", lambda m: WORDS[m[1]], out)
 
     def operand(self, toks, i):
         """Where the operand that begins at i ends: a name or a group, with its fields."""
@@ -186,7 +188,8 @@ class Turner:
             if t in ("(", "[", "{"):
                 end = {"(": ")", "[": "]", "{": "}"}[t]
                 inner, j = self.seq(toks, i + 1, dict(env), end)
-                out += t + inner + end
+                once = t == "(" and inner.startswith("(") and self.closes(inner) == len(inner) - 1
+                out += inner if once else t + inner + end
                 i = j + 1
                 continue
             behind_dot = out.endswith(".")
@@ -410,7 +413,7 @@ class Turner:
                         if norm(step) == f:
                             return ".".join([root, "type_inv", name] + rest[1:]), j
                 new = self.fn.places[q]["new"]
-                if new.startswith("in_default") and rest[:1] == ["rest"]:
+                if new.startswith("in_default") and rest and (rest[0] == "rest" or rest[0].startswith("keys")):
                     rest = [new + "-own"] + rest
                 return ".".join([root, new] + rest), j
         names[0] = {"pre": "requires", "fits": "ranges", "good": "well_formed"}.get(names[0], names[0])
