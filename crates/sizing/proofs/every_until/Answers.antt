@@ -24,13 +24,13 @@ own : (c : In-loop-a) →
 own c = starts_own c.requires.n_in_bounds.1 c.loop-a.a c.loop-a-test.true
 
 -- how many they are
-abbrev manyOf : In-loop-a → ℕ
-manyOf c =
+abbrev many_of : In-loop-a → ℕ
+many_of c =
     let table = c.args.table.now in
     let i = c.loop-a.a in
     get_or table (i + 1) 0 - get_or table i 0
 
-few : (c : In-loop-a) → manyOf c ≤ 65535
+few : (c : In-loop-a) → many_of c ≤ 65535
 few c = omega (arith, (own c).inside, c.requires.holds_model.transitions_fit)
 
 pub loop-a-init : goal.loop-a-init
@@ -69,7 +69,7 @@ overflow_add-many-in-loop-a c = omega (arith, few (goal.at.overflow_add-many-in-
 pub loop-a-preserved : goal.loop-a-preserved
 loop-a-preserved c =
     let l = c.loop-a in
-    let many = manyOf (goal.at.loop-a-preserved c).In-loop-a in
+    let many = many_of (goal.at.loop-a-preserved c).In-loop-a in
     let any = c.any_of-own.result in
     let is = c.any_of-own.ensures in
     let one = ap (step_size Every) (out_own c.requires.holds_model (own (goal.at.loop-a-preserved c).In-loop-a)) in

@@ -17,8 +17,8 @@ use Rattle.sizing.proofs.Sizes.{none_add, add_none, rows_turn, rows_small, Small
 use Rattle.sizing.proofs.total_size.Goals as goal
 use Rattle.sizing.proofs.total_size.Goals.{After-row_total, Start}
 
-abbrev heldIn : Start → Model
-heldIn c = held_model c.args.m.now c.args.n c.args.p c.args.t
+abbrev held_in : Start → Model
+held_in c = held_model c.args.m.now c.args.n c.args.p c.args.t
 
 -- with the row's size the sum, and the rest, make the whole, and the sum is small
 whole : (c : After-row_total) →
