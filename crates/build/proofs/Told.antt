@@ -15,6 +15,7 @@ use Rattle.model.specs.Model.{Model, holds}
 use Rattle.syntax.specs.declared.Action.{Action}
 use Rattle.syntax.specs.declared.Quantifier.TheVariants.{Some, Every}
 use Rattle.syntax.specs.declared.Row.{Row}
+use Rattle.syntax.specs.declared.Quantifier.{Quantifier}
 use Rattle.syntax.specs.declared.Row.TheVariants.{True, False, Proposition, Negation, And, Or, Next, Until}
 use Rattle.syntax.specs.contracts.Row.{enum}
 use Rattle.reduction.specs.Built.{row_edges}
@@ -90,17 +91,15 @@ module _ (n bytes : ℕ) where
   leaf_none true = refl
   leaf_none false = refl
 
-  -- the tags of the others, and what a match knows in their arm
-  abbrev pub others : List ℕ
-  others = 0 ∷ 1 ∷ 2 ∷ 3 ∷ 7 ∷ []
-
-  pub other_told : (row : Row) → OneOf others (tag_of (declared enum) row) → ToldHypers row n bytes (bytes / 4)
+  -- a row of another kind, which no arm took
+  pub other_told : (row : Row) → ((l r : ℕ) → row ≡ And l r → ⊥) → ((l r : ℕ) → row ≡ Or l r → ⊥) → ((q : Quantifier) (A : Action) (l : ℕ) (b : Bound) → row ≡ Next q A l b → ⊥)
+      → ToldHypers row n bytes (bytes / 4)
   unfolding size_of
-  other_told True o = bare_told True (λ M a. refl)
-  other_told False o = bare_told False (λ M a. refl)
-  other_told (Proposition i) o = bare_told (Proposition i) (λ M a. leaf_none (holds M i a))
-  other_told (Negation i) o = bare_told (Negation i) (λ M a. leaf_none (not (holds M i a)))
-  other_told (And l r) o = absurd (miss others 4 tt o)
-  other_told (Or l r) o = absurd (miss others 5 tt o)
-  other_told (Next q A l b) o = absurd (miss others 6 tt o)
-  other_told (Until q l r b) o = bare_told (Until q l r b) (λ M a. refl)
+  other_told True a o x = bare_told True (λ M a. refl)
+  other_told False a o x = bare_told False (λ M a. refl)
+  other_told (Proposition i) a o x = bare_told (Proposition i) (λ M a. leaf_none (holds M i a))
+  other_told (Negation i) a o x = bare_told (Negation i) (λ M a. leaf_none (not (holds M i a)))
+  other_told (And l r) a o x = absurd (a l r refl)
+  other_told (Or l r) a o x = absurd (o l r refl)
+  other_told (Next q A l b) a o x = absurd (x q A l b refl)
+  other_told (Until q l r b) a o x = bare_told (Until q l r b) (λ M a. refl)

@@ -1,5 +1,6 @@
 // Words and decimal numbers, written into a lent room.
 #![tactic(auto)]
+
 ghost use Rattle.std.specs.Prelude.{◌≡◌, ◌+◌, ◌≤◌, ◌++◌, length};
 ghost use Rattle.wire.specs.Laid.{Laid};
 ghost use Rattle.decimals.specs.Decimal.{decimal, long_decimal};

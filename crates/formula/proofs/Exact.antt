@@ -9,7 +9,7 @@ use native.Mathlib.Nat.{add-zero, zero-add}
 use native.Mathlib.Omega.{arith}
 use lib.ListN.{length, get_or, drop, length-append}
 use borrow.Author.Tests.{le-leb, eq-eqb}
-use Rattle.lists.specs.Lists.{◌∈◌, all}
+use Rattle.lists.specs.Lists.{◌∈◌}
 use Rattle.lists.proofs.Places.{place_lt, place-∈, ∈-place}
 use Rattle.wire.specs.Start.{start_width}
 use Rattle.wire.specs.declared.State.{State}

@@ -1,5 +1,5 @@
 -- The fields of a row: those that it is written with, and that fields without a fault are those of their row. Assumes nothing.
-use Prim.Native.Nat.{ℕ, zero, ◌^◌, ◌≤◌, ◌<◌}
+use Prim.Native.Nat.{ℕ, ◌^◌, ◌≤◌, ◌<◌}
 use mathlib.Core.Bool.{Bool, true, ◌&&◌}
 use mathlib.Core.List.{List, ◌++◌}
 use mathlib.Core.Path.{◌≡◌, refl, ap}

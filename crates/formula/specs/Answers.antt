@@ -4,7 +4,6 @@ use Rattle.refusal.specs.Number.{ok, number_of, nowhere}
 use Rattle.wire.specs.Read.{Read, good, bad}
 use Rattle.syntax.specs.declared.Row.{Row}
 use Rattle.formula.specs.declared.Checked.{Checked}
-use Rattle.formula.specs.declared.Checked.TheVariants as Checked
 
 -- the counts of a good header, or its fault
 unfoldable pub counted : Read ℕ → Checked

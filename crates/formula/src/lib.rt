@@ -1,5 +1,6 @@
 // The check of a formula message against a number of propositions: the first fault in the paper's order, or how many rows it has.
 #![tactic(auto)]
+
 ghost use Rattle.std.specs.Prelude.{◌≡◌, ℕ, ◌+◌, ◌≤◌, ◌<◌, List, [], ◌∷◌, ◌++◌, length};
 ghost use Rattle.lists.specs.Lists.{◌∈◌};
 ghost use Rattle.syntax.specs.Format.{formula_length};

@@ -6,7 +6,6 @@ use Rattle.syntax.specs.declared.Row.TheVariants.{True, False, Proposition, Nega
 use Rattle.kinds.specs.declared.Operands.{Operands}
 use Rattle.kinds.specs.declared.Operands.TheVariants.{None, One, Both}
 use Rattle.kinds.specs.declared.Judged.{Judged}
-use Rattle.kinds.specs.declared.Judged.TheVariants as Judged
 
 -- the operands of a row, as the check keeps them
 unfoldable pub operands_of : Row → Operands

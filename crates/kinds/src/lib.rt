@@ -1,5 +1,6 @@
 // The operands of a row by the kind of its operator, or the first fault of its fields in the paper's order.
 #![tactic(auto)]
+
 ghost use Rattle.std.specs.Prelude.{◌≡◌, ℕ, ◌+◌, ◌^◌, ◌<◌, false};
 ghost use Rattle.wire.specs.Read.{bad, below, found, misnamed};
 ghost use Rattle.syntax.specs.Format.{row_width};

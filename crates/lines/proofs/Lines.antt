@@ -36,7 +36,7 @@ unfolding lines
 lines_length [] = omega arith
 lines_length (n ∷ l) = simp length-append (omega (arith, decimal_length 20 n, lines_length l))
 
--- ---- at the lines-front of a room
+-- ---- at the front of a room
 
 module _ {b s b' : List ℕ} {next : ℕ} (l : Laid b 0 s b' next) where
   room_now : b' ≡ s ++ drop (length s) b

@@ -4,7 +4,6 @@ use Rattle.refusal.specs.Number.{ok, number_of}
 use Rattle.refusal.specs.declared.Refusal.TheVariants.{Room}
 use Rattle.decimals.specs.Decimal.{long_decimal}
 use Rattle.lines.specs.declared.Reported.{Reported}
-use Rattle.lines.specs.declared.Reported.TheVariants as Reported
 
 -- one number on a line
 unfoldable pub lines : List ℕ → List ℕ

@@ -1,5 +1,6 @@
 // The report of the nightly sheet: numbers, one on a line.
 #![tactic(auto)]
+
 ghost use Rattle.std.specs.Prelude.{◌≡◌, ◌≤◌, length};
 ghost use Rattle.wire.specs.Laid.{Laid};
 ghost use Rattle.lines.specs.Lines.{lines, reported_number, reported_length, reported_of, report_room};
@@ -35,7 +36,7 @@ impl Reported {
     }
 }
 
-// Stores numbers in decimal at the lines-front of a room, each ended by a line feed; returns the position past them.
+// Stores numbers in decimal at the front of a room, each ended by a line feed; returns the position past them.
 fn put_lines(room: &mut [u8], numbers: &[u64]) -> usize
     requires { length (lines numbers.now) ≤ length room.old }
     ensures { Laid room.old 0 (lines numbers.now) room.new result }

@@ -1,13 +1,9 @@
 -- What a good reading says: each field is there, each demand is met. Assumes nothing.
-use Prim.Native.Nat.{ℕ, ◌+◌, ◌*◌, ◌^◌, ◌<◌, ◌≤◌}
+use Prim.Native.Nat.{ℕ, ◌+◌, ◌^◌, ◌<◌, ◌≤◌}
 use mathlib.Core.List.{List}
-use mathlib.Core.Bool.{Bool, true, ◌&&◌}
-use mathlib.Core.Path.{◌≡◌, refl, sym, ap, subst, ◌∙◌}
+use mathlib.Core.Path.{◌≡◌, sym, ap, subst, ◌∙◌}
 use lib.ListN.{length}
-use lib.Dec.{eqb, ltb}
-use borrow.Author.Tests.{ltb-true, leb-true, eqb-true, lt-ltb, le-leb, ne_eqb}
-use native.Mathlib.Omega.{arith}
-use Rattle.lists.proofs.Tests.{by_test, by, and_left, and_right}
+use borrow.Author.Tests.{eqb-true}
 use Rattle.wire.specs.declared.Field.TheVariants.{Number}
 use Rattle.wire.specs.declared.State.{State}
 use Rattle.wire.specs.Field.{field_at}
@@ -15,9 +11,8 @@ use Rattle.wire.specs.Read.{good}
 use Rattle.wire.specs.Reader.{read_all, one}
 use Rattle.wire.specs.Start.{read_start}
 use Rattle.wire.proofs.Counts.{CountAt, count_good}
-use Rattle.wire.proofs.Fields.{value_inside}
 use Rattle.wire.proofs.Exact.{all_there}
-use Rattle.wire.proofs.Reading.{reading, bind_good, and_good, demand_good, field_good, below_good, source_good, good_same}
+use Rattle.wire.proofs.Reading.{bind_good, and_good, demand_good, field_good, below_good, source_good, good_same}
 use Rattle.wire.proofs.Readers.{all_length}
 use Rattle.model.specs.Model.{Model, Transition}
 use Rattle.wire.specs.Step.{start}

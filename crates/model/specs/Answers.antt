@@ -5,7 +5,6 @@ use Rattle.wire.specs.Read.{Read, good, bad}
 use Rattle.model.specs.Model.{Model}
 use Rattle.model.specs.Message.{Counts}
 use Rattle.model.specs.declared.Checked.{Checked}
-use Rattle.model.specs.declared.Checked.TheVariants as Checked
 
 -- the counts of a good header, or its fault
 unfoldable pub counted : Read Counts → Checked

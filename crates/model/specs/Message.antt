@@ -1,6 +1,6 @@
 -- The reading of a model message s: its first fault in the paper's order, with the offset of the field at fault, or the model.
 -- A state's `at` is a position in s, and `prev` the `from` before.
-use Rattle.std.specs.Prelude.{ℕ, ◌+◌, ◌*◌, ◌^◌, List, length, eqb}
+use Rattle.std.specs.Prelude.{ℕ, ◌+◌, ◌^◌, List, length, eqb}
 use Rattle.refusal.specs.declared.Refusal.TheVariants.{Length, Form}
 use Rattle.refusal.specs.Number.{nowhere}
 use Rattle.wire.specs.Read.{Read, good, ◌>>=◌, ◌>>◌, demand, field, below, named, source}

@@ -1,5 +1,6 @@
 // A row's reading: the rows that it has for operands, or its first fault in the paper's order.
 #![tactic(auto)]
+
 ghost use Rattle.std.specs.Prelude.{◌≡◌, ◌+◌, ◌^◌, ◌≤◌, ◌<◌, length};
 ghost use Rattle.syntax.specs.Format.{row_width};
 ghost use Rattle.syntax.specs.Message as m;

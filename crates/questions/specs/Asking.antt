@@ -3,7 +3,6 @@ use Rattle.std.specs.Prelude.{ℕ, List, ◌≡◌}
 use Rattle.wire.specs.Read.{good, bad}
 use Rattle.transitions.specs.Held.{held_model, held_rows, HoldsModel, HoldsRows}
 use Rattle.questions.specs.declared.Asked.{Asked}
-use Rattle.questions.specs.declared.Asked.TheVariants as Asked
 use Rattle.questions.specs.Question.{Question, read_question}
 
 -- the question that the bytes hold, by position

@@ -1,5 +1,6 @@
 // A question: the check of a model, and of a formula with the model's p.
 #![tactic(auto)]
+
 ghost use Rattle.questions.specs.Asking.{Asking};
 
 use refusal::Fault;

@@ -1,5 +1,6 @@
 // Records of the graph, written into the room: hyperedges, and what a list of transitions makes of them.
 #![tactic(auto)]
+
 ghost use Rattle.std.specs.Prelude.{◌≡◌, ◌+◌, ◌*◌, ◌≤◌, ◌++◌, ◌∷◌, [], length};
 ghost use Rattle.lists.specs.Making.{keep};
 ghost use Rattle.wire.specs.Bytes.{bytes};

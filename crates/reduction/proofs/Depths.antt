@@ -28,7 +28,7 @@ use Rattle.syntax.specs.WellFormed as formula
 use Rattle.syntax.specs.WellFormed.{RowAt}
 use Rattle.formula.proofs.Trees.{Ordered, ordered}
 use Rattle.runs.proofs.Proper.{Proper, proper}
-use Rattle.reduction.specs.Built.{to, step_edges, is_until, untils, hyper, graph_of}
+use Rattle.reduction.specs.Built.{to, step_edges, is_until, untils, graph_of}
 use Rattle.reduction.proofs.Targets.{row_each, step_each}
 use Rattle.reduction.proofs.Stands.{of_until, OfRow, OfHelper, hyper_stands, cover_stands}
 use Rattle.reduction.proofs.Built.{built_closed}

@@ -1,16 +1,12 @@
--- Rows that are no until, by their tag, and cases by whether a row is one. Assumes nothing.
+-- Rows that are no until, and cases by whether a row is one. Assumes nothing.
 use Prim.Native.Nat.{ℕ}
-use mathlib.Core.List.{List, [], ◌∷◌}
 use mathlib.Core.Bool.{false}
 use mathlib.Core.Path.{◌≡◌, refl}
-use denote.Enum.Declared.{tag_of, declared}
-use types.Run.{OneOf, miss}
 use Rattle.lists.proofs.Tests.{clash}
 use Rattle.value.specs.declared.Bound.{Bound}
 use Rattle.syntax.specs.declared.Quantifier.{Quantifier}
 use Rattle.syntax.specs.declared.Row.{Row}
 use Rattle.syntax.specs.declared.Row.TheVariants.{True, False, Proposition, Negation, And, Or, Next, Until}
-use Rattle.syntax.specs.contracts.Row.{enum}
 use Rattle.reduction.specs.Built.{if_until, is_until}
 
 pub other_row : {X : Type 0} (row : Row) (f : Quantifier → ℕ → ℕ → Bound → X) (x : X) → is_until row ≡ false → if_until row f x ≡ x
@@ -34,9 +30,6 @@ by_row C until other (Or l r) = other (Or l r) refl
 by_row C until other (Next q A l b) = other (Next q A l b) refl
 by_row C until other (Until q l r b) = until q l r b
 
--- the tags of the others, and what a match knows in their arm
-abbrev pub others : List ℕ
-others = 0 ∷ 1 ∷ 2 ∷ 3 ∷ 4 ∷ 5 ∷ 6 ∷ []
-
-pub other_tag : (row : Row) → OneOf others (tag_of (declared enum) row) → is_until row ≡ false
-other_tag = by_row (λ row. OneOf others (tag_of (declared enum) row) → is_until row ≡ false) (λ q l r b o. absurd (miss others 7 tt o)) (λ row e o. e)
+-- what a match knows in the arm of the others
+pub not_until : (row : Row) → ((q : Quantifier) (l r : ℕ) (b : Bound) → row ≡ Until q l r b → ⊥) → is_until row ≡ false
+not_until = by_row (λ row. ((q : Quantifier) (l r : ℕ) (b : Bound) → row ≡ Until q l r b → ⊥) → is_until row ≡ false) (λ q l r b o. absurd (o q l r b refl)) (λ row e o. e)

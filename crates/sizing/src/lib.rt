@@ -1,5 +1,6 @@
 // How much room the graph takes, before anything is written.
 #![tactic(auto)]
+
 ghost use Rattle.std.specs.Prelude.{true, not, ◌≡◌, ◌+◌, ◌≤◌, ◌<◌, min, max, length};
 ghost use Rattle.lists.specs.Making.{span};
 ghost use Rattle.graph.specs.Format.{graph_length};

@@ -15,7 +15,6 @@ use Rattle.refusal.specs.declared.Refusal.TheVariants.{Name, Limit}
 use Rattle.entries.specs.declared.Entry.{Entry}
 use Rattle.tally.specs.declared.Tally.{Tally}
 use Rattle.tally.specs.declared.Answer.{Answer}
-use Rattle.tally.specs.declared.Answer.TheVariants as Answer
 use Rattle.tally.specs.declared.Entered.{Entered}
 use Rattle.entries.specs.Entries.{is_entry, rounds_of, places}
 use Rattle.tally.specs.Tally.{most_accepted, at_zero, together, takes_more}

@@ -101,6 +101,7 @@ rounds_small (Refused n r) = by_test (eqb n over_budget) (λ p. rw p (omega arit
 -- the largest is the largest: none has more, and one has as many, where there is any
 pub largest_above : (h : List Entry) {e : Entry} → e ∈ h → rounds_of e ≤ largest_rounds h
 unfolding largest_rounds
+largest_above [] {e = e} x' = elim x' [ ]
 largest_above (a ∷ h) (Memᴰ.head p) = omega (arith, ap rounds_of p)
 largest_above (a ∷ h) (Memᴰ.tail m) = omega (arith, largest_above h m)
 

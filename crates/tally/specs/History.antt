@@ -5,7 +5,6 @@ use Rattle.entries.specs.declared.Entry.{Entry}
 use Rattle.entries.specs.declared.Entry.TheVariants.{Yes, No, Refused}
 use Rattle.tally.specs.declared.Tally.{Tally}
 use Rattle.tally.specs.declared.Answer.{Answer}
-use Rattle.tally.specs.declared.Answer.TheVariants as Answer
 use Rattle.entries.specs.Entries.{is_entry, rounds_of, places, count_place}
 use Rattle.tally.specs.Tally.{most_accepted}
 use Rattle.tally.specs.Entered.{enter_of}

@@ -1,5 +1,6 @@
 // The nightly sheet: one running tally that each verdict is entered into. The tally goes in by value and comes back.
 #![tactic(auto)]
+
 ghost use Rattle.std.specs.Prelude.{◌≡◌, ◌+◌, ◌<◌, ◌^◌, get_or, ltb};
 ghost use Rattle.tally.specs.Tally.{most_accepted, together, at_zero, takes_more, counted_at};
 ghost use Rattle.tally.specs.Entered.{answer_number, enter_of};
@@ -11,7 +12,7 @@ use refusal::Refusal;
 
 // How many entries were yes, no, and each refusal number from 1 to 11; the sum of their rounds, and the largest.
 #[repr(C)]
-#[derive(Drop)]
+#[derive(Clone, Copy)]
 pub struct Tally {
     pub counts: [u64; 13],
     pub sum: u64,
@@ -26,7 +27,7 @@ pub enum Answer {
 }
 
 // The tally after an entry, and the answer.
-#[derive(Drop)]
+#[derive(Clone, Copy)]
 pub struct Entered {
     pub tally: Tally,
     pub answer: Answer,

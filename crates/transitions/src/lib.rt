@@ -1,5 +1,6 @@
 // What the builder reads of the model: its labels, and where each state's transitions stand.
 #![tactic(auto)]
+
 ghost use Rattle.std.specs.Prelude.{◌≡◌, ◌+◌, ◌-◌, ◌<◌, ◌≤◌, length};
 ghost use Rattle.lists.specs.Making.{keep};
 ghost use Rattle.wire.specs.Bytes.{number};

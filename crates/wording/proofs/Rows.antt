@@ -7,6 +7,7 @@ use mathlib.Core.Path.{◌≡◌, refl, ap, ◌∙◌}
 use native.Mathlib.Omega.{arith}
 use lib.ListN.{length, length-append}
 use Rattle.lists.specs.Lists.{◌∈◌}
+use Rattle.lists.proofs.Tests.{by}
 use Rattle.wire.proofs.Stride.{items_get}
 use Rattle.value.specs.declared.Bound.{Bound}
 use Rattle.syntax.specs.Format.{formula_header, row_width, place_of}
@@ -120,3 +121,14 @@ module _ {s : List ℕ} {i : ℕ} (ready : Ready s i) where
           ready = record { there = omega (arith, ready.there); earlier = ready.earlier };
           shorter = omega (arith, row_long, operand_short row (λ l. length (row_text s l)) l inside);
         }
+
+-- the same once the row has been read
+module _ (s : List ℕ) (i : ℕ) {row x : Row} (ready : Ready s i) (read : row ≡ row_at s (place_of i)) (is : row ≡ x) where
+  pub read_made : row_text s i ≡ made x (λ l. row_text s l)
+  read_made = row_made ready (by read is)
+
+  pub read_long : length (row_text s i) ≡ made_length x (λ l. length (row_text s l))
+  read_long = row_long ready (by read is)
+
+  pub read_operand : (l : ℕ) → l ∈ operands x → Operand s i l
+  read_operand l inside = operand ready (by read is) l inside

@@ -12,7 +12,6 @@ use Rattle.value.specs.declared.Bound.TheVariants.{Within, Unbounded}
 use Rattle.syntax.specs.declared.Action.{Action}
 use Rattle.syntax.specs.declared.Action.TheVariants.{Any, Only}
 use Rattle.syntax.specs.declared.Row.{Row}
-use Rattle.syntax.specs.declared.Row.TheVariants as Row
 use Rattle.syntax.specs.Formula.{Formula, true', false', prop, not_prop, and, or, next, until, grow, tree, root_of}
 use Rattle.syntax.specs.WellFormed.{WellFormed}
 

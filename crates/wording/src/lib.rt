@@ -1,5 +1,6 @@
 // The text of the rows of an accepted formula, written into a lent room.
 #![tactic(auto)]
+
 ghost use Rattle.std.specs.Prelude.{◌≡◌, ◌+◌, ◌≤◌, ◌<◌, ◌++◌, length};
 ghost use Rattle.decimals.specs.Decimal.{word};
 ghost use Rattle.wording.specs.Text as t;

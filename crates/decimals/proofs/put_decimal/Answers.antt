@@ -1,7 +1,6 @@
 -- `decimals::put_decimal` meets its contract: a 4-byte number is written as an 8-byte one.
 use mathlib.Core.Path.{◌≡◌, refl, sym}
 use native.Mathlib.Omega.{arith}
-use borrow.Author.Rules.{rules}
 use Rattle.wire.proofs.Laid.{said}
 use Rattle.decimals.specs.Decimal.{decimal, long_decimal}
 use Rattle.decimals.proofs.Decimal.{long_short}

@@ -1,5 +1,4 @@
 -- `decimals::put_number` meets its contract.
-use borrow.Author.Rules.{rules}
 use Rattle.wire.proofs.Laid.{◌then◌}
 use Rattle.decimals.proofs.put_number.Goals as goal
 

@@ -1,11 +1,10 @@
 -- `decimals::put_word` meets its contract: after i turns the room holds the first i bytes of the word.
-use Prim.Native.Nat.{◌≤◌, ◌<◌, ◌+◌, ◌-◌}
+use Prim.Native.Nat.{◌<◌}
 use mathlib.Core.Path.{◌≡◌, refl, sym}
 use native.Mathlib.Numerals.{add-one}
 use native.Mathlib.Omega.{arith}
-use lib.ListN.{length, take, length-take}
+use lib.ListN.{length, length-take}
 use lib.Seq.{take-suc, take_all}
-use Rattle.wire.specs.Laid.{Laid}
 use Rattle.wire.proofs.Laid as laid
 use Rattle.wire.proofs.Laid.{nothing, more, said}
 use Rattle.decimals.proofs.put_word.Goals as goal

@@ -1,13 +1,7 @@
 -- `decimals::put_word` meets its contract: after i turns the room holds the first i bytes of the word.
-use Prim.Native.Nat.{◌≤◌, ◌<◌, ◌+◌, ◌-◌}
-use mathlib.Core.Path.{◌≡◌, refl, sym}
-use native.Mathlib.Numerals.{add-one}
-use native.Mathlib.Omega.{arith}
-use lib.ListN.{length, take, length-take}
-use lib.Seq.{take-suc, take_all}
+use Prim.Native.Nat.{◌≤◌, ◌+◌, ◌-◌}
+use lib.ListN.{length, take}
 use Rattle.wire.specs.Laid.{Laid}
-use Rattle.wire.proofs.Laid as laid
-use Rattle.wire.proofs.Laid.{nothing, more, said}
 use Rattle.decimals.proofs.put_word.Given as goal
 
 abbrev pub invariant-loop-i : goal.invariant-loop-i

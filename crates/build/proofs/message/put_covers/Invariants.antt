@@ -1,0 +1,16 @@
+-- `message::put_covers` meets its contract: the cover edges of the rows that are left make the whole.
+use Prim.Native.Nat.{◌-◌}
+use mathlib.Core.Path.{sym, ap, ◌∙◌}
+use native.Mathlib.Omega.{arith}
+use borrow.Author.Rules.{rules}
+use Rattle.reduction.specs.Built.{is_until}
+use Rattle.transitions.specs.Held.{held_rows}
+use Rattle.records.specs.Bytes.{covers_of}
+use Rattle.build.proofs.Covers.{Covering, covering_all, covering_none, row_readable, helper_fits, until_fits, until_covered, other_covered}
+use Rattle.build.proofs.message.put_covers.Given as goal
+
+abbrev pub invariant-loop-r : goal.invariant-loop-r
+invariant-loop-r l = Covering l.n l.f l.k l.initial.room l.at (covers_of l.n (held_rows l.f l.k)) l.room l.next l.row_at l.h l.r
+
+abbrev pub decreases-loop-r : goal.decreases-loop-r
+decreases-loop-r l = l.k - l.r

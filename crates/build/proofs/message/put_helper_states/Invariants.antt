@@ -1,0 +1,22 @@
+-- `message::put_helper_states` meets its contract: the helpers of the states left make the whole.
+use Prim.Native.Nat.{◌+◌, ◌-◌}
+use native.Mathlib.Numerals.{add-one}
+use native.Mathlib.Omega.{arith}
+use lib.ListN.{get_or}
+use borrow.Author.Rules.{rules}
+use Rattle.transitions.specs.Held.{held_model, Own}
+use Rattle.records.specs.Bytes.{helper_bytes}
+use Rattle.transitions.proofs.Accepted.{states_few}
+use Rattle.transitions.proofs.Ranges.{starts_own}
+use Rattle.build.proofs.Nodes.{place_fits, own_read}
+use Rattle.build.proofs.Helpers.{own_narrow, helper_of, helper_spans, helper_is}
+use Rattle.wire.proofs.Spans.{SpanLeft, span_begun, span_done, span_fits, span_then}
+use Rattle.build.proofs.message.put_helper_states.Given as goal
+
+abbrev pub invariant-loop-a : goal.invariant-loop-a
+invariant-loop-a l =
+    let M = held_model l.m l.n l.p l.t in
+    SpanLeft (helper_of M l.h l.q l.l l.k) l.n l.initial.room l.at (helper_bytes M l.h l.q l.l l.k) l.room l.next l.a
+
+abbrev pub decreases-loop-a : goal.decreases-loop-a
+decreases-loop-a l = l.n - l.a
