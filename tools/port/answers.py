@@ -56,6 +56,10 @@ class Function:
             p = self.places[p]["parent"] if p in self.places else None
 
 
+def nested(parts):
+    return parts[0] if len(parts) == 1 else f"({parts[0]}, {nested(parts[1:])})"
+
+
 def binders(part):
     """The groups of a part such as (a b : A) {c : C}; None for a type."""
     groups, depth, start = [], 0, None
@@ -97,6 +101,7 @@ class Turner:
         self.dropped = {}
         self.invs = []
         self.views = set()
+        self.unfolds = set()
         self.need = None
         self.cycle = path.split("/")[-1].startswith("+")
 
@@ -106,9 +111,11 @@ class Turner:
         if m and norm(m[1]) in self.fn.places:
             return norm(m[1])
         if m:
-            other = re.sub(r"_arg(\d+)$", r"\1_arg", norm(m[1]))
-            if other in self.fn.places:
-                return other
+            # not each place where an argument of a call is lent is a place of its own today
+            base = norm(re.sub(r"[-_]arg\d*$", "", m[1]))
+            lent = [q for q in self.fn.places if q.startswith(base + "_arg")]
+            if base != norm(m[1]) and (lent or base in self.fn.places):
+                return lent[-1] if lent else base
         return None
 
     def view(self, place):
@@ -345,11 +352,12 @@ class Turner:
             return f"{name} {root}"
         # a lemma's own text, at a place further in
         here = (root, at, h["place"])
+        self.unfolds.update(h["unfolds"])
         body = self.types(self.conv(h["body"], {h["var"]: here})).strip()
-        if h["plain"]:
+        if h["plain"] and not body.startswith("λ"):
             return f"({body})"
         ty = self.types(self.conv(h["type"], {h["typevar"]: here} if h["typevar"] else {})).strip()
-        return f"(let it : {ty} = {body} in it)"
+        return f"(let it : {ty} = {body} in it)" + " _" * h["hidden"]
 
     def rename(self, text, old, new):
         if not text or old == new:
@@ -376,7 +384,8 @@ class Turner:
         f, rest = norm(names[0]), names[1:]
         if f.endswith("_lem"):
             f = f[:-4]
-        if rest and rest[0] in WORDS:
+        # a variable of a loop may have such a name too
+        if rest and rest[0] in WORDS and not (f in self.fn.loops and rest[0] in self.fn.loops[f][1]):
             rest[0] = WORDS[rest[0]]
         steps = [q for q in self.fn.chain(p)] + [q for q in self.fn.chain(at)]
         for q in steps:
@@ -414,7 +423,9 @@ class Turner:
             if named:
                 names = ["requires"] + named
             elif own and all(n == "1" for n in names[1:]):
-                names = ["requires"]
+                return nested([f"{root}.requires.{n}" for n in own[len(names) - 1:]]), j
+        elif names == ["requires"] and clause_names(self.source(), "requires"):
+            return nested([f"{root}.requires.{n}" for n in clause_names(self.source(), "requires")]), j
         return ".".join([root] + names), j
 
     def source(self):
@@ -616,7 +627,7 @@ class Turner:
                             names = clause_names(place[3], "requires")
             text = re.sub(r"\b(\w+)\.inv\b", r"\1.invariant", text)
             if names:
-                text = " " + as_record(text, names).strip()
+                text = " " + as_record(text, names, clause_names(self.source(), "requires")).strip()
             single = text.strip()
             clauses.append(" ".join([new] + ps) + " =" + text)
         note = b["note"]
@@ -649,7 +660,8 @@ class Turner:
                     places.append(place)
                     env[v] = (v, place, place) if place else None
         result = self.place_of(parts[-1])
-        h = dict(place=places[0] if places else None, result=result, var=None, body=None, type=None)
+        h = dict(place=places[0] if places else None, result=result, var=None, body=None, type=None, hidden=0, unfolds=b["unfolding"].split()[1:])
+        self.unfolds = set()
         if result and len(places) == 1 and places[0]:
             self.helpers[name] = h
             return None
@@ -666,8 +678,10 @@ class Turner:
             clauses.append(head.rstrip() + " =" + text)
             if len(b["clauses"]) == 1 and explicit and places and places[0] and len(explicit) == len([q for q in ps if not q.startswith("{")]):
                 h["var"], h["body"] = explicit[0], body.strip()
-                if len(explicit) > 1:
-                    h["body"] = "λ " + " ".join(explicit[1:]) + ". " + h["body"]
+                hidden = [w for g in re.findall(r"\{([^{}]*?) : [^{}]*\}", " ".join(split_arrows(ty)[:-1])) for w in g.split()]
+                h["hidden"] = len(hidden)
+                if len(explicit) > 1 or hidden:
+                    h["body"] = "λ " + " ".join(hidden + explicit[1:]) + ". " + h["body"]
                 first, rest = split_arrows(ty)[0], split_arrows(ty)[1:]
                 groups = binders(first)
                 if groups:
@@ -678,7 +692,8 @@ class Turner:
                 h["typevar"], h["type"] = vars_[0], re.sub(r"\{([^{}]* : [^{}]*)\}", r"(\1)", " → ".join(rest))
                 h["plain"] = "abbrev" in prefix
         self.helpers[name] = h
-        unf = b["unfolding"] + "\n" if b["unfolding"] else ""
+        h["unfolds"] = h["unfolds"] + sorted(self.unfolds - set(h["unfolds"]))
+        unf = "unfolding " + " ".join(h["unfolds"]) + "\n" if h["unfolds"] else ""
         return b["note"] + sig.rstrip() + "\n" + unf + "\n".join(c.rstrip() for c in clauses)
 
     def invariant(self, b, kind, loop):
@@ -702,8 +717,11 @@ class Turner:
                     subst[p] = f"l.{v if isinstance(v, str) else v[0]}"
             toks = TOKEN.findall(body)
             res, prev = "", ""
-            for t in toks:
-                if t in subst and prev != ".":
+            for n, t in enumerate(toks):
+                follows = [x for x in toks[n + 1:n + 3] if not x.isspace()][:1]
+                # the name of a record's field is no variable
+                field = follows == ["="] and res.rstrip()[-1:] in "{;"
+                if t in subst and prev != "." and not field:
                     res += subst[t]
                 else:
                     res += t
@@ -785,10 +803,8 @@ def top_parts(text):
     return [text[a + 1:b].strip() for a, b in zip(edges, edges[1:]) if text[a + 1:b].strip()]
 
 
-def as_record(body, names):
-    """A tuple for several clauses as a record by their names."""
-    if len(names) == 2 and re.fullmatch(r"\s*" + NAME + r" [^\n]*", body) and not re.match(r"\s*(search|omega|grind|simp|rw|let|elim|subst|cc|record|absurd)\b", body):
-        return f"let it = {body.strip()} in record {{ {names[0]} = it.0; {names[1]} = it.1 }}"
+def as_record(body, names, own=()):
+    """A tuple for several clauses as a record by their names; own are those of the function's requires."""
     m = list(re.finditer(r"\bin\b\s", body))
     starts = [0] + [x.end() for x in m]
     for start in starts:
@@ -802,9 +818,19 @@ def as_record(body, names):
             parts = parts[:-1] + inner
         if len(parts) == len(names) + 1 and parts[-1] == "tt":
             parts.pop()
+        m2 = re.fullmatch(r"\(?(\S+\.requires)(\.\w+)*.*", parts[-1])
+        left = len(names) - len(parts) + 1
+        if m2 and left > 1 and len(own) >= left:
+            parts[-1:] = [f"{m2[1]}.{n}" for n in own[-left:]]
         if len(parts) == len(names):
             space = re.match(r"\s*", body[start:])[0]
             return body[:start] + space + "record { " + "; ".join(f"{n} = {q}" for n, q in zip(names, parts)) + " }"
+    tail = starts[-1]
+    space = re.match(r"\s*", body[tail:])[0]
+    tail += len(space)
+    if re.match(NAME + r"\s+\S", body[tail:]) and not re.match(r"(search|omega|grind|simp|rw|let|elim|subst|cc|record|absurd|λ)\b", body[tail:]):
+        paths = [".1" * i + (".0" if i < len(names) - 1 else "") for i in range(len(names))]
+        return body[:tail] + f"let it = {body[tail:].strip()} in record {{ " + "; ".join(f"{n} = it{p}" for n, p in zip(names, paths)) + " }"
     return body
 
 

@@ -26,12 +26,12 @@ use Rattle.graph.specs.Ready.{Ready}
 use Rattle.turns.specs.Turns.{AtRound}
 use Rattle.turns.proofs.Loop.{same_stays}
 
--- lists of zeros are what the rounds ask for: nothing is linked in them
-pub in_zeros : {A B C : Type 0} {s : List ℕ} {n h c middle : ℕ} (most : ℕ) → most ≤ 65535 → A × (B × (Fits n h c middle most × C))
-    → A × (B × (Fits n h c middle most × (Linked s n middle 0 [] 0 0 (replicate most 0) (replicate most 0) × (((length (replicate {A = ℕ} most 0) ≡ most) × (most + most ≤ length (replicate {A = ℕ} (most + most) 0))) × C))))
-in_zeros most short (a, (b, (fits, c))) =
+-- lists of zeros are what the rounds ask for: nothing is linked in them, and they are long enough
+pub in_zeros : {s : List ℕ} {n h c middle : ℕ} (most : ℕ) → most ≤ 65535 → Fits n h c middle most
+    → Linked s n middle 0 [] 0 0 (replicate most 0) (replicate most 0) × ((length (replicate {A = ℕ} most 0) ≡ most) × (most + most ≤ length (replicate {A = ℕ} (most + most) 0)))
+in_zeros most short fits =
     let twice = length-replicate {A = ℕ} (most + most) 0 in
-    (a, (b, (fits, (linked_none _ _ _ most fits.nodes short, ((length-replicate most 0, omega arith), c)))))
+    (linked_none _ _ _ most fits.nodes short, (length-replicate most 0, omega arith))
 
 -- no number of the next round is above that of this one
 pub round_fallen : (g : Graph) → Closed g → {budget i : ℕ} {b₀ b : List ℕ} → AtRound g budget i b₀ b → Fallen g.nodes b

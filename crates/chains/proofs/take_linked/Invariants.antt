@@ -1,0 +1,24 @@
+-- `chains::take_linked` meets its contract: the records of the chain up to a place are taken in, and the nodes that they change are listed.
+use Prim.Native.Nat.{ℕ, ◌+◌, ◌-◌, ◌≤◌, ◌<◌}
+use mathlib.Core.List.{List}
+use mathlib.Core.Path.{◌≡◌, refl, sym, ap, subst, ◌∙◌}
+use native.Mathlib.Omega.{arith}
+use borrow.Author.Rules.{rules}
+use lib.ListN.{length, get_or}
+use Rattle.wire.specs.Bytes.{number}
+use Rattle.rules.specs.Graph.{Graph}
+use Rattle.links.specs.Links.{spot_of, Reached, here, further, RecordAt, Told}
+use Rattle.changes.specs.Listed.{Listed, Apart}
+use Rattle.chains.specs.Taken.{Taken}
+use Rattle.chains.proofs.Taking.{Walking, record_ok, record_source, walking_none, walking_more, walking_all}
+use Rattle.changes.proofs.Listing.{apart_none, apart_on}
+use Rattle.chains.proofs.take_linked.Given as goal
+
+abbrev pub invariant-loop-place : goal.invariant-loop-place
+invariant-loop-place l =
+    (l.place ≤ length l.places) × (length l.room ≡ length l.initial.room) × ((q : ℕ) → Reached l.places q l.place → RecordAt l.s l.n l.h l.c l.middle (spot_of (get_or l.places q 0)) × Told l.s l.places q)
+    × ((b₀ : List ℕ) (p : Graph) → l.n + l.n ≤ length b₀ → Taken l.s l.n l.h l.c l.middle b₀ l.initial.room p → Walking l.s l.n l.h l.c l.middle l.places l.head l.place b₀ l.room p)
+    × Listed l.n l.n l.to l.k l.room l.changed × Apart l.n l.to l.initial.changed l.changed
+
+abbrev pub decreases-loop-place : goal.decreases-loop-place
+decreases-loop-place l = l.place
