@@ -1,1 +1,1 @@
-mod Front
+pub mod Front

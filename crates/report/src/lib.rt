@@ -1,5 +1,6 @@
 // What the program writes for what it reads.
 #![tactic(auto)]
+
 ghost use Rattle.std.specs.Prelude.{◌≡◌, ◌≤◌, length};
 ghost use Rattle.io.specs.Counts.{IsPrefixLen};
 ghost use Rattle.wire.specs.Laid.{Laid};

@@ -110,5 +110,12 @@ fn main(rt: HostRuntime) -> Result<()> {
     let mut words = [0u32; 262144];
     let mut from = rt.stdin();
     let mut to = rt.stdout();
-    answer_all(&mut from, &mut to, &mut space, &mut bytes, &mut values, &mut words)
+    answer_all(
+        &mut from,
+        &mut to,
+        &mut space,
+        &mut bytes,
+        &mut values,
+        &mut words,
+    )
 }

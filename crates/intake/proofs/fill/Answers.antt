@@ -1,4 +1,4 @@
-use Rattle.std.proofs.Common.{rules, take, sym, subst}
+use Rattle.std.proofs.Common.{rules, sym, subst}
 use Rattle.std.specs.Io.KnownBytes.{Consumes}
 use Rattle.std.proofs.KnownBytes.{Consumes-trans}
 use Rattle.intake.proofs.Front.{take-front}
