@@ -17,7 +17,6 @@ use Rattle.formula.proofs.Exact.{accepted_written}
 use Rattle.wording.specs.Text.{text}
 use Rattle.text.specs.Written.{written_length, written_of, text_room}
 use Rattle.text.specs.declared.Written.{Written}
-use Rattle.text.specs.declared.Written.TheVariants as Written
 use Rattle.wording.proofs.Length.{accepted_text_length}
 use Rattle.lists.proofs.Making.{span_short}
 use Rattle.pieces.specs.Lines.{line, rounds_line}

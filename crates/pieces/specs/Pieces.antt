@@ -6,7 +6,6 @@ use Rattle.syntax.specs.declared.Row.{Row}
 use Rattle.syntax.specs.Formula.{root_of}
 use Rattle.wording.specs.Text.{text}
 use Rattle.pieces.specs.declared.Cut.{Cut}
-use Rattle.pieces.specs.declared.Cut.TheVariants as Cut
 use Rattle.pieces.specs.Lines.{line, rounds_line, state_line}
 
 -- what the function that finds the model's end answers

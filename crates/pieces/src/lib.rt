@@ -1,5 +1,6 @@
 // The pieces of the program's output, line by line, and where the model ends in its input.
 #![tactic(auto)]
+
 ghost use Rattle.std.specs.Prelude.{◌≡◌, ◌+◌, ◌≤◌, ◌++◌, length};
 ghost use Rattle.decimals.specs.Decimal.{decimal};
 ghost use Rattle.wire.specs.Laid.{Laid};

@@ -6,7 +6,7 @@ use native.Mathlib.Omega.{arith}
 use lib.ListN.{length, take, drop, length-drop}
 use lib.Seq.{length-take-le, take_all}
 use borrow.Author.Tests.{leb-true, le-leb, lt-leb}
-use Rattle.io.specs.Counts.{IsPrefixLen}
+use Rattle.std.specs.Counts.{IsPrefixLen}
 use Rattle.refusal.specs.declared.Fault.{Fault}
 use Rattle.refusal.specs.Number.{number_of}
 use Rattle.wire.specs.Laid.{laid, Laid}

@@ -1,7 +1,8 @@
 // What the program writes for what it reads.
 #![tactic(auto)]
+
 ghost use Rattle.std.specs.Prelude.{◌≡◌, ◌≤◌, length};
-ghost use Rattle.io.specs.Counts.{IsPrefixLen};
+ghost use Rattle.std.specs.Counts.{IsPrefixLen};
 ghost use Rattle.wire.specs.Laid.{Laid};
 ghost use Rattle.settling.specs.Answer.{read_settled, bytes_of};
 ghost use Rattle.report.specs.Output.{read_input, output_of, left_of, report_length, report_out, report_bytes, report_values, zero_bytes, zero_values};

@@ -7,7 +7,6 @@ use Rattle.syntax.specs.declared.Row.{Row}
 use Rattle.syntax.specs.Formula.{root_of}
 use Rattle.wording.specs.Text.{text}
 use Rattle.text.specs.declared.Written.{Written}
-use Rattle.text.specs.declared.Written.TheVariants as Written
 
 -- the paper's number of an answer, and the returned length: any refusal has length 0
 abbrev pub written_number : Written → ℕ

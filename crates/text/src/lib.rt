@@ -1,5 +1,6 @@
 // The text of a formula message, written into a lent room.
 #![tactic(auto)]
+
 ghost use Rattle.std.specs.Prelude.{◌≡◌};
 ghost use Rattle.text.specs.Written.{written_number, written_offset, written_length, written_of, text_room};
 ghost use Rattle.syntax.specs.Message.{read_formula};

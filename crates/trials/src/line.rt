@@ -1,9 +1,10 @@
 // A line of output, gathered and then written at once.
-ghost use Rattle.std.specs.Prelude.{◌≡◌, [], ◌∷◌};
+ghost use Rattle.std.specs.Prelude.{◌≡◌, [], ◌∷◌, OnOk};
+ghost use Rattle.std.specs.Io.KnownBytes.{Appends};
 ghost use Rattle.io.specs.Digits.{last_digits};
 ghost use Rattle.trials.specs.Lines.{Sound, text_of, more, WithNumber};
 
-use libc::STDOUT_FILENO;
+use std::io::{Result, Write};
 
 // The first len bytes are the line's; what would run past the end is dropped.
 #[derive(Drop)]
@@ -74,13 +75,14 @@ impl Line {
         self.byte(b' ').text(&digits[..k])
     }
 
-    // Writes the line with its end, and says whether that could be done.
-    pub fn write(self) -> bool
+    // Writes the line with its end.
+    pub fn write<W: Write>(self, to: &mut W) -> Result<()>
         requires { Sound self }
+        ensures { OnOk result (Appends (W.contents to.old) (W.contents to.new) (more (text_of self) (10 ∷ []))) }
     {
         let whole = self.byte(b'\n');
         let bytes = whole.bytes;
         let len = whole.len;
-        io::write_all(STDOUT_FILENO, &bytes[..len])
+        to.write_all(&bytes[..len])
     }
 }

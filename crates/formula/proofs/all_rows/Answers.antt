@@ -7,7 +7,7 @@ use mathlib.Core.Bool.{true, false}
 use mathlib.Core.Path.{◌≡◌, refl, sym, ap, subst, ◌∙◌}
 use mathlib.Core.Logic.{⊎_elim}
 use native.Mathlib.Omega.{arith}
-use lib.ListN.{length, length-append}
+use lib.ListN.{length, take, drop, length-append}
 use lib.Pow.{pow-lt}
 use Rattle.lists.proofs.Tests.{by, by_test}
 use Rattle.lists.specs.Lists.{◌∈◌}
@@ -16,10 +16,11 @@ use Rattle.wire.specs.Reader.{read_all}
 use Rattle.wire.specs.Step.{start}
 use Rattle.wire.proofs.Reading.{reading}
 use Rattle.syntax.specs.declared.Row.{Row}
+use Rattle.kinds.specs.declared.Judged.{Judged}
 use Rattle.kinds.specs.declared.Operands.{Operands}
 use Rattle.syntax.specs.Format.{formula_header, row_width}
 use Rattle.syntax.specs.Rows.{operands, used_once}
-use Rattle.syntax.specs.Message.{read_row, rows}
+use Rattle.syntax.specs.Message.{row_from, read_row, rows}
 use Rattle.kinds.specs.Kept.{listed, judged}
 use Rattle.formula.specs.Answers.{checked}
 use Rattle.formula.proofs.Answered.{Kept, listed_are, judged_fine, judged_refused}
@@ -43,23 +44,24 @@ inside : (c : In-loop-place) → c.loop-place.at + row_width ≤ length c.args.s
 inside c = omega (arith, c.loop-place.invariant.0, c.loop-place-test.true, c.requires.0)
 
 -- its part of the message gives what the message does
+of_part : (s : List ℕ) (p at place : ℕ) {r : Judged} → at + row_width ≤ length s → r ≡ judged (row_from (take (at + 8 - at) (drop at s)) 0 at p place)
+    → r ≡ judged (read_row s p (here at place))
+of_part s p at place fits read =
+    let wide : at + 8 - at ≡ row_width = omega arith in
+    let part = rw wide at read in
+    part ∙ ap judged (row_part s at fits at p place)
+
 read_is : (c : After-read_row) → let l = c.loop-place in let a = c.args in
     c.read_row.result ≡ judged (read_row a.s.now a.p (here l.at l.place))
-read_is c =
-    let l = c.loop-place in
-    let a = c.args in
-    let wide : l.at + 8 - l.at ≡ row_width = omega arith in
-    let part = rw wide at c.read_row.ensures in
-    part ∙ ap judged (row_part a.s.now l.at ((let it : c.loop-place.at + row_width ≤ length c.args.s.now = omega (arith, c.loop-place.invariant.0, c.loop-place-test.true, c.requires.0) in it)) l.at a.p l.place)
+read_is c = of_part _ _ _ _ (omega (arith, c.loop-place.invariant.0, c.loop-place-test.true, c.requires.0)) c.read_row.ensures
 
 row_read : (c : In-Fine) → let l = c.loop-place in let a = c.args in
     Kept (read_row a.s.now a.p (here l.at l.place)) c.in-Fine.row
-row_read c = judged_fine _ (by ((let it : let l = c.loop-place in let a = c.args in
-    c.read_row.result ≡ judged (read_row a.s.now a.p (here l.at l.place)) = let l = c.loop-place in
+row_read c =
+    let l = c.loop-place in
     let a = c.args in
-    let wide : l.at + 8 - l.at ≡ row_width = omega arith in
-    let part = rw wide at c.read_row.ensures in
-    part ∙ ap judged (row_part a.s.now l.at ((let it : c.loop-place.at + row_width ≤ length c.args.s.now = omega (arith, c.loop-place.invariant.0, c.loop-place-test.true, c.requires.0) in it)) l.at a.p l.place) in it)) c.in-Fine.is)
+    let read = of_part a.s.now a.p l.at l.place (omega (arith, l.invariant.0, c.loop-place-test.true, c.requires.0)) c.read_row.ensures in
+    judged_fine _ (by read c.in-Fine.is)
 
 -- the operands of a row that was read
 listed_of : {x : Read Row} {k : Operands} (r : Kept x k) → listed k ≡ operands r.row

@@ -25,9 +25,11 @@ from_read c =
 
 from_is : (c : In-Number)
     → let a = c.args in source a.s.now a.st.at a.n a.st.prev ≡ good c.in-Number.from
-from_is c = found_good _ (by ((let it : let a = c.args in c.read_source-source.result ≡ found (source a.s.now a.st.at a.n a.st.prev) = let a = c.args in
+from_is c =
+    let a = c.args in
     let at = a.st.at in
-    c.read_source-source.ensures ∙ ap found (cut_source a.s.now at (at + transition_width) c.requires.0 a.n a.st.prev at (omega arith)) in it)) c.in-Number.is)
+    let read = c.read_source-source.ensures ∙ ap found (cut_source a.s.now at (at + transition_width) c.requires.0 a.n a.st.prev at (omega arith)) in
+    found_good _ (by read c.in-Number.is)
 
 weight_there : (c : In-Number)
     → let a = c.args in field_at 4 a.s.now (a.st.at + weight_at) ≡ Number (number 4 a.s.now (a.st.at + weight_at))

@@ -38,10 +38,7 @@ few c =
       c.near_count-near.ensures,
       keep_length (looks_at a.action a.bound) (transitions_from a.m.now a.n (get_or table i 0) many),
       items_length (transition_layout a.m.now) many (transition_at a.n (get_or table i 0)),
-      ((let it : let a = c.args in
-          let table = a.table.now in
-          let i = c.loop-a.a in
-          Own a.m.now a.n a.t i (get_or table i 0) (get_or table (i + 1) 0 - get_or table i 0) = starts_own c.requires.n_in_bounds.1 c.loop-a.a c.loop-a-test.true in it)).inside,
+      (starts_own c.requires.n_in_bounds.1 i c.loop-a-test.true).inside,
       c.requires.holds_model.transitions_fit,
     )
 

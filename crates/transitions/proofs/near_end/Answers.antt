@@ -31,10 +31,11 @@ there : (c : In-loop-i) → let a = c.args in
 there c = omega (arith, c.loop-i.invariant.0)
 
 judged : (c : After-is_near) → let a = c.args in
-    c.is_near.result ≡ (let it : Transition → Bool = let a = c.args in is_near a.low a.high a.most in it) ((transition_layout a.m.now).item (transition_at a.n a.first + (c.loop-i.i - 1) * transition_width))
+    c.is_near.result ≡ is_near a.low a.high a.most ((transition_layout a.m.now).item (transition_at a.n a.first + (c.loop-i.i - 1) * transition_width))
 judged c =
-    c.is_near.ensures ∙ ap (λ (x : ℕ). (let it : Transition → Bool = let a = c.args in is_near a.low a.high a.most in it) ((transition_layout c.args.m.now).item x)) ((let it : let a = c.args in
-    c.loop-i.at - 10 ≡ transition_at a.n a.first + (c.loop-i.i - 1) * transition_width = omega (arith, c.loop-i.invariant.0) in it))
+    let a = c.args in
+    let here : c.loop-i.at - 10 ≡ transition_at a.n a.first + (c.loop-i.i - 1) * transition_width = omega (arith, c.loop-i.invariant.0) in
+    c.is_near.ensures ∙ ap (λ (x : ℕ). is_near a.low a.high a.most ((transition_layout a.m.now).item x)) here
 
 pub returns-then-is_near : goal.returns-then-is_near
 returns-then-is_near c =
