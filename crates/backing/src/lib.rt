@@ -1,5 +1,6 @@
 // Whether an edge backs the value that its source claims.
 #![tactic(auto)]
+
 ghost use Rattle.std.specs.Prelude.{◌≡◌, true, false, ◌+◌, ◌*◌, ◌<◌, ◌≤◌, length};
 ghost use Rattle.lists.specs.Lists.{◌∈◌};
 ghost use Rattle.value.specs.Value.{plus};

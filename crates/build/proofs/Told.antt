@@ -1,10 +1,8 @@
 -- How many hyperedges a row has, told by how many bytes they take: one has 4, and 6 more for each target. Assumes nothing.
 use Prim.Native.Nat.{ℕ, zero, suc, ◌+◌, ◌*◌, ◌/◌}
-use mathlib.Core.List.{List, [], ◌∷◌}
+use mathlib.Core.List.{List}
 use mathlib.Core.Bool.{Bool, true, false, not}
 use mathlib.Core.Path.{◌≡◌, refl}
-use denote.Enum.Declared.{tag_of, declared}
-use types.Run.{OneOf, miss}
 use native.Mathlib.Omega.{arith}
 use lib.ListN.{length}
 use Rattle.lists.specs.Making.{span}
@@ -17,7 +15,6 @@ use Rattle.syntax.specs.declared.Quantifier.TheVariants.{Some, Every}
 use Rattle.syntax.specs.declared.Row.{Row}
 use Rattle.syntax.specs.declared.Quantifier.{Quantifier}
 use Rattle.syntax.specs.declared.Row.TheVariants.{True, False, Proposition, Negation, And, Or, Next, Until}
-use Rattle.syntax.specs.contracts.Row.{enum}
 use Rattle.reduction.specs.Built.{row_edges}
 use Rattle.transitions.specs.Looked.{leaf_edges}
 use Rattle.sizing.specs.Size.{size_of}

@@ -10,7 +10,6 @@ use Rattle.graph.specs.Write.{write_graph}
 use Rattle.sizing.specs.declared.Size as size
 use Rattle.sizing.specs.Size.{in_limits}
 use Rattle.build.specs.declared.Built.{Built}
-use Rattle.build.specs.declared.Built.TheVariants as Built
 
 -- the paper's number and the returned length of an answer: a refusal has length 0
 abbrev pub built_number : Built → ℕ

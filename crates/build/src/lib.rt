@@ -1,5 +1,6 @@
 // The graph of an accepted model and formula, written into a lent room.
 #![tactic(auto)]
+
 mod message;
 
 ghost use Rattle.std.specs.Prelude.{◌≡◌, ◌+◌, ◌*◌, ◌≤◌, length};

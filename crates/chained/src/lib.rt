@@ -1,5 +1,6 @@
 // Rounds on a graph that is small enough: a round takes in the records on the chains of the changed nodes.
 #![tactic(auto)]
+
 ghost use Rattle.std.specs.Prelude.{◌≡◌, [], ◌+◌, ◌≤◌, length};
 ghost use Rattle.wire.specs.Layout.{end};
 ghost use Rattle.graph.specs.Format.{graph_header};

@@ -1,5 +1,6 @@
 // What a round changed: the nodes are listed, and the first half is brought up to the second at them. For graphs small enough.
 #![tactic(auto)]
+
 ghost use Rattle.std.specs.Prelude.{◌≡◌, ◌+◌, ◌≤◌, length};
 ghost use Rattle.halves.specs.Room.{Raised};
 ghost use Rattle.changes.specs.Listed.{Fallen, Listed};

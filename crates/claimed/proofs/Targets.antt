@@ -3,7 +3,6 @@ use Rattle.std.proofs.Common.{◌≡◌, ℕ, zero, suc, ◌-◌, ◌<◌, sym, 
 use Rattle.value.specs.Stored.{infinite}
 use Rattle.rules.specs.Graph.{Target}
 use Rattle.claimed.specs.declared.Given.{Given}
-use Rattle.claimed.specs.declared.Given.TheVariants as Given
 use Rattle.claimed.specs.Targets.{Named}
 use Rattle.wire.specs.Layout.{Layout, Sound, none, more}
 use Rattle.wire.proofs.Layouts.{sound_more}

@@ -8,7 +8,6 @@ use Rattle.rules.specs.Rounds.{Assignment}
 use Rattle.graph.specs.Format.{target_width}
 use Rattle.support.specs.Claims.{claimed_rank}
 use Rattle.claimed.specs.declared.Given.{Given}
-use Rattle.claimed.specs.declared.Given.TheVariants as Given
 
 -- the bytes from a position to an end are those of some targets
 pub record Parted (s : List ℕ) (at end : ℕ) : Type 0 where

@@ -1,5 +1,6 @@
 // What is claimed: of a node, of the targets of a hyperedge, and of all nodes.
 #![tactic(auto)]
+
 ghost use Rattle.std.specs.Prelude.{◌≡◌, ℕ, ◌+◌, ◌*◌, ◌<◌, ◌≤◌, min, true, false, length};
 ghost use Rattle.value.specs.Stored.{stored, infinite};
 ghost use Rattle.wire.specs.Bytes.{number};

@@ -6,7 +6,6 @@ use mathlib.Core.Path.{◌≡◌, refl, sym, ◌∙◌}
 use Rattle.wire.specs.Read.{Read, good, bad}
 use Rattle.graph.specs.Stored.{StoredGraph}
 use Rattle.claims.specs.declared.Judged.{Judged}
-use Rattle.claims.specs.declared.Judged.TheVariants as Judged
 use Rattle.claims.specs.Answers.{read_claims, Judges}
 use Rattle.claims.proofs.check.Reads as check
 use Rattle.claims.proofs.Judged.number.Reads as Judged-number

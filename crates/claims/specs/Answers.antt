@@ -8,7 +8,6 @@ use Rattle.graph.specs.Stored.{StoredGraph, ruled}
 use Rattle.graph.specs.Message.{read_graph}
 use Rattle.support.specs.Claims.{claim_width, AcceptsClaims}
 use Rattle.claims.specs.declared.Judged.{Judged}
-use Rattle.claims.specs.declared.Judged.TheVariants as Judged
 
 -- the paper's number of an answer: accepted or not, it is OK
 abbrev pub judged_number : Judged → ℕ

@@ -6,7 +6,6 @@ use Rattle.graph.specs.WellFormed.{Accepted}
 use Rattle.support.specs.Claims.{claimed_value, AcceptsClaims}
 use Rattle.claims.specs.Answers.{claims_length}
 use Rattle.claims.specs.declared.Judged.{Judged}
-use Rattle.claims.specs.declared.Judged.TheVariants as Judged
 
 -- the message is the writing of a well-formed graph, and the claims are as long as its nodes ask; this holds of the two
 pub record JudgedAt (message claims : List ℕ) (Holds : StoredGraph → Type 0) : Type 0 where

@@ -7,7 +7,6 @@ use Rattle.wire.specs.Step.{start}
 use Rattle.wire.specs.Layout.{Layout, items}
 use Rattle.wire.specs.declared.State.{State}
 use Rattle.claims.specs.declared.Scan.{Scan}
-use Rattle.claims.specs.declared.Scan.TheVariants as Scan
 
 -- all edges were found fair, and the sources of those that back them are marked by 1, none other newly
 pub record Marked {A : Type 0} (edges : List A) (source : A → ℕ) (Fair Backing : A → Type 0) (b₀ b : List ℕ) : Type 0 where

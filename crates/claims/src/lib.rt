@@ -1,5 +1,6 @@
 // Claims about a graph: a value and a rank for each node. A checker of claims.
 #![tactic(auto)]
+
 ghost use Rattle.std.specs.Prelude.{◌≡◌, true, false, ◌+◌, ◌*◌, ◌≤◌, length};
 ghost use Rattle.wire.specs.Read.{good};
 ghost use Rattle.graph.specs.Format.{graph_header, cover_width};

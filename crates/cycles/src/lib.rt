@@ -1,5 +1,6 @@
 // Whether some cycle of a graph passes through a cover edge, by depth labels that are written over.
 #![tactic(auto)]
+
 ghost use Rattle.std.specs.Prelude.{◌≡◌, true, false, ℕ, ◌+◌, ◌≤◌, length};
 ghost use Rattle.wire.specs.Layout.{items, end, Sound};
 ghost use Rattle.rules.specs.Walks.{CoverCycle};

@@ -3,9 +3,7 @@ use Rattle.std.specs.Prelude.{◌≡◌}
 use Rattle.wire.specs.Read.{Read, good}
 use Rattle.wire.specs.declared.State.{State}
 use Rattle.edges.specs.declared.Weighed.{Weighed}
-use Rattle.edges.specs.declared.Weighed.TheVariants as Weighed
 use Rattle.edges.specs.declared.Edge.{Edge}
-use Rattle.edges.specs.declared.Edge.TheVariants as Edge
 
 -- what was found of an edge without fault; its source may have been marked before
 abbrev pub Found : (Fair Backing Had : Type 0) → Weighed → Type 0

@@ -1,5 +1,6 @@
 // An edge read and judged by the claims at once: it has a fault, or it is fair to them and may back its source.
 #![tactic(auto)]
+
 ghost use Rattle.std.specs.Prelude.{◌≡◌, ◌+◌, ◌*◌, ◌≤◌, length, get_or};
 ghost use Rattle.value.specs.Stored.{stored};
 ghost use Rattle.wire.specs.Bytes.{number};

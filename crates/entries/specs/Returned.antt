@@ -1,7 +1,6 @@
 -- The entry of what a call of the library returned.
 use Rattle.std.specs.Prelude.{ℕ, cond, eqb}
 use Rattle.entries.specs.declared.Entry.{Entry}
-use Rattle.entries.specs.declared.Entry.TheVariants as Entry
 
 -- a refusal has no verdict, and a verdict comes with OK: 1 is yes, 2 is no. What is neither is no entry, as number 0 is none
 abbrev pub entry_of : (number verdict rounds : ℕ) → Entry

@@ -1,5 +1,6 @@
 // What is entered into the nightly sheet, and the entry of what a call of the library returned.
 #![tactic(auto)]
+
 ghost use Rattle.std.specs.Prelude.{◌≡◌};
 ghost use Rattle.entries.specs.Entries.{is_entry, rounds_of, count_place};
 ghost use Rattle.entries.specs.Returned.{entry_of};

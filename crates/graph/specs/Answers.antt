@@ -6,7 +6,6 @@ use Rattle.graph.specs.Stored.{StoredGraph}
 use Rattle.graph.specs.Message.{Counts}
 use Rattle.graph.specs.WellFormed.{targets_of}
 use Rattle.graph.specs.declared.Checked.{Checked}
-use Rattle.graph.specs.declared.Checked.TheVariants as Checked
 
 -- the counts of a good header, and no target yet, or its fault
 unfoldable pub counted : Read Counts → Checked

@@ -1,5 +1,6 @@
 // The lent room of values in two halves: a round in the first n numbers, the next in the n behind them.
 #![tactic(auto)]
+
 ghost use Rattle.std.specs.Prelude.{◌≡◌, true, false, ℕ, ◌+◌, ◌≤◌, min, length};
 ghost use Rattle.halves.specs.Room.{Cleared, Raised, Alike, Level, Same, Beside};
 

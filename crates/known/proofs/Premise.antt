@@ -1,6 +1,6 @@
 -- Why a count of at most n asks that no cycle passes through a cover edge: T12's graph has such a cycle, and count 4 of 3 nodes.
 -- Assumes nothing.
-use Prim.Native.Nat.{ℕ, ◌<◌}
+use Prim.Native.Nat.{◌<◌}
 use mathlib.Core.List.{[], ◌∷◌}
 use mathlib.Core.Path.{◌≡◌, refl}
 use native.Mathlib.Omega.{arith}

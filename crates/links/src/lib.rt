@@ -1,5 +1,6 @@
 // Where each node is a target, linked: the chain of a node leads to the records that have it as a target. For graphs small enough.
 #![tactic(auto)]
+
 ghost use Rattle.std.specs.Prelude.{◌≡◌, true, ℕ, ◌+◌, ◌*◌, ◌≤◌, [], length};
 ghost use Rattle.wire.specs.Layout.{items, end, Sound};
 ghost use Rattle.graph.specs.Format.{graph_header, hyper_width, target_width, cover_width};

@@ -9,13 +9,12 @@ use lib.ListN.{get_or}
 use lib.Dec.{leb, ltb}
 use borrow.Author.Tests.{leb-true, lt-leb, ltb-true, ltb-false}
 use native.Mathlib.Omega.{arith}
-use Rattle.lists.specs.Lists.{◌∈◌}
-use Rattle.value.specs.Value.{Value, least, ◌≼◌}
+use Rattle.value.specs.Value.{least, ◌≼◌}
 use Rattle.value.specs.Stored.{stored}
 use Rattle.value.proofs.Values.{least-≼, ≼-least, ⊑-antisym}
 use Rattle.value.proofs.Stored.{stored_least}
 use Rattle.wire.specs.Bytes.{number}
-use Rattle.wire.specs.Layout.{items, end, Sound}
+use Rattle.wire.specs.Layout.{end, Sound}
 use Rattle.wire.proofs.Stride.{end_wide}
 use Rattle.wire.proofs.Parts.{part_sound, part_number, part_end, part_of_lem, part_has}
 use Rattle.rules.specs.Graph.{Graph, Hyper, Cover}

@@ -1,5 +1,6 @@
 // Rounds on a graph of any size: a round takes in the records between those that the changed nodes mark.
 #![tactic(auto)]
+
 ghost use Rattle.std.specs.Prelude.{◌≡◌, true, false, ◌+◌, ◌-◌, ◌≤◌, length};
 ghost use Rattle.wire.specs.Layout.{end};
 ghost use Rattle.graph.specs.Format.{graph_header};

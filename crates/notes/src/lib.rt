@@ -1,5 +1,6 @@
 // Where each node is a target: what a change of a node may reach is noted before, and marked when it changes.
 #![tactic(auto)]
+
 ghost use Rattle.std.specs.Prelude.{◌≡◌, ℕ, ◌+◌, ◌<◌, ◌≤◌, min, max, List, [], length};
 ghost use Rattle.wire.specs.Layout.{items, end, Sound};
 ghost use Rattle.graph.specs.Format.{graph_header, hyper_width};

@@ -1,5 +1,6 @@
 // Records that say in their first two bytes where they come from, and in their last two where they lead, tested in order.
 #![tactic(auto)]
+
 ghost use Rattle.std.specs.Prelude.{◌≡◌, ◌+◌, ◌*◌, ◌≤◌, length};
 ghost use Rattle.ordered.specs.Ordered.{record_width, in_order, source_behind, last_named};
 

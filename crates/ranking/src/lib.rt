@@ -1,5 +1,6 @@
 // Ranks given one after another, to nodes whose values an edge backs.
 #![tactic(auto)]
+
 ghost use Rattle.std.specs.Prelude.{◌≡◌, ℕ, ◌+◌, ◌*◌, ◌<◌, ◌≤◌, length};
 ghost use Rattle.wire.specs.Layout.{items, end, Sound};
 ghost use Rattle.rules.specs.Rounds as rules;

@@ -17,7 +17,6 @@ use Rattle.graph.proofs.Answered.{checked_refused}
 use Rattle.graph.proofs.Ready.{Begin}
 use Rattle.claims.proofs.Answering.{begun_accepted}
 use Rattle.ranks.specs.declared.Written.{Written}
-use Rattle.ranks.specs.declared.Written.TheVariants as Written
 use Rattle.ranks.specs.Answers.{Narrow, Untouched, Filled, WritesOf, cyclic, narrow, filled, Writes}
 use Rattle.ranks.specs.Promise.{WrittenPromise}
 

@@ -17,7 +17,6 @@ use Rattle.graph.specs.Message.{read_graph}
 use Rattle.support.specs.Claims.{claim_width, claimed_value}
 use Rattle.claims.specs.Answers.{claims_length}
 use Rattle.ranks.specs.declared.Written.{Written}
-use Rattle.ranks.specs.declared.Written.TheVariants as Written
 use Rattle.ranks.specs.Answers.{WritesOf, cyclic, narrow, filled, Writes}
 use Rattle.ranks.proofs.write.Reads as write
 use Rattle.ranks.proofs.Written.number.Reads as Written-number

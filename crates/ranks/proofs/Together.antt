@@ -24,7 +24,6 @@ use Rattle.graph.specs.Message.{read_graph}
 use Rattle.graph.proofs.Exact.{accepted_written}
 use Rattle.support.specs.Claims.{rank_at, claim_width, Support, by_hyper, by_cover, Accepts, AcceptsClaims}
 use Rattle.claims.specs.declared.Judged.{Judged}
-use Rattle.claims.specs.declared.Judged.TheVariants as Judged
 use Rattle.ranks.specs.declared.Written.TheVariants as Written
 use Rattle.claims.specs.Answers.{claims_length, read_claims, Judges}
 use Rattle.ranks.specs.Answers.{Narrow, Filled, WritesOf, filled, Writes}

@@ -10,7 +10,6 @@ use Rattle.graph.specs.Stored.{StoredGraph, ruled}
 use Rattle.support.specs.Claims.{claimed_value, AcceptsClaims}
 use Rattle.claims.specs.Answers.{claims_length}
 use Rattle.ranks.specs.declared.Written.{Written}
-use Rattle.ranks.specs.declared.Written.TheVariants as Written
 
 -- the paper's number of an answer
 abbrev pub written_number : Written → ℕ

@@ -4,7 +4,6 @@ use Rattle.graph.specs.Stored.{StoredGraph, ruled}
 use Rattle.graph.specs.WellFormed.{Accepted}
 use Rattle.ranks.specs.Answers.{WritesOf, Untouched}
 use Rattle.ranks.specs.declared.Written.{Written}
-use Rattle.ranks.specs.declared.Written.TheVariants as Written
 
 -- the message is the writing of a well-formed graph, of which claims were written
 pub record WrittenAt (message claims words claims' words' : List ℕ) : Type 0 where

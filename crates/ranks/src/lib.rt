@@ -1,5 +1,6 @@
 // A writer of claims about a graph that the checker accepts: its values, and a rank for each node.
 #![tactic(auto)]
+
 ghost use Rattle.std.specs.Prelude.{◌≡◌, ◌++◌, ◌*◌, ◌≤◌, length, drop, replicate};
 ghost use Rattle.wire.specs.Layout.{end, Sound};
 ghost use Rattle.rules.specs.Walks.{CoverCycle};

@@ -1,6 +1,7 @@
 // Why a call is refused. The paper's number of each case is one definition, `number_of`. BUDGET is no case of it: a spent budget is an
 // answer of its own, with its count. Nor is DEAD, number 7: it is no longer given, since runs may stop.
 #![tactic(auto)]
+
 ghost use Rattle.std.specs.Prelude.{◌≡◌};
 ghost use Rattle.refusal.specs.Number.{number_of};
 

@@ -8,7 +8,7 @@ use Rattle.refusal.specs.Number.{unplaced}
 use Rattle.refusal.specs.declared.Fault.{Fault}
 use Rattle.refusal.specs.declared.Refusal.TheVariants.{Room}
 use Rattle.wire.specs.Bytes.{Bytes}
-use Rattle.wire.specs.Read.{good, bad, demand}
+use Rattle.wire.specs.Read.{good, bad}
 use Rattle.wire.proofs.Reading.{bad_then, reading}
 use Rattle.wire.proofs.Exact.{good_bind, good_demand}
 use Rattle.graph.specs.declared.Checked.TheVariants as Checked

@@ -1,5 +1,6 @@
 // The rounds on a graph message, in a lent room of values.
 #![tactic(auto)]
+
 ghost use Rattle.std.specs.Prelude.{◌≡◌, ◌+◌, ◌≤◌, length};
 ghost use Rattle.graph.specs.Layouts.{decoded};
 ghost use Rattle.graph.specs.Ready.{Ready};

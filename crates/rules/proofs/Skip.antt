@@ -4,7 +4,7 @@ use mathlib.Core.Bool.{true}
 use mathlib.Core.Logic.{◌⊎◌, inl, inr}
 use Prim.Native.Nat.{ℕ, suc, ◌<◌}
 use Rattle.lists.specs.Lists.{◌∈◌}
-use Rattle.value.specs.Value.{Value, fin, inf, plus, least, meets, ◌≼◌, ◌⊑◌}
+use Rattle.value.specs.Value.{Value, fin, inf, plus, least, meets, ◌≼◌}
 use Rattle.rules.specs.Graph.{Graph, Target, Hyper, Cover, Closed}
 use Rattle.rules.specs.Rounds.{Assignment, cover_holds, round, rounds, Agree, Below}
 use Rattle.value.proofs.Values.{least-≼, ≼-least, ⊑-inf, ⊑-antisym}

@@ -22,17 +22,14 @@ use Rattle.model.specs.WellFormed as model
 use Rattle.syntax.specs.WellFormed as formula
 use Rattle.reduction.proofs.Built.{built_well_formed}
 use Rattle.turns.specs.declared.Outcome.{Outcome}
-use Rattle.turns.specs.declared.Outcome.TheVariants as Outcome
 use Rattle.turns.specs.Outcome as rounds
 use Rattle.rounds.proofs.Laws.{count_reported}
 use Rattle.build.specs.declared.Built.{Built}
-use Rattle.build.specs.declared.Built.TheVariants as Built
 use Rattle.transitions.specs.Held.{held_model}
 use Rattle.transitions.proofs.Accepted.{rows_length}
 use Rattle.build.specs.Built.{fits, roomy, built_of, built_room}
 use Rattle.build.proofs.Writing.{fits_each}
 use Rattle.settling.specs.declared.AllStates.{AllStates}
-use Rattle.settling.specs.declared.AllStates.TheVariants as AllStates
 use Rattle.questions.specs.Question.{Question, graph_for, root_node}
 use Rattle.questions.specs.Asking.{held_question}
 use Rattle.settling.specs.Answer.{sized, roomed, all_of, bytes_of, values_of}

@@ -9,14 +9,10 @@ use Rattle.rules.specs.Count.{count}
 use Rattle.graph.specs.Write.{write_graph}
 use Rattle.turns.specs.Outcome.{filled}
 use Rattle.build.specs.declared.Built.{Built}
-use Rattle.build.specs.declared.Built.TheVariants as Built
 use Rattle.build.specs.Built.{fits}
 use Rattle.settling.specs.declared.Verdict.{Verdict}
-use Rattle.settling.specs.declared.Verdict.TheVariants as Verdict
 use Rattle.settling.specs.declared.Answer.{Answer}
-use Rattle.settling.specs.declared.Answer.TheVariants as Answer
 use Rattle.settling.specs.declared.AllStates.{AllStates}
-use Rattle.settling.specs.declared.AllStates.TheVariants as AllStates
 use Rattle.questions.specs.Question.{Question, read_question, graph_for, ruled_for, root_node}
 
 -- the paper's number, verdict, count and returned length of an answer: every refusal has verdict none, and any but BUDGET count 0 and length 0

@@ -1,5 +1,6 @@
 // What a question answers, and the graph of an accepted one built and settled.
 #![tactic(auto)]
+
 ghost use Rattle.std.specs.Prelude.{◌≡◌};
 ghost use Rattle.transitions.specs.Held.{HoldsModel, HoldsRows};
 ghost use Rattle.questions.specs.Asking.{held_question};

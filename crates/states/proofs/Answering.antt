@@ -15,9 +15,7 @@ use Rattle.reduction.specs.Built.{untils, graph_of}
 use Rattle.transitions.specs.Held.{held_model, held_rows}
 use Rattle.transitions.proofs.Accepted.{rows_length}
 use Rattle.settling.specs.declared.Answer.{Answer}
-use Rattle.settling.specs.declared.Answer.TheVariants as Answer
 use Rattle.settling.specs.declared.AllStates.{AllStates}
-use Rattle.settling.specs.declared.AllStates.TheVariants as AllStates
 use Rattle.questions.specs.Question.{read_question, nodes_of}
 use Rattle.questions.specs.Asking.{held_question, Held}
 use Rattle.settling.specs.Answer.{roomed, read_settled, read_asked, answer_of, all_of, bytes_of, values_of}

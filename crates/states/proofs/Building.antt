@@ -19,7 +19,6 @@ use Rattle.wire.proofs.Reading.{good_then, bad_then}
 use Rattle.rules.specs.Graph.{Graph}
 use Rattle.graph.specs.Write.{write_graph}
 use Rattle.build.specs.declared.Built.{Built}
-use Rattle.build.specs.declared.Built.TheVariants as Built
 use Rattle.build.specs.Built.{fits, roomy, built_of, built_room}
 use Rattle.build.proofs.Writing.{fits_each}
 use Rattle.questions.specs.Question.{Question, read_question, graph_for}

@@ -21,7 +21,6 @@ use Rattle.runs.proofs.Proper.{proper}
 use Rattle.reduction.proofs.Stands.{node_lt}
 use Rattle.reduction.proofs.Verdict.{yes_exactly}
 use Rattle.settling.specs.declared.Verdict.{Verdict}
-use Rattle.settling.specs.declared.Verdict.TheVariants as Verdict
 use Rattle.questions.specs.Question.{Question, graph_for, root_node}
 use Rattle.settling.specs.Answer.{verdict_of}
 use Rattle.states.specs.Promise.{Satisfies}

@@ -22,9 +22,7 @@ use Rattle.build.specs.Built.{fits}
 use Rattle.build.proofs.Writing.{fits_each}
 use Rattle.settling.specs.declared.Verdict.TheVariants as Verdict
 use Rattle.settling.specs.declared.Answer.{Answer}
-use Rattle.settling.specs.declared.Answer.TheVariants as Answer
 use Rattle.settling.specs.declared.AllStates.{AllStates}
-use Rattle.settling.specs.declared.AllStates.TheVariants as AllStates
 use Rattle.questions.specs.Question.{Question, graph_for, root_node}
 use Rattle.settling.specs.Answer.{sized, roomed, verdict_of, answer_of, all_of, bytes_of, values_of}
 use Rattle.states.proofs.Deciding.{zero_test, root_inside}

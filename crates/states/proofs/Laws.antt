@@ -17,7 +17,6 @@ use Rattle.syntax.specs.WellFormed as formulas
 use Rattle.formula.proofs.Exact as formula
 use Rattle.reduction.proofs.Depths.{built_count}
 use Rattle.settling.specs.declared.AllStates.{AllStates}
-use Rattle.settling.specs.declared.AllStates.TheVariants as AllStates
 use Rattle.questions.specs.Question.{Question, graph_for, ruled_for, root_node}
 use Rattle.settling.specs.Answer.{roomed, all_of, values_of}
 use Rattle.states.specs.Promise.{Asks}

@@ -23,7 +23,6 @@ use Rattle.formula.proofs.Exact as formula
 use Rattle.reduction.proofs.Depths.{built_count}
 use Rattle.settling.specs.declared.Answer.TheVariants as Answer
 use Rattle.settling.specs.declared.AllStates.{AllStates}
-use Rattle.settling.specs.declared.AllStates.TheVariants as AllStates
 use Rattle.questions.specs.Question.{Question, read_question, graph_for, root_node}
 use Rattle.settling.specs.Answer.{roomed, read_settled, read_asked, answer_of, all_of, bytes_of, values_of}
 use Rattle.states.specs.Promise.{Asks, Leaves, Spends, Refuses, Promise, PromiseAll}

@@ -17,10 +17,8 @@ use Rattle.runs.specs.Sat.{Sat}
 use Rattle.build.specs.Built.{built_number, built_length}
 use Rattle.build.specs.declared.Built.{Built}
 use Rattle.settling.specs.declared.Verdict.{Verdict}
-use Rattle.settling.specs.declared.Verdict.TheVariants as Verdict
 use Rattle.settling.specs.declared.Answer.{Answer}
 use Rattle.settling.specs.declared.AllStates.{AllStates}
-use Rattle.settling.specs.declared.AllStates.TheVariants as AllStates
 use Rattle.questions.specs.Question.{Question, graph_for, ruled_for, root_node}
 use Rattle.settling.specs.Answer.{answer_number, answer_verdict, answer_count, answer_length, all_number, all_count, all_length}
 

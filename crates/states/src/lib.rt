@@ -1,5 +1,6 @@
 // The whole question for all states: the number of nodes, the graph alone, and the answers from one settled room.
 #![tactic(auto)]
+
 ghost use Rattle.std.specs.Prelude.{◌≡◌};
 ghost use Rattle.questions.specs.Question.{read_question, nodes_of};
 ghost use Rattle.settling.specs.Answer.{read_built, read_settled, all_of, built_alone, bytes_of, values_of};

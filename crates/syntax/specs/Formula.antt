@@ -7,7 +7,6 @@ use Rattle.value.specs.declared.Bound.{Bound}
 use Rattle.syntax.specs.declared.Quantifier.{Quantifier}
 use Rattle.syntax.specs.declared.Action.{Action}
 use Rattle.syntax.specs.declared.Row.{Row}
-use Rattle.syntax.specs.declared.Row.TheVariants as Row
 use Rattle.syntax.specs.Rows.{operands}
 
 -- the operators, with formulas for operands; EX, AX and the untils carry a quantifier and a bound that is a number or none, EX and AX also

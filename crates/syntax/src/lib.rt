@@ -1,5 +1,6 @@
 // Rows of formula messages: what each says, and the row that stands at a position of an accepted message.
 #![tactic(auto)]
+
 ghost use Rattle.std.specs.Prelude.{◌≡◌, ◌+◌, ◌≤◌, length};
 ghost use Rattle.syntax.specs.Rows as rows;
 ghost use Rattle.syntax.specs.Layouts.{row_at};

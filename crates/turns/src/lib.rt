@@ -1,5 +1,6 @@
 // How the rounds on a message end, and where each of their turns begins.
 #![tactic(auto)]
+
 ghost use Rattle.std.specs.Prelude.{◌≡◌};
 ghost use Rattle.turns.specs.Outcome.{outcome_number, outcome_offset, outcome_count};
 

@@ -1,5 +1,6 @@
 // The value of a node, and the bound of a cover edge.
 #![tactic(auto)]
+
 ghost use Rattle.std.specs.Prelude.{◌≡◌, ℕ, ◌≤◌, leb};
 ghost use Rattle.value.specs.Value.{plus, greatest, least, meets};
 ghost use Rattle.value.specs.Coded.{bound_of, code_of};

@@ -1,5 +1,6 @@
 // The whole question: a model, a formula, a state and a budget; yes, no, or a refusal. What is asked of all states at once is passed on.
 #![tactic(auto)]
+
 ghost use Rattle.std.specs.Prelude.{◌≡◌};
 ghost use Rattle.settling.specs.Answer.{read_asked, answer_of, bytes_of, values_of};
 ghost use Rattle.states.specs.Promise.{Promise};

@@ -1,5 +1,5 @@
 -- Records by their number: where each stands, a part of them that starts at one of them, and sources that never fall. Assumes nothing.
-use Rattle.std.proofs.Common.{◌≡◌, ℕ, zero, suc, ◌+◌, ◌-◌, ◌*◌, ◌<◌, ◌≤◌, List, [], ◌∷◌, map, sym, refl, ap, ◌∙◌, subst, le_trans, not-suc-le-zero, suc-add, zero-add, add-one, arith}
+use Rattle.std.proofs.Common.{◌≡◌, ℕ, zero, suc, ◌+◌, ◌-◌, ◌<◌, ◌≤◌, map, sym, refl, ap, ◌∙◌, subst, le_trans, not-suc-le-zero, suc-add, zero-add, arith}
 use mathlib.Core.List.Memᴰ
 use native.Mathlib.Decide.{dec_lt}
 use Rattle.lists.specs.Lists.{◌∈◌}

@@ -1,5 +1,6 @@
 // Numbers in message bytes, big-endian, over the width, and the start that all messages share.
 #![tactic(auto)]
+
 ghost use Rattle.std.specs.Prelude.{◌≡◌, ◌+◌, ◌≤◌, ◌&&◌, length, nat_le, nat_lt};
 ghost use Rattle.wire.specs.Bytes.{number, put};
 ghost use Rattle.wire.specs.Field.{width_of, long_width, field_at};

@@ -2,7 +2,6 @@
 use Prim.Native.Nat.{ℕ, ◌+◌, ◌*◌, ◌<◌}
 use mathlib.Core.Path.{◌≡◌, refl, sym, ap, subst, ◌∙◌}
 use native.Mathlib.Omega.{arith}
-use borrow.Author.Rules.{rules}
 use Rattle.rules.specs.Graph.{Target}
 use Rattle.rules.specs.Rounds.{worst}
 use Rattle.lists.specs.Lists.{◌∈◌}
@@ -58,8 +57,7 @@ Lower b rank k = (t : Target) → t ∈ items (target_layout b.args.s.now b.args
 
 pub returns : goal.returns
 returns c =
-    let r = read (goal.at.returns c).After-worst-given in
-    (
+    let r = read (goal.at.returns c).After-worst-given in (
       λ e. hyper_backs r (omega (arith, c.if-given-claimed.false)) (omega (arith, c.if-given-claimed.false)) c.if-claimed.false
           (subst (λ (x : ℕ). Lower (goal.at.returns c).Start x (number 2 c.args.s.now (c.args.at + 2))) (rank_is (goal.at.returns c).After-rank_of-rank) (subst (Lower (goal.at.returns c).Start c.rank_of-rank.result) c.requires.k_value (c.ranks_below.ensures.0 e))),
       λ e k. c.ranks_below.ensures.1 e

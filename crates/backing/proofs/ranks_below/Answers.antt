@@ -1,16 +1,14 @@
 -- `backing::ranks_below` meets its contract: the targets passed have a smaller rank.
-use Prim.Native.Nat.{◌+◌, ◌<◌}
+use Prim.Native.Nat.{◌+◌}
 use mathlib.Core.Bool.{false, true≢false}
 use mathlib.Core.Path.{◌≡◌, ap, ◌∙◌}
 use native.Mathlib.Omega.{arith}
-use borrow.Author.Rules.{rules}
 use Rattle.lists.proofs.Tests.{clash}
 use Rattle.wire.specs.Bytes.{number}
 use Rattle.graph.specs.Format.{node_at}
-use Rattle.rules.specs.Graph.{Target}
-use Rattle.graph.specs.Layouts.{target_layout, TargetOk}
+use Rattle.graph.specs.Layouts.{TargetOk}
 use Rattle.support.specs.Claims.{claimed_rank}
-use Rattle.support.proofs.Passing.{Passing, passing_all, passing_here, passing_one, passing_turn, passing_done}
+use Rattle.support.proofs.Passing.{passing_all, passing_here, passing_one, passing_turn, passing_done}
 use Rattle.backing.proofs.ranks_below.Goals as goal
 use Rattle.backing.proofs.ranks_below.Goals.{After-rank_of-other, In-loop-i}
 

@@ -1,7 +1,6 @@
 -- `backing::target_sum` meets its contract.
 use Prim.Native.Nat.{ℕ, ◌*◌}
 use mathlib.Core.Path.{ap, ap₂, ◌∙◌}
-use borrow.Author.Rules.{rules}
 use Rattle.value.specs.Value.{plus}
 use Rattle.value.specs.Stored.{stored, meaning}
 use Rattle.wire.specs.Bytes.{number}

@@ -5,7 +5,6 @@ use mathlib.Core.Path.{◌≡◌, refl, sym, ap, ◌∙◌}
 use mathlib.Core.Bool.{true, not, ◌&&◌, not-not}
 use native.Mathlib.Nat.{mul-le-mul_left}
 use native.Mathlib.Omega.{arith}
-use borrow.Author.Rules.{rules}
 use Rattle.model.specs.Model.{Model}
 use Rattle.syntax.specs.declared.Row.{Row}
 use Rattle.reduction.specs.Built.{graph_of}
@@ -66,11 +65,11 @@ unfolding held_model
 certain c =
     let less = enough_less _ _ _ _ c.total_most-most.ensures (sym c.is_enough.ensures ∙ c.if-is_enough.true) in
     sym (enough_are ((let it : (z : Size) → z ≡ size_of (rows_edges (held_model c.args.m.now c.args.n c.args.p c.args.t) (held_rows c.args.f.now c.args.k)) → Counted (held_model c.args.m.now c.args.n c.args.p c.args.t) (held_rows c.args.f.now c.args.k) c.args.n c.args.k c.count_untils-untils.result z = λ z is. record {
-  states_are = refl;
-  rows_are = rows_length _ _;
-  untils_are = c.count_untils-untils.ensures;
-  size_is = is;
-} in it) (size_of (rows_edges (held_model c.args.m.now c.args.n c.args.p c.args.t) (held_rows c.args.f.now c.args.k))) refl) c.args.room.now c.args.values) ∙ less
+      states_are = refl;
+      rows_are = rows_length _ _;
+      untils_are = c.count_untils-untils.ensures;
+      size_is = is;
+    } in it) (size_of (rows_edges (held_model c.args.m.now c.args.n c.args.p c.args.t) (held_rows c.args.f.now c.args.k))) refl) c.args.room.now c.args.values) ∙ less
 
 pub write-requires : goal.write-requires
 write-requires c = record { holds_model = c.requires.holds_model; n_in_bounds = (omega (arith, c.starts-table.ensures.0, states_few c.requires.holds_model), c.starts-table.ensures.1); holds_rows = c.requires.holds_rows; untils_value = c.count_untils-untils.ensures; writable = writable _ _ _ (certain (goal.at.write-requires c).Then-is_enough) }
@@ -112,11 +111,11 @@ asked : (c : After-is_enough-2) → let g = graph_of (held_model c.args.m.now c.
 unfolding held_model
 asked c =
     sym (enough_are (let it : Counted (held_model c.args.m.now c.args.n c.args.p c.args.t) (held_rows c.args.f.now c.args.k) c.args.n c.args.k c.count_untils-untils.result c.total_size-size.result = (let it : (z : Size) → z ≡ size_of (rows_edges (held_model c.args.m.now c.args.n c.args.p c.args.t) (held_rows c.args.f.now c.args.k)) → Counted (held_model c.args.m.now c.args.n c.args.p c.args.t) (held_rows c.args.f.now c.args.k) c.args.n c.args.k c.count_untils-untils.result z = λ z is. record {
-  states_are = refl;
-  rows_are = rows_length _ _;
-  untils_are = c.count_untils-untils.ensures;
-  size_is = is;
-} in it) c.total_size-size.result c.total_size-size.ensures in it) c.args.room.now c.args.values) ∙ sym c.is_enough-2.ensures
+      states_are = refl;
+      rows_are = rows_length _ _;
+      untils_are = c.count_untils-untils.ensures;
+      size_is = is;
+    } in it) c.total_size-size.result c.total_size-size.ensures in it) c.args.room.now c.args.values) ∙ sym c.is_enough-2.ensures
 
 pub write-requires-then-is_enough-2 : goal.write-requires-then-is_enough-2
 write-requires-then-is_enough-2 c = record { holds_model = c.requires.holds_model; n_in_bounds = (omega (arith, c.starts-table.ensures.0, states_few c.requires.holds_model), c.starts-table.ensures.1); holds_rows = c.requires.holds_rows; untils_value = c.count_untils-untils.ensures; writable = writable _ _ _ (asked (goal.at.write-requires-then-is_enough-2 c).After-is_enough-2 ∙ c.if-is_enough-2.true) }

@@ -3,7 +3,6 @@ use Prim.Native.Nat.{ℕ, ◌+◌, ◌*◌, ◌≤◌}
 use mathlib.Core.Path.{ap}
 use native.Mathlib.Nat.{mul-le-mul_left}
 use native.Mathlib.Omega.{arith}
-use borrow.Author.Rules.{rules}
 use Rattle.build.proofs.Writing.{untils_few}
 use Rattle.build.proofs.count_nodes.Goals as goal
 use Rattle.build.proofs.count_nodes.Goals.{After-count_untils}

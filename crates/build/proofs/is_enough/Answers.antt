@@ -1,7 +1,6 @@
 -- `build::is_enough` meets its contract, test by test.
 use mathlib.Core.Bool.{true, not, not-not}
 use mathlib.Core.Path.{◌≡◌, sym, ap, ◌∙◌}
-use borrow.Author.Rules.{rules}
 use borrow.Author.Tests.{le-leb, lt-leb}
 use Rattle.graph.specs.Format.{graph_length}
 use Rattle.sizing.specs.Size.{in_limits}

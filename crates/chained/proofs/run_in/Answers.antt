@@ -1,13 +1,11 @@
 -- `chained::run_in` meets its contract: each turn begins with round i in the first half of the room, the next in the second, and the nodes that differ listed.
-use Prim.Native.Nat.{◌+◌, ◌-◌, ◌≤◌}
-use mathlib.Core.Logic.{◌⊎◌, inl}
+use Prim.Native.Nat.{◌+◌, ◌≤◌}
+use mathlib.Core.Logic.{inl}
 use mathlib.Core.Path.{◌≡◌, refl, ◌∙◌}
 use native.Mathlib.Omega.{arith}
 use lib.ListN.{length}
 use Rattle.graph.specs.Layouts.{decoded}
-use Rattle.changes.specs.Listed.{Listed}
 use Rattle.changes.proofs.Listing.{listed_few, listed_over, listed_some, raised_same, halves_aside, halves_turn, halves_near}
-use Rattle.turns.specs.Turns.{AtRound}
 use Rattle.turns.proofs.Loop.{holds_filled, ends_settled, ends_spent, goes_on}
 use Rattle.chained.proofs.Chains.{round_fallen, taken_part}
 use Rattle.chained.proofs.run_in.Goals as goal
@@ -63,8 +61,7 @@ unfolding decoded
 loop-many-preserved c =
     let ready = c.requires.ready in
     let l = c.loop-many.invariant in
-    let index = c.link_all.ensures in
-    (
+    let index = c.link_all.ensures in (
       goes_on _ ready.closed ready.storable l.0 (listed_some l.1 c.if-many-eq0.false) c.if-round-budget.false c.raise_changed.ensures _ (taken_part ready c.requires.middle_value index l.1 c.take_changed-many.ensures.taken_all l.0) c.take_changed-many.ensures.taken_all.taken.room,
       c.take_changed-many.ensures.listed,
       halves_turn _ l.2,

@@ -1,15 +1,11 @@
 -- `chained::run_in` meets its contract: each turn begins with round i in the first half of the room, the next in the second, and the nodes that differ listed.
-use Prim.Native.Nat.{◌+◌, ◌-◌, ◌≤◌}
-use mathlib.Core.Logic.{◌⊎◌, inl}
-use mathlib.Core.Path.{◌≡◌, refl, ◌∙◌}
-use native.Mathlib.Omega.{arith}
+use Prim.Native.Nat.{◌-◌}
+use mathlib.Core.Logic.{◌⊎◌}
+use mathlib.Core.Path.{◌≡◌}
 use lib.ListN.{length}
 use Rattle.graph.specs.Layouts.{decoded}
 use Rattle.changes.specs.Listed.{Listed}
-use Rattle.changes.proofs.Listing.{listed_few, listed_over, listed_some, raised_same, halves_aside, halves_turn, halves_near}
 use Rattle.turns.specs.Turns.{AtRound}
-use Rattle.turns.proofs.Loop.{holds_filled, ends_settled, ends_spent, goes_on}
-use Rattle.chained.proofs.Chains.{round_fallen, taken_part}
 use Rattle.chained.proofs.run_in.Given as goal
 
 abbrev pub invariant-loop-many : goal.invariant-loop-many

@@ -1,6 +1,5 @@
 -- `chained::run_linked` meets its contract: short lists are taken only where the graph fits them.
 use native.Mathlib.Omega.{arith}
-use borrow.Author.Rules.{rules}
 use Rattle.chained.proofs.Chains.{in_zeros}
 use Rattle.chained.proofs.run_linked.Goals as goal
 

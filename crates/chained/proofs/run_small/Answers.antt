@@ -1,6 +1,5 @@
 -- `chained::run_small` meets its contract: nothing is linked in lists of zeros.
 use native.Mathlib.Omega.{arith}
-use borrow.Author.Rules.{rules}
 use Rattle.chained.proofs.Chains.{in_zeros}
 use Rattle.chained.proofs.run_small.Goals as goal
 

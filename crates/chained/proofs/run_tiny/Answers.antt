@@ -1,6 +1,5 @@
 -- `chained::run_tiny` meets its contract: nothing is linked in lists of zeros.
 use native.Mathlib.Omega.{arith}
-use borrow.Author.Rules.{rules}
 use Rattle.chained.proofs.Chains.{in_zeros}
 use Rattle.chained.proofs.run_tiny.Goals as goal
 

@@ -1,12 +1,7 @@
 -- `chains::take_changed` meets its contract: the records of the first i nodes that are listed are taken in, and the nodes that they change are listed.
-use Prim.Native.Nat.{◌+◌, ◌-◌, ◌≤◌, ◌<◌}
-use mathlib.Core.Path.{◌≡◌}
-use native.Mathlib.Omega.{arith}
-use lib.ListN.{length, get_or}
+use Prim.Native.Nat.{◌-◌, ◌≤◌}
 use Rattle.changes.specs.Listed.{Listed, Apart}
 use Rattle.chains.specs.Taken.{TakenAll}
-use Rattle.chains.proofs.Taking.{taken_none, taken_more}
-use Rattle.changes.proofs.Listing.{listed_level, apart_none, apart_on, aside_apart}
 use Rattle.chains.proofs.take_changed.Given as goal
 
 abbrev pub invariant-loop-i : goal.invariant-loop-i

@@ -1,16 +1,11 @@
 -- `chains::take_linked` meets its contract: the records of the chain up to a place are taken in, and the nodes that they change are listed.
-use Prim.Native.Nat.{ℕ, ◌+◌, ◌-◌, ◌≤◌, ◌<◌}
-use mathlib.Core.List.{List}
+use Prim.Native.Nat.{◌+◌, ◌-◌, ◌≤◌, ◌<◌}
 use mathlib.Core.Path.{◌≡◌, refl, sym, ap, subst, ◌∙◌}
 use native.Mathlib.Omega.{arith}
-use borrow.Author.Rules.{rules}
-use lib.ListN.{length, get_or}
+use lib.ListN.{length}
 use Rattle.wire.specs.Bytes.{number}
-use Rattle.rules.specs.Graph.{Graph}
-use Rattle.links.specs.Links.{spot_of, Reached, here, further, RecordAt, Told}
-use Rattle.changes.specs.Listed.{Listed, Apart}
-use Rattle.chains.specs.Taken.{Taken}
-use Rattle.chains.proofs.Taking.{Walking, record_ok, record_source, walking_none, walking_more, walking_all}
+use Rattle.links.specs.Links.{here, further, RecordAt}
+use Rattle.chains.proofs.Taking.{record_ok, record_source, walking_none, walking_more, walking_all}
 use Rattle.changes.proofs.Listing.{apart_none, apart_on}
 use Rattle.chains.proofs.take_linked.Goals as goal
 use Rattle.chains.proofs.take_linked.Goals.{After-link_of-place, After-source_of-source, In-loop-place}
@@ -54,8 +49,7 @@ loop-place-smaller c = omega (arith, c.loop-place-test.true, falls c)
 
 pub loop-place-preserved : goal.loop-place-preserved
 loop-place-preserved c =
-    let l = c.loop-place.invariant in
-    (
+    let l = c.loop-place.invariant in (
       omega (arith, inside (goal.at.loop-place-preserved c).In-loop-place, falls c),
       c.take_source-k.auto.room ∙ l.1,
       (λ q m. l.2 q (further _ (back (goal.at.loop-place-preserved c).In-loop-place) (rw c.link_of-place.ensures at m))),

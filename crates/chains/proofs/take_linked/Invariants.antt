@@ -1,17 +1,13 @@
 -- `chains::take_linked` meets its contract: the records of the chain up to a place are taken in, and the nodes that they change are listed.
-use Prim.Native.Nat.{ℕ, ◌+◌, ◌-◌, ◌≤◌, ◌<◌}
+use Prim.Native.Nat.{ℕ, ◌+◌, ◌≤◌}
 use mathlib.Core.List.{List}
-use mathlib.Core.Path.{◌≡◌, refl, sym, ap, subst, ◌∙◌}
-use native.Mathlib.Omega.{arith}
-use borrow.Author.Rules.{rules}
+use mathlib.Core.Path.{◌≡◌}
 use lib.ListN.{length, get_or}
-use Rattle.wire.specs.Bytes.{number}
 use Rattle.rules.specs.Graph.{Graph}
-use Rattle.links.specs.Links.{spot_of, Reached, here, further, RecordAt, Told}
+use Rattle.links.specs.Links.{spot_of, Reached, RecordAt, Told}
 use Rattle.changes.specs.Listed.{Listed, Apart}
 use Rattle.chains.specs.Taken.{Taken}
-use Rattle.chains.proofs.Taking.{Walking, record_ok, record_source, walking_none, walking_more, walking_all}
-use Rattle.changes.proofs.Listing.{apart_none, apart_on}
+use Rattle.chains.proofs.Taking.{Walking}
 use Rattle.chains.proofs.take_linked.Given as goal
 
 abbrev pub invariant-loop-place : goal.invariant-loop-place

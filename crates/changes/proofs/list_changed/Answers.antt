@@ -1,9 +1,8 @@
 -- `changes::list_changed` meets its contract: those below v that changed are listed.
-use Prim.Native.Nat.{◌+◌, ◌-◌, ◌≤◌, ◌<◌}
+use Prim.Native.Nat.{◌+◌, ◌≤◌, ◌<◌}
 use mathlib.Core.Path.{◌≡◌, refl, ◌∙◌}
 use native.Mathlib.Omega.{arith}
 use lib.ListN.{length, length-set}
-use Rattle.changes.specs.Listed.{Listed}
 use Rattle.changes.proofs.Listing.{listed_none, listed_few, listed_same, listed_more}
 use Rattle.changes.proofs.list_changed.Goals as goal
 use Rattle.changes.proofs.list_changed.Goals.{In-loop-v}

@@ -1,10 +1,8 @@
 -- `changes::list_changed` meets its contract: those below v that changed are listed.
-use Prim.Native.Nat.{◌+◌, ◌-◌, ◌≤◌, ◌<◌}
-use mathlib.Core.Path.{◌≡◌, refl, ◌∙◌}
-use native.Mathlib.Omega.{arith}
-use lib.ListN.{length, length-set}
+use Prim.Native.Nat.{◌-◌, ◌≤◌}
+use mathlib.Core.Path.{◌≡◌}
+use lib.ListN.{length}
 use Rattle.changes.specs.Listed.{Listed}
-use Rattle.changes.proofs.Listing.{listed_none, listed_few, listed_same, listed_more}
 use Rattle.changes.proofs.list_changed.Given as goal
 
 abbrev pub invariant-loop-v : goal.invariant-loop-v

@@ -1,9 +1,9 @@
 -- `changes::raise_changed` meets its contract: the first half is brought up at the first i nodes that are listed.
-use Prim.Native.Nat.{ℕ, ◌+◌, ◌-◌, ◌≤◌, ◌<◌}
+use Prim.Native.Nat.{◌+◌, ◌≤◌, ◌<◌}
 use mathlib.Core.Path.{◌≡◌, refl}
 use native.Mathlib.Omega.{arith}
 use lib.ListN.{length, get_or}
-use Rattle.changes.proofs.Listing.{listed_few, Raising, raising_none, raising_more, raising_all}
+use Rattle.changes.proofs.Listing.{listed_few, raising_none, raising_more, raising_all}
 use Rattle.changes.proofs.raise_changed.Goals as goal
 use Rattle.changes.proofs.raise_changed.Goals.{In-loop-i}
 

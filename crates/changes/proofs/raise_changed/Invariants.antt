@@ -1,9 +1,6 @@
 -- `changes::raise_changed` meets its contract: the first half is brought up at the first i nodes that are listed.
-use Prim.Native.Nat.{ℕ, ◌+◌, ◌-◌, ◌≤◌, ◌<◌}
-use mathlib.Core.Path.{◌≡◌, refl}
-use native.Mathlib.Omega.{arith}
-use lib.ListN.{length, get_or}
-use Rattle.changes.proofs.Listing.{listed_few, Raising, raising_none, raising_more, raising_all}
+use Prim.Native.Nat.{◌-◌, ◌≤◌}
+use Rattle.changes.proofs.Listing.{Raising}
 use Rattle.changes.proofs.raise_changed.Given as goal
 
 abbrev pub invariant-loop-i : goal.invariant-loop-i

@@ -1,9 +1,6 @@
 -- `claimed::all_backed` meets its contract: the finite nodes of the blocks passed are marked.
-use Rattle.std.proofs.Common.{◌-◌, ◌≤◌, refl, arith}
-use borrow.Author.Tests.{not-true, not-false}
+use Rattle.std.proofs.Common.{refl, arith}
 use Rattle.lists.proofs.Tests.{clash}
-use Rattle.support.specs.Claims.{claimed_value}
-use Rattle.claimed.specs.Targets.{AllBacked}
 use Rattle.claimed.proofs.Blocks.{below_block}
 use Rattle.claimed.proofs.all_backed.Goals as goal
 

@@ -1,11 +1,9 @@
 -- `claimed::are_backed` meets its contract: the finite nodes passed are marked.
-use Rattle.std.proofs.Common.{◌-◌, ◌≤◌, sym, refl, ap, ◌∙◌, arith, rules, below_more}
+use Rattle.std.proofs.Common.{sym, refl, ap, ◌∙◌, arith, below_more}
 use Rattle.lists.proofs.Tests.{clash}
 use Rattle.value.specs.Value.{finite}
 use Rattle.value.specs.Stored.{meaning}
 use Rattle.value.proofs.Stored.{meaning_infinite, meaning_finite}
-use Rattle.support.specs.Claims.{claimed_value}
-use Rattle.claimed.specs.Targets.{Backed}
 use Rattle.claimed.proofs.are_backed.Goals as goal
 
 pub returns-then-are_marked : goal.returns-then-are_marked

@@ -1,8 +1,7 @@
 -- `claimed::are_marked` meets its contract: no bit is gathered exactly where the nodes passed are marked.
-use Rattle.std.proofs.Common.{◌≡◌, ◌-◌, ◌≤◌, get_or, refl, arith, below_more, eqb-true}
+use Rattle.std.proofs.Common.{get_or, refl, arith, below_more, eqb-true}
 use borrow.Author.Tests.{eqb-false}
 use Rattle.lists.proofs.Apart.{still_same, both_same, none_apart}
-use Rattle.claimed.specs.Targets.{Marked}
 use Rattle.claimed.proofs.are_marked.Goals as goal
 
 pub loop-v-init : goal.loop-v-init

@@ -1,13 +1,12 @@
 -- `claimed::ranks_below` meets its contract: the targets passed have a smaller rank.
-use Rattle.std.proofs.Common.{◌≡◌, ℕ, ◌+◌, ◌-◌, ◌*◌, ◌<◌, ◌≤◌, refl, ap, ◌∙◌, true≢false, arith, rules}
+use Rattle.std.proofs.Common.{◌≡◌, ℕ, ◌+◌, ◌-◌, ◌*◌, ◌<◌, ◌≤◌, refl, ap, ◌∙◌, true≢false, arith}
 use Rattle.lists.proofs.Tests.{clash}
 use Rattle.wire.specs.Bytes.{number}
 use Rattle.wire.specs.Layout.{Sound}
 use Rattle.graph.specs.Format.{node_at, target_width}
-use Rattle.rules.specs.Graph.{Target}
 use Rattle.graph.specs.Layouts.{target_layout, TargetOk}
 use Rattle.support.specs.Claims.{claimed_rank}
-use Rattle.support.proofs.Passing.{Passing, passing_all, passing_here, passing_one, passing_turn, passing_done}
+use Rattle.support.proofs.Passing.{passing_all, passing_here, passing_one, passing_turn, passing_done}
 use Rattle.claimed.proofs.ranks_below.Goals as goal
 use Rattle.claimed.proofs.ranks_below.Goals.{After-rank_of-other, In-loop-p, Start}
 

@@ -1,13 +1,11 @@
 -- `claimed::ranks_below` meets its contract: the targets passed have a smaller rank.
-use Rattle.std.proofs.Common.{◌≡◌, ℕ, ◌+◌, ◌-◌, ◌*◌, ◌<◌, ◌≤◌, refl, ap, ◌∙◌, true≢false, arith, rules}
-use Rattle.lists.proofs.Tests.{clash}
-use Rattle.wire.specs.Bytes.{number}
+use Rattle.std.proofs.Common.{◌≡◌, ℕ, ◌+◌, ◌-◌, ◌*◌, ◌<◌}
 use Rattle.wire.specs.Layout.{Sound}
-use Rattle.graph.specs.Format.{node_at, target_width}
+use Rattle.graph.specs.Format.{target_width}
 use Rattle.rules.specs.Graph.{Target}
-use Rattle.graph.specs.Layouts.{target_layout, TargetOk}
+use Rattle.graph.specs.Layouts.{target_layout}
 use Rattle.support.specs.Claims.{claimed_rank}
-use Rattle.support.proofs.Passing.{Passing, passing_all, passing_here, passing_one, passing_turn, passing_done}
+use Rattle.support.proofs.Passing.{Passing}
 use Rattle.claimed.proofs.ranks_below.Given as goal
 
 abbrev pub invariant-loop-p : goal.invariant-loop-p

@@ -1,8 +1,8 @@
 -- `claimed::rest_named` meets its contract: the targets that are left are sound exactly where all are.
-use Rattle.std.proofs.Common.{◌≡◌, ℕ, ◌+◌, ◌-◌, ◌*◌, ◌<◌, ◌≤◌, length, refl, arith}
+use Rattle.std.proofs.Common.{◌≡◌, ℕ, ◌+◌, ◌-◌, ◌*◌}
 use Rattle.graph.specs.Format.{target_width}
-use Rattle.graph.specs.Layouts.{target_layout, TargetOk}
-use Rattle.claimed.proofs.Targets.{Rest, rest_all, rest_more, rest_odd, rest_none}
+use Rattle.graph.specs.Layouts.{target_layout}
+use Rattle.claimed.proofs.Targets.{Rest}
 use Rattle.claimed.proofs.rest_named.Given as goal
 
 abbrev pub invariant-loop-p : goal.invariant-loop-p

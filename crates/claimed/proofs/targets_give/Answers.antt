@@ -1,6 +1,6 @@
 -- `claimed::targets_give` meets its contract: the targets that are left are sound exactly where all are, and the greatest so far and theirs make
 -- the whole.
-use Rattle.std.proofs.Common.{◌≡◌, ℕ, ◌+◌, ◌-◌, ◌*◌, ◌<◌, ◌≤◌, min, max, length, sym, ap, ◌∙◌, ap₂, arith, rules}
+use Rattle.std.proofs.Common.{◌≡◌, ℕ, ◌+◌, ◌-◌, ◌*◌, ◌<◌, ◌≤◌, min, max, length, sym, ap, ◌∙◌, ap₂, arith}
 use Rattle.value.specs.Value.{plus}
 use Rattle.value.specs.Stored.{stored, meaning, infinite}
 use Rattle.value.proofs.Stored.{stored_plus, stored_le}
@@ -29,9 +29,15 @@ some c e = omega (arith, c.loop-p-test.true)
 
 -- it is sound
 sound : (c : Else-n-node) → let a = c.args in TargetOk a.s.now a.n c.loop-p.p
-sound c = record { inside = omega (arith, (let it : let a = c.args in (c.loop-p.p + target_width ≤ a.end) × (a.end ≤ length a.s.now) = let b = c.requires.parted in
-    let (i, e, r, w) = c.loop-p.invariant b.count b.whole in
-    (omega (arith, c.loop-p-test.true), b.inside) in it)); named = omega (arith, c.if-n-node.false, c.number_at-node.ensures) }
+sound c = record {
+  inside = omega (
+    arith,
+    (let it : let a = c.args in (c.loop-p.p + target_width ≤ a.end) × (a.end ≤ length a.s.now) = let b = c.requires.parted in
+        let (i, e, r, w) = c.loop-p.invariant b.count b.whole in
+        (omega (arith, c.loop-p-test.true), b.inside) in it),
+  );
+  named = omega (arith, c.if-n-node.false, c.number_at-node.ensures);
+}
 
 -- its weight and its claimed value make
 sum_is : (c : After-wrapping_add_u64-sum) → let s = c.args.s.now in let p = c.loop-p.p in
@@ -95,15 +101,26 @@ more c most is k e =
     let h : 0 < i = omega (arith, c.loop-p-test.true) in (
       i - 1,
       omega arith,
-      rest_more r h ((let it : let a = c.args in TargetOk a.s.now a.n c.loop-p.p = record { inside = omega (arith, (let it : let a = c.args in (c.loop-p.p + target_width ≤ a.end) × (a.end ≤ length a.s.now) = let b = c.requires.parted in
-    let (i, e, r, w) = c.loop-p.invariant b.count b.whole in
-    (omega (arith, c.loop-p-test.true), b.inside) in it)); named = omega (arith, c.if-n-node.false, c.number_at-node.ensures) } in it)),
-      worst_turn _ _ _ i _ c.loop-p.most most _ w h (omega (arith, (let it : let s = c.args.s.now in let p = c.loop-p.p in
-    stored (plus (number 4 s p) (claimed_value c.args.claims.now (number 2 s (p + node_at))))
-    ≡ min (c.number_at-weight.result + c.value_of-value.result) infinite = let a = c.args in
-    ap₂ (λ (w x : ℕ). stored (plus w (meaning x))) (sym c.number_at-weight.ensures)
-    (sym (c.value_of-value.ensures ∙ ap (λ (u : ℕ). number long_width a.claims.now (u * claim_width)) c.number_at-node.ensures))
-    ∙ stored_plus c.number_at-weight.result c.value_of-value.result (omega arith) in it), c.wrapping_add_u64-sum.ensures, c.if-sum-value.false)),
+      rest_more r h ((let it : let a = c.args in TargetOk a.s.now a.n c.loop-p.p = record {
+        inside = omega (
+          arith,
+          (let it : let a = c.args in (c.loop-p.p + target_width ≤ a.end) × (a.end ≤ length a.s.now) = let b = c.requires.parted in
+              let (i, e, r, w) = c.loop-p.invariant b.count b.whole in
+              (omega (arith, c.loop-p-test.true), b.inside) in it),
+        );
+        named = omega (arith, c.if-n-node.false, c.number_at-node.ensures);
+      } in it)),
+      worst_turn _ _ _ i _ c.loop-p.most most _ w h (omega (
+        arith,
+        (let it : let s = c.args.s.now in let p = c.loop-p.p in
+            stored (plus (number 4 s p) (claimed_value c.args.claims.now (number 2 s (p + node_at))))
+            ≡ min (c.number_at-weight.result + c.value_of-value.result) infinite = let a = c.args in
+            ap₂ (λ (w x : ℕ). stored (plus w (meaning x))) (sym c.number_at-weight.ensures)
+            (sym (c.value_of-value.ensures ∙ ap (λ (u : ℕ). number long_width a.claims.now (u * claim_width)) c.number_at-node.ensures))
+            ∙ stored_plus c.number_at-weight.result c.value_of-value.result (omega arith) in it),
+        c.wrapping_add_u64-sum.ensures,
+        c.if-sum-value.false,
+      )),
     )
 
 pub loop-p-smaller-then-most-sum : goal.loop-p-smaller-then-most-sum

@@ -1,18 +1,13 @@
 -- `claimed::targets_give` meets its contract: the targets that are left are sound exactly where all are, and the greatest so far and theirs make
 -- the whole.
-use Rattle.std.proofs.Common.{◌≡◌, ℕ, ◌+◌, ◌-◌, ◌*◌, ◌<◌, ◌≤◌, min, max, length, sym, ap, ◌∙◌, ap₂, arith, rules}
-use Rattle.value.specs.Value.{plus}
-use Rattle.value.specs.Stored.{stored, meaning, infinite}
-use Rattle.value.proofs.Stored.{stored_plus, stored_le}
-use Rattle.wire.specs.Bytes.{number}
-use Rattle.wire.specs.Field.{long_width}
+use Rattle.std.proofs.Common.{◌≡◌, ℕ, ◌+◌, ◌-◌, ◌*◌, max}
+use Rattle.value.specs.Stored.{stored}
 use Rattle.wire.specs.Layout.{items}
 use Rattle.rules.specs.Rounds.{worst}
-use Rattle.graph.specs.Format.{node_at, target_width}
-use Rattle.graph.specs.Layouts.{target_layout, TargetOk}
-use Rattle.graph.proofs.Worst.{worst_turn, worst_end}
-use Rattle.support.specs.Claims.{claim_width, claimed_value}
-use Rattle.claimed.proofs.Targets.{Rest, rest_all, rest_more, rest_odd, rest_none, named_rest}
+use Rattle.graph.specs.Format.{target_width}
+use Rattle.graph.specs.Layouts.{target_layout}
+use Rattle.support.specs.Claims.{claimed_value}
+use Rattle.claimed.proofs.Targets.{Rest}
 use Rattle.claimed.proofs.targets_give.Given as goal
 
 abbrev pub invariant-loop-p : goal.invariant-loop-p

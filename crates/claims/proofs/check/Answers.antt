@@ -1,7 +1,6 @@
 -- `claims::check` meets its contract: a fault of the header, claims of the wrong length, or a graph and claims that are accepted or not.
 use mathlib.Core.Path.{◌≡◌}
 use native.Mathlib.Omega.{arith}
-use borrow.Author.Rules.{rules}
 use Rattle.lists.proofs.Tests.{by}
 use Rattle.wire.specs.Bytes.{Bytes}
 use Rattle.wire.specs.Read.{good}

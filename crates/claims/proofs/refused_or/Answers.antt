@@ -1,5 +1,4 @@
 -- `claims::refused_or` meets its contract.
-use borrow.Author.Rules.{rules}
 use Rattle.lists.proofs.Tests.{by}
 use Rattle.claims.proofs.Answering.{refused_graph, refused_fault}
 use Rattle.claims.proofs.refused_or.Goals as goal

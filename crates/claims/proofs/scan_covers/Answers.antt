@@ -1,26 +1,22 @@
 -- `claims::scan_covers` meets its contract: the run of the cover edges that are left is the whole run, and those passed are fair and have marked their
 -- sources.
-use Prim.Native.Nat.{ℕ, ◌+◌, ◌*◌, ◌-◌, ◌<◌, ◌≤◌}
+use Prim.Native.Nat.{ℕ, ◌-◌, ◌<◌}
 use mathlib.Core.Path.{◌≡◌, refl, sym, ap, subst, ◌∙◌}
 use native.Mathlib.Omega.{arith}
 use lib.ListN.{length, get_or, set}
-use borrow.Author.Rules.{rules}
 use Rattle.wire.specs.Bytes.{number}
-use Rattle.wire.specs.Layout.{items}
 use Rattle.wire.specs.Read.{good}
 use Rattle.wire.specs.Reader.{one, run}
-use Rattle.wire.specs.Step.{start}
 use Rattle.wire.specs.declared.State.{State}
 use Rattle.wire.proofs.Readers.{run_none}
 use Rattle.graph.specs.Message.{covers}
-use Rattle.graph.specs.Format.{cover_width}
 use Rattle.graph.specs.Layouts.{cover_layout}
 use Rattle.edges.specs.declared.Edge.{Edge}
 use Rattle.support.specs.Claims.{claimed_value, claimed_rank}
 use Rattle.support.specs.Backing.{CoverFair, CoverBacks}
 use Rattle.edges.specs.Found.{EdgeFound}
 use Rattle.support.proofs.Passing.{Walking, walking_all, walking_one, walking_turn}
-use Rattle.claims.proofs.Marking.{Sure, sure_none, sure_more, Seen, mark_here, mark_stays, marked_all}
+use Rattle.claims.proofs.Marking.{sure_none, sure_more, mark_here, mark_stays, marked_all}
 use Rattle.graph.proofs.Fused.{cover_fits}
 use Rattle.graph.proofs.Turns.{cover_next, run_turn, run_next}
 use Rattle.claims.proofs.scan_covers.Goals as goal

@@ -1,7 +1,6 @@
 -- `cycles::deepen` meets its contract: a pass over the hyperedges, and one over the cover edges.
 use Prim.Native.Nat.{ℕ, ◌+◌}
 use mathlib.Core.Path.{subst, ◌∙◌}
-use borrow.Author.Rules.{rules}
 use Rattle.wire.specs.Layout.{items, end}
 use Rattle.graph.specs.Format.{graph_header}
 use Rattle.graph.specs.Layouts.{hyper_layout, cover_layout, decoded}

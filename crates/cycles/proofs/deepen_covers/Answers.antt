@@ -2,14 +2,12 @@
 use Prim.Native.Nat.{ℕ, ◌+◌, ◌<◌, ◌≤◌}
 use lib.ListN.{length}
 use native.Mathlib.Omega.{arith}
-use borrow.Author.Rules.{rules}
 use Rattle.wire.specs.Bytes.{number}
-use Rattle.wire.specs.Layout.{items}
 use Rattle.graph.specs.Format.{cover_target_at}
-use Rattle.graph.specs.Layouts.{cover_layout, CoverOk}
-use Rattle.cycles.specs.Labels.{label, Within, CoverFalls}
-use Rattle.support.proofs.Passing.{Passing, passing_all, passing_here, passing_one, passing_turn, passing_done}
-use Rattle.cycles.proofs.Labels.{Risen, risen_none, cover_raised, cover_falls, cover_stays, cover_within, deeper_all}
+use Rattle.graph.specs.Layouts.{CoverOk}
+use Rattle.cycles.specs.Labels.{label, Within}
+use Rattle.support.proofs.Passing.{passing_all, passing_here, passing_one, passing_turn, passing_done}
+use Rattle.cycles.proofs.Labels.{risen_none, cover_raised, cover_falls, cover_stays, cover_within, deeper_all}
 use Rattle.cycles.proofs.deepen_covers.Goals as goal
 use Rattle.cycles.proofs.deepen_covers.Goals.{After-number_at-source, After-number_at-target, In-loop-i}
 

@@ -1,15 +1,10 @@
 -- `cycles::deepen_covers` meets its contract: the cover edges passed lead less deep, and no label is deeper than it has to be.
 use Prim.Native.Nat.{ℕ, ◌+◌, ◌<◌, ◌≤◌}
-use lib.ListN.{length}
-use native.Mathlib.Omega.{arith}
-use borrow.Author.Rules.{rules}
-use Rattle.wire.specs.Bytes.{number}
 use Rattle.wire.specs.Layout.{items}
-use Rattle.graph.specs.Format.{cover_target_at}
-use Rattle.graph.specs.Layouts.{cover_layout, CoverOk}
+use Rattle.graph.specs.Layouts.{cover_layout}
 use Rattle.cycles.specs.Labels.{label, Within, CoverFalls}
-use Rattle.support.proofs.Passing.{Passing, passing_all, passing_here, passing_one, passing_turn, passing_done}
-use Rattle.cycles.proofs.Labels.{Risen, risen_none, cover_raised, cover_falls, cover_stays, cover_within, deeper_all}
+use Rattle.support.proofs.Passing.{Passing}
+use Rattle.cycles.proofs.Labels.{Risen}
 use Rattle.cycles.proofs.deepen_covers.Given as goal
 
 abbrev pub invariant-loop-i : goal.invariant-loop-i

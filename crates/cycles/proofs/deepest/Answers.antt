@@ -1,16 +1,12 @@
 -- `cycles::deepest` meets its contract: the largest so far is that of the targets passed.
-use Prim.Native.Nat.{ℕ, ◌+◌, ◌<◌, ◌≤◌}
+use Prim.Native.Nat.{◌+◌, ◌<◌}
 use mathlib.Core.Path.{◌≡◌, ap}
 use native.Mathlib.Omega.{arith}
-use borrow.Author.Rules.{rules}
-use Rattle.lists.specs.Lists.{◌∈◌}
 use Rattle.wire.specs.Bytes.{number}
-use Rattle.wire.specs.Layout.{items}
-use Rattle.rules.specs.Graph.{Target}
 use Rattle.graph.specs.Format.{node_at}
-use Rattle.graph.specs.Layouts.{target_layout, TargetOk}
+use Rattle.graph.specs.Layouts.{TargetOk}
 use Rattle.cycles.specs.Labels.{label}
-use Rattle.support.proofs.Passing.{Passing, passing_all, passing_here, passing_one, passing_turn, passing_done}
+use Rattle.support.proofs.Passing.{passing_all, passing_here, passing_one, passing_turn, passing_done}
 use Rattle.cycles.proofs.deepest.Goals as goal
 use Rattle.cycles.proofs.deepest.Goals.{After-number_at-node, In-loop-i}
 

@@ -1,16 +1,11 @@
 -- `cycles::deepest` meets its contract: the largest so far is that of the targets passed.
-use Prim.Native.Nat.{ℕ, ◌+◌, ◌<◌, ◌≤◌}
-use mathlib.Core.Path.{◌≡◌, ap}
-use native.Mathlib.Omega.{arith}
-use borrow.Author.Rules.{rules}
+use Prim.Native.Nat.{ℕ, ◌≤◌}
 use Rattle.lists.specs.Lists.{◌∈◌}
-use Rattle.wire.specs.Bytes.{number}
 use Rattle.wire.specs.Layout.{items}
 use Rattle.rules.specs.Graph.{Target}
-use Rattle.graph.specs.Format.{node_at}
-use Rattle.graph.specs.Layouts.{target_layout, TargetOk}
+use Rattle.graph.specs.Layouts.{target_layout}
 use Rattle.cycles.specs.Labels.{label}
-use Rattle.support.proofs.Passing.{Passing, passing_all, passing_here, passing_one, passing_turn, passing_done}
+use Rattle.support.proofs.Passing.{Passing}
 use Rattle.cycles.proofs.deepest.Given as goal
 
 abbrev pub invariant-loop-i : goal.invariant-loop-i

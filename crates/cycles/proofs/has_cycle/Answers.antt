@@ -3,10 +3,9 @@ use Prim.Native.Nat.{suc, ◌+◌, ◌-◌, ◌≤◌}
 use mathlib.Core.Bool.{true≢false}
 use mathlib.Core.Path.{◌≡◌, sym}
 use native.Mathlib.Omega.{arith}
-use borrow.Author.Tests.{not-true}
 use Rattle.graph.specs.Layouts.{decoded}
 use Rattle.cycles.specs.Labels.{Within}
-use Rattle.cycles.proofs.Labels.{still_free, risen_cycle, Labelled, labelled_none, labelled_more}
+use Rattle.cycles.proofs.Labels.{still_free, risen_cycle, labelled_none, labelled_more}
 use Rattle.cycles.proofs.has_cycle.Goals as goal
 use Rattle.cycles.proofs.has_cycle.Goals.{At-loop-passes}
 

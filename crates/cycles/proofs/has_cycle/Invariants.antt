@@ -1,12 +1,7 @@
 -- `cycles::has_cycle` meets its contract: labels that no pass raises leave no cycle through a cover edge, and labels that pass n raises show one.
-use Prim.Native.Nat.{suc, ◌+◌, ◌-◌, ◌≤◌}
-use mathlib.Core.Bool.{true≢false}
-use mathlib.Core.Path.{◌≡◌, sym}
-use native.Mathlib.Omega.{arith}
-use borrow.Author.Tests.{not-true}
+use Prim.Native.Nat.{◌+◌, ◌-◌, ◌≤◌}
 use Rattle.graph.specs.Layouts.{decoded}
-use Rattle.cycles.specs.Labels.{Within}
-use Rattle.cycles.proofs.Labels.{still_free, risen_cycle, Labelled, labelled_none, labelled_more}
+use Rattle.cycles.proofs.Labels.{Labelled}
 use Rattle.cycles.proofs.has_cycle.Given as goal
 
 abbrev pub invariant-loop-passes : goal.invariant-loop-passes

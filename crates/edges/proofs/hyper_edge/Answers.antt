@@ -3,8 +3,6 @@ use Prim.Native.Nat.{ℕ, ◌+◌, ◌*◌, ◌≤◌}
 use mathlib.Core.Path.{◌≡◌, refl, sym, ap, subst, ◌∙◌}
 use lib.ListN.{get_or}
 use native.Mathlib.Omega.{arith}
-use borrow.Author.Rules.{rules}
-use borrow.Author.Tests.{not-true, not-false}
 use Rattle.lists.proofs.Tests.{by, clash}
 use Rattle.value.specs.Stored.{stored}
 use Rattle.wire.specs.Bytes.{number}
@@ -61,10 +59,10 @@ fits c =
         inside = omega (arith, c.if-s-first.false);
         named = omega (arith, order.0);
         sound = subst (λ (n : ℕ). Sound (target_layout c.args.s.now c.args.n) n (c.args.at + hyper_width)) count ((let it : (g : Given) → c.targets_give.result ≡ g → let L = target_layout c.args.s.now c.args.n in let first = c.args.at + hyper_width in
-    Named L c.number_at-count.result first (stored (worst (claimed_value c.args.claims.now) (items L c.number_at-count.result first))) (first + c.number_at-count.result * target_width) g = λ g e. let L = target_layout c.args.s.now c.args.n in
-    let first = c.args.at + hyper_width in
-    subst (Named L c.number_at-count.result first (stored (worst (claimed_value c.args.claims.now) (items L c.number_at-count.result first))) (first + c.number_at-count.result * target_width)) e
-    (c.targets_give.ensures c.number_at-count.result refl) in it) _ c.in-Most.is).0;
+            Named L c.number_at-count.result first (stored (worst (claimed_value c.args.claims.now) (items L c.number_at-count.result first))) (first + c.number_at-count.result * target_width) g = λ g e. let L = target_layout c.args.s.now c.args.n in
+            let first = c.args.at + hyper_width in
+            subst (Named L c.number_at-count.result first (stored (worst (claimed_value c.args.claims.now) (items L c.number_at-count.result first))) (first + c.number_at-count.result * target_width)) e
+            (c.targets_give.ensures c.number_at-count.result refl) in it) _ c.in-Most.is).0;
       };
       ordered = omega (arith, order.1);
       few = omega (arith, c.if-total-gt-MOST_TARGETS.false);

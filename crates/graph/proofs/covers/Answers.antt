@@ -1,13 +1,7 @@
 -- `graph::covers` meets its contract: the source before is at most n, and the run of the i cover edges that are left is the whole run.
-use Prim.Native.Nat.{◌≤◌}
-use mathlib.Core.Path.{◌≡◌, refl}
-use lib.ListN.{length}
-use borrow.Author.Rules.{rules}
+use mathlib.Core.Path.{refl}
 use native.Mathlib.Omega.{arith}
 use Rattle.lists.proofs.Tests.{by}
-use Rattle.wire.specs.Reader.{run}
-use Rattle.graph.specs.Message as m
-use Rattle.wire.specs.Step.{step}
 use Rattle.wire.proofs.Turns.{step_next, turn_next, turn_refused, turn_none}
 use Rattle.graph.proofs.Good.{covers_stay}
 use Rattle.graph.proofs.covers.Goals as goal

@@ -1,6 +1,5 @@
 -- `graph::covers_in_order` meets its contract: each `return` is the test under what led there.
 use mathlib.Core.Path.{refl, ◌∙◌}
-use borrow.Author.Rules.{rules}
 use borrow.Author.Tests.{eq-eqb, ne_eqb}
 use Rattle.graph.specs.Names.{covers_in_order}
 use Rattle.graph.proofs.covers_in_order.Goals as goal

@@ -1,6 +1,5 @@
 -- `graph::covers_to_end` meets its contract: in order they are read without a fault, up to the end; else each `return` is their reading.
 use mathlib.Core.Path.{◌≡◌}
-use borrow.Author.Rules.{rules}
 use borrow.Author.Tests.{eq-eqb, ne_eqb}
 use Rattle.lists.proofs.Tests.{by}
 use Rattle.wire.specs.Read.{good}

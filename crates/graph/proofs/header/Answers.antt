@@ -1,6 +1,5 @@
 -- `graph::header` meets its contract: each `return` is the reading under the tests that led there.
 use mathlib.Core.Path.{◌≡◌}
-use borrow.Author.Rules.{rules}
 use Rattle.lists.proofs.Tests.{by}
 use Rattle.wire.specs.Counts.{read_count}
 use Rattle.wire.specs.Read.{good}

@@ -1,16 +1,11 @@
 -- `graph::hypers` meets its contract: the source before is at most n, and the run of the i hyperedges that are left is the whole run.
 use Prim.Native.Nat.{◌≤◌}
-use mathlib.Core.Path.{◌≡◌, refl}
+use mathlib.Core.Path.{◌≡◌}
 use lib.ListN.{length}
-use borrow.Author.Rules.{rules}
-use native.Mathlib.Omega.{arith}
-use Rattle.lists.proofs.Tests.{by}
 use Rattle.wire.specs.Reader.{run}
 use Rattle.graph.specs.Format.{most_targets}
 use Rattle.graph.specs.Message as m
 use Rattle.wire.specs.Step.{step}
-use Rattle.wire.proofs.Turns.{step_next, turn_next, turn_refused, turn_none}
-use Rattle.graph.proofs.Good.{hypers_stay}
 use Rattle.graph.proofs.hypers.Given as goal
 
 abbrev pub invariant-loop-i : goal.invariant-loop-i

@@ -1,12 +1,9 @@
 -- `graph::past_fours` meets its contract: so far all targets of the fours that were passed name nodes.
-use Prim.Native.Nat.{◌-◌}
 use mathlib.Core.Path.{refl}
 use native.Mathlib.Omega.{arith}
-use borrow.Author.Rules.{rules}
-use borrow.Author.Tests.{not-true, not-false}
 use Rattle.lists.proofs.Tests.{by}
 use Rattle.graph.specs.Names.{all_named}
-use Rattle.graph.proofs.Names.{Fours, four_more, fours_all, fours_not}
+use Rattle.graph.proofs.Names.{four_more, fours_all, fours_not}
 use Rattle.graph.proofs.past_fours.Goals as goal
 
 pub loop-at-init : goal.loop-at-init

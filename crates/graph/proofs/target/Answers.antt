@@ -1,7 +1,6 @@
 -- `graph::target` meets its contract: both fields fit, and each `return` is the reading of the node that led there.
 use Prim.Native.Nat.{◌+◌}
 use mathlib.Core.Path.{◌≡◌, ap, ◌∙◌}
-use borrow.Author.Rules.{rules}
 use native.Mathlib.Omega.{arith}
 use Rattle.lists.proofs.Tests.{by}
 use Rattle.wire.specs.Bytes.{number}

@@ -1,14 +1,10 @@
 -- `graph::targets` meets its contract: behind the fours, whose targets name nodes, the run goes on; the targets that are left fit, end where the
 -- loop does, and their run is the run from there.
-use Prim.Native.Nat.{ℕ, ◌+◌, ◌*◌, ◌-◌, ◌/◌, ◌≤◌}
-use mathlib.Core.List.{List}
+use Prim.Native.Nat.{ℕ, ◌+◌, ◌*◌, ◌-◌, ◌/◌}
 use mathlib.Core.Path.{◌≡◌, refl, ap, ◌∙◌}
-use lib.ListN.{length}
-use borrow.Author.Rules.{rules}
 use native.Mathlib.Omega.{arith}
 use Rattle.lists.proofs.Tests.{by}
 use Rattle.wire.specs.declared.State.{State}
-use Rattle.wire.specs.declared.Step.{Step}
 use Rattle.wire.specs.Reader.{run}
 use Rattle.wire.specs.Step.{step}
 use Rattle.wire.proofs.Turns.{step_next, turn_next, turn_refused, turn_none}
@@ -16,7 +12,7 @@ use Rattle.graph.specs.Format.{target_width}
 use Rattle.graph.specs.Message as m
 use Rattle.graph.proofs.Good.{targets_move}
 use Rattle.graph.proofs.Names.{Passed, passed, run_past}
-use Rattle.graph.proofs.targets.Invariants.{Left, run_to}
+use Rattle.graph.proofs.targets.Invariants.{run_to}
 use Rattle.graph.proofs.targets.Goals as goal
 use Rattle.graph.proofs.targets.Goals.{After-past_fours-at}
 

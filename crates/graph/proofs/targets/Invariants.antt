@@ -2,20 +2,14 @@
 -- loop does, and their run is the run from there.
 use Prim.Native.Nat.{ℕ, ◌+◌, ◌*◌, ◌-◌, ◌/◌, ◌≤◌}
 use mathlib.Core.List.{List}
-use mathlib.Core.Path.{◌≡◌, refl, ap, ◌∙◌}
+use mathlib.Core.Path.{◌≡◌}
 use lib.ListN.{length}
-use borrow.Author.Rules.{rules}
-use native.Mathlib.Omega.{arith}
-use Rattle.lists.proofs.Tests.{by}
 use Rattle.wire.specs.declared.State.{State}
 use Rattle.wire.specs.declared.Step.{Step}
 use Rattle.wire.specs.Reader.{run}
 use Rattle.wire.specs.Step.{step}
-use Rattle.wire.proofs.Turns.{step_next, turn_next, turn_refused, turn_none}
 use Rattle.graph.specs.Format.{target_width}
 use Rattle.graph.specs.Message as m
-use Rattle.graph.proofs.Good.{targets_move}
-use Rattle.graph.proofs.Names.{Passed, passed, run_past}
 use Rattle.graph.proofs.targets.Given as goal
 
 -- the run of the targets from a state up to an end

@@ -1,12 +1,7 @@
 -- `halves::alike` meets its contract: no bit is gathered exactly where the numbers below i are the same.
-use Prim.Native.Nat.{◌+◌, ◌-◌, ◌≤◌}
-use mathlib.Core.Path.{◌≡◌, refl}
-use lib.ListN.{get_or}
-use native.Mathlib.Omega.{arith}
-use borrow.Author.Count.{below_more}
-use borrow.Author.Tests.{eqb-true, eqb-false}
+use Prim.Native.Nat.{◌-◌, ◌≤◌}
+use mathlib.Core.Path.{◌≡◌}
 use Rattle.halves.specs.Room.{Alike}
-use Rattle.lists.proofs.Apart.{still_same, both_same, none_apart}
 use Rattle.halves.proofs.alike.Given as goal
 
 abbrev pub invariant-loop-i : goal.invariant-loop-i

@@ -1,11 +1,7 @@
 -- `halves::between` meets its contract: the numbers below i are the same.
-use Prim.Native.Nat.{◌+◌, ◌-◌, ◌≤◌, ◌<◌}
-use mathlib.Core.Path.{◌≡◌, refl}
+use mathlib.Core.Path.{refl}
 use native.Mathlib.Omega.{arith}
-use lib.ListN.{get_or}
-use borrow.Author.Tests.{not-true, not-false}
 use Rattle.lists.proofs.Tests.{clash}
-use Rattle.halves.specs.Room.{Level}
 use Rattle.halves.proofs.Room.{level_more}
 use Rattle.halves.proofs.between.Goals as goal
 

@@ -1,12 +1,6 @@
 -- `halves::between` meets its contract: the numbers below i are the same.
-use Prim.Native.Nat.{◌+◌, ◌-◌, ◌≤◌, ◌<◌}
-use mathlib.Core.Path.{◌≡◌, refl}
-use native.Mathlib.Omega.{arith}
-use lib.ListN.{get_or}
-use borrow.Author.Tests.{not-true, not-false}
-use Rattle.lists.proofs.Tests.{clash}
+use Prim.Native.Nat.{◌-◌, ◌≤◌}
 use Rattle.halves.specs.Room.{Level}
-use Rattle.halves.proofs.Room.{level_more}
 use Rattle.halves.proofs.between.Given as goal
 
 abbrev pub invariant-loop-i : goal.invariant-loop-i

@@ -1,5 +1,5 @@
 -- `halves::clear` meets its contract: those below i are infinite.
-use Prim.Native.Nat.{ℕ, ◌-◌, ◌≤◌}
+use Prim.Native.Nat.{ℕ}
 use mathlib.Core.Path.{◌≡◌, subst}
 use native.Mathlib.Omega.{arith}
 use Rattle.halves.specs.Room.{Cleared}

@@ -1,9 +1,6 @@
 -- `halves::clear` meets its contract: those below i are infinite.
-use Prim.Native.Nat.{ℕ, ◌-◌, ◌≤◌}
-use mathlib.Core.Path.{◌≡◌, subst}
-use native.Mathlib.Omega.{arith}
+use Prim.Native.Nat.{◌-◌, ◌≤◌}
 use Rattle.halves.specs.Room.{Cleared}
-use Rattle.halves.proofs.Room.{cleared_none, cleared_more}
 use Rattle.halves.proofs.clear.Given as goal
 
 abbrev pub invariant-loop-i : goal.invariant-loop-i

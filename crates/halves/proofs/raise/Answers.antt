@@ -1,6 +1,6 @@
 -- `halves::raise` meets its contract: the first i numbers are those of the second half.
-use Prim.Native.Nat.{ℕ, ◌-◌, ◌≤◌}
-use mathlib.Core.Path.{◌≡◌, refl, subst}
+use Prim.Native.Nat.{ℕ}
+use mathlib.Core.Path.{◌≡◌, subst}
 use native.Mathlib.Omega.{arith}
 use Rattle.halves.specs.Room.{Raised}
 use Rattle.halves.proofs.Room.{raised_none, raised_set}

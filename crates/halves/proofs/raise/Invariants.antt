@@ -1,9 +1,6 @@
 -- `halves::raise` meets its contract: the first i numbers are those of the second half.
-use Prim.Native.Nat.{ℕ, ◌-◌, ◌≤◌}
-use mathlib.Core.Path.{◌≡◌, refl, subst}
-use native.Mathlib.Omega.{arith}
+use Prim.Native.Nat.{◌-◌, ◌≤◌}
 use Rattle.halves.specs.Room.{Raised}
-use Rattle.halves.proofs.Room.{raised_none, raised_set}
 use Rattle.halves.proofs.raise.Given as goal
 
 abbrev pub invariant-loop-i : goal.invariant-loop-i

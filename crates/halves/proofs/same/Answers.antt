@@ -1,6 +1,5 @@
 -- `halves::same` meets its contract.
 use native.Mathlib.Omega.{arith}
-use borrow.Author.Rules.{rules}
 use Rattle.halves.proofs.Room.{same_all}
 use Rattle.halves.proofs.same.Goals as goal
 

@@ -1,19 +1,14 @@
 -- `links::link` meets its contract: the targets at q are left to link.
-use Prim.Native.Nat.{ℕ, ◌+◌, ◌-◌, ◌*◌, ◌<◌, ◌≤◌}
-use mathlib.Core.List.{List, []}
+use Prim.Native.Nat.{ℕ, ◌+◌, ◌-◌, ◌<◌, ◌≤◌}
+use mathlib.Core.List.{[]}
 use mathlib.Core.Path.{◌≡◌, refl, subst, ◌∙◌}
 use lib.ListN.{length}
 use native.Mathlib.Omega.{arith}
-use borrow.Author.Rules.{rules}
-use Rattle.wire.specs.Layout.{items, Sound}
-use Rattle.wire.specs.Layout as Layout
 use Rattle.wire.proofs.Bytes.{number_below}
 use Rattle.wire.proofs.Layouts.{sound_more}
-use Rattle.graph.specs.Format.{graph_header, hyper_width, target_width}
-use Rattle.graph.specs.Layouts.{target_layout, hyper_layout, TargetOk}
+use Rattle.graph.specs.Layouts.{TargetOk}
 use Rattle.links.specs.Links.{Long, Linked}
-use Rattle.links.proofs.Linking.{Kept, kept_none, kept_long, kept_set, linked_end, linked_turn}
-use Rattle.links.proofs.link.Invariants.{Left}
+use Rattle.links.proofs.Linking.{kept_none, kept_long, kept_set, linked_end, linked_turn}
 use Rattle.links.proofs.link.Goals as goal
 use Rattle.links.proofs.link.Goals.{After-number_at-v, In-loop-q}
 

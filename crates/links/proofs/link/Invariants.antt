@@ -1,18 +1,13 @@
 -- `links::link` meets its contract: the targets at q are left to link.
-use Prim.Native.Nat.{ℕ, ◌+◌, ◌-◌, ◌*◌, ◌<◌, ◌≤◌}
-use mathlib.Core.List.{List, []}
-use mathlib.Core.Path.{◌≡◌, refl, subst, ◌∙◌}
-use lib.ListN.{length}
-use native.Mathlib.Omega.{arith}
-use borrow.Author.Rules.{rules}
+use Prim.Native.Nat.{ℕ, ◌+◌, ◌-◌, ◌*◌}
+use mathlib.Core.List.{List}
+use mathlib.Core.Path.{◌≡◌}
 use Rattle.wire.specs.Layout.{items, Sound}
 use Rattle.wire.specs.Layout as Layout
-use Rattle.wire.proofs.Bytes.{number_below}
-use Rattle.wire.proofs.Layouts.{sound_more}
 use Rattle.graph.specs.Format.{graph_header, hyper_width, target_width}
-use Rattle.graph.specs.Layouts.{target_layout, hyper_layout, TargetOk}
-use Rattle.links.specs.Links.{Long, Linked}
-use Rattle.links.proofs.Linking.{Kept, kept_none, kept_long, kept_set, linked_end, linked_turn}
+use Rattle.graph.specs.Layouts.{target_layout, hyper_layout}
+use Rattle.links.specs.Links.{Linked}
+use Rattle.links.proofs.Linking.{Kept}
 use Rattle.links.proofs.link.Given as goal
 
 -- how many of the k targets are left, from q on

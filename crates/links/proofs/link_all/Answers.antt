@@ -1,7 +1,6 @@
 -- `links::link_all` meets its contract: the cover edges stand behind the hyperedges, and there are places for both.
 use mathlib.Core.Path.{sym, subst}
 use native.Mathlib.Omega.{arith}
-use borrow.Author.Rules.{rules}
 use Rattle.wire.specs.Layout.{Sound}
 use Rattle.graph.specs.Layouts.{cover_layout}
 use Rattle.links.proofs.link_all.Goals as goal

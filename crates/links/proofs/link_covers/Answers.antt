@@ -1,10 +1,8 @@
 -- `links::link_covers` meets its contract: the first j are linked.
-use Prim.Native.Nat.{ℕ, ◌+◌, ◌-◌, ◌<◌, ◌≤◌}
-use mathlib.Core.List.{[]}
+use Prim.Native.Nat.{ℕ, ◌+◌, ◌<◌, ◌≤◌}
 use mathlib.Core.Path.{◌≡◌, refl, sym, ap, subst, ◌∙◌}
 use lib.ListN.{length}
 use native.Mathlib.Omega.{arith}
-use borrow.Author.Rules.{rules}
 use Rattle.wire.specs.Bytes.{number}
 use Rattle.wire.proofs.Bytes.{number_below}
 use Rattle.wire.proofs.Layouts.{end_none}
@@ -12,8 +10,7 @@ use Rattle.wire.proofs.Stride.{end_wide}
 use Rattle.wire.proofs.Parts.{end_next, sound_at}
 use Rattle.graph.specs.Format.{cover_target_at, cover_width}
 use Rattle.graph.specs.Layouts.{cover_layout, CoverOk}
-use Rattle.links.specs.Links.{cover_at, Linked}
-use Rattle.links.proofs.Linking.{Kept, kept_none, kept_set, linked_cover, linked_all}
+use Rattle.links.proofs.Linking.{kept_none, kept_set, linked_cover, linked_all}
 use Rattle.links.proofs.link_covers.Goals as goal
 use Rattle.links.proofs.link_covers.Goals.{After-number_at-target, In-loop-j}
 
@@ -38,8 +35,12 @@ low c =
     omega (arith, l.invariant.2, end_wide (cover_layout a.s.now a.n) 8 (λ at. refl) l.j a.middle, c.loop-j-test.true, c.requires.cover_width_bound.0)
 
 named : (c : After-number_at-target) → c.number_at-target.result < c.args.n
-named c = omega (arith, c.number_at-target.ensures, ((let it : CoverOk c.args.s.now c.args.n c.loop-j.p = let a = c.args in
-    subst (CoverOk a.s.now a.n) (sym c.loop-j.invariant.2) (sound_at (cover_layout a.s.now a.n) c.loop-j.j c.loop-j-test.true c.requires.sound) in it)).target_named)
+named c = omega (
+  arith,
+  c.number_at-target.ensures,
+  ((let it : CoverOk c.args.s.now c.args.n c.loop-j.p = let a = c.args in
+      subst (CoverOk a.s.now a.n) (sym c.loop-j.invariant.2) (sound_at (cover_layout a.s.now a.n) c.loop-j.j c.loop-j-test.true c.requires.sound) in it)).target_named,
+)
 
 in_heads : (c : After-number_at-target) → c.number_at-target.result < length c.loop-j.heads
 in_heads c = omega (arith, named c, c.loop-j.invariant.3.long.nodes)

@@ -1,6 +1,5 @@
 -- `links::link_hypers` meets its contract: the targets of the first j hyperedges are linked.
 use Prim.Native.Nat.{ℕ, ◌+◌, ◌-◌, ◌*◌, ◌≤◌}
-use mathlib.Core.List.{[]}
 use mathlib.Core.Path.{◌≡◌, refl, sym, ap, subst, ◌∙◌}
 use native.Mathlib.Omega.{arith}
 use Rattle.wire.specs.Bytes.{number}
@@ -11,7 +10,7 @@ use Rattle.wire.proofs.Parts.{end_next, sound_at}
 use Rattle.graph.specs.Format.{graph_header, target_count_at, hyper_width, target_width}
 use Rattle.graph.specs.Layouts.{target_layout, hyper_layout, HyperOk}
 use Rattle.links.specs.Links.{hyper_at, Long, Linked}
-use Rattle.links.proofs.Linking.{Kept, kept_none, kept_on, linked_open, hyper_far}
+use Rattle.links.proofs.Linking.{kept_none, kept_on, linked_open, hyper_far}
 use Rattle.links.proofs.link_hypers.Goals as goal
 use Rattle.links.proofs.link_hypers.Goals.{After-link-next, After-slice_known-in-loop-j-2-1, In-loop-j}
 
@@ -74,14 +73,25 @@ more c = c.link-next.ensures.value
 past : (c : After-slice_known-in-loop-j-2-1) → let l = c.loop-j in
     l.p + hyper_width + (c.link-next.result - l.place) * target_width ≤ 65535
 past c =
-    omega (arith, (let it : c.link-next.result ≡ c.loop-j.place + c.number_at-count.result = c.link-next.ensures.value in it), c.number_at-count.ensures, (let it : let a = c.args in let l = c.loop-j in
-    l.p + hyper_width + number 2 a.s.now (l.p + target_count_at) * target_width + (a.h - (l.j + 1)) * hyper_width ≤ a.middle = let a = c.args in
-    let l = c.loop-j in
-    omega (arith, (let it : let a = c.args in let l = c.loop-j in
-    l.p + hyper_width + number 2 a.s.now (l.p + target_count_at) * target_width ≡ hyper_at a.s.now a.n (l.j + 1) = let a = c.args in
-    let l = c.loop-j in
-    let L = hyper_layout a.s.now a.n in
-    ap L.next l.invariant.1 ∙ sym (end_next L l.j graph_header) in it), hyper_far a.s.now a.n (l.j + 1) a.h (omega (arith, c.loop-j-test.true)), c.requires.middle_value) in it), c.requires.middle_bound.0)
+    omega (
+      arith,
+      (let it : c.link-next.result ≡ c.loop-j.place + c.number_at-count.result = c.link-next.ensures.value in it),
+      c.number_at-count.ensures,
+      (let it : let a = c.args in let l = c.loop-j in
+          l.p + hyper_width + number 2 a.s.now (l.p + target_count_at) * target_width + (a.h - (l.j + 1)) * hyper_width ≤ a.middle = let a = c.args in
+          let l = c.loop-j in
+          omega (
+            arith,
+            (let it : let a = c.args in let l = c.loop-j in
+                l.p + hyper_width + number 2 a.s.now (l.p + target_count_at) * target_width ≡ hyper_at a.s.now a.n (l.j + 1) = let a = c.args in
+                let l = c.loop-j in
+                let L = hyper_layout a.s.now a.n in
+                ap L.next l.invariant.1 ∙ sym (end_next L l.j graph_header) in it),
+            hyper_far a.s.now a.n (l.j + 1) a.h (omega (arith, c.loop-j-test.true)),
+            c.requires.middle_value,
+          ) in it),
+      c.requires.middle_bound.0,
+    )
 
 pub overflow_sub-p : goal.overflow_sub-p
 overflow_sub-p c = omega (arith, more (goal.at.overflow_sub-p c).After-link-next)
@@ -101,8 +111,7 @@ loop-j-smaller c = omega (arith, c.loop-j-test.true)
 pub loop-j-preserved : goal.loop-j-preserved
 loop-j-preserved c =
     let l = c.loop-j in
-    let is = c.number_at-count.ensures in
-    (
+    let is = c.number_at-count.ensures in (
       omega (arith, c.loop-j-test.true),
       omega (arith, next (goal.at.loop-j-preserved c).In-loop-j, is, more (goal.at.loop-j-preserved c).After-link-next),
       omega (arith, l.invariant.2, more (goal.at.loop-j-preserved c).After-link-next),

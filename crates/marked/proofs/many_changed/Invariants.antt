@@ -1,6 +1,5 @@
 -- `marked::many_changed` meets its contract: it reads within the room, and counts no more than it passes.
 use Prim.Native.Nat.{◌-◌, ◌≤◌}
-use native.Mathlib.Omega.{arith}
 use Rattle.marked.proofs.many_changed.Given as goal
 
 abbrev pub invariant-loop-v : goal.invariant-loop-v

@@ -1,10 +1,8 @@
 -- `marked::run_noted` meets its contract: each turn begins with round i in the first half of the room, and the next in the second.
-use Prim.Native.Nat.{◌+◌, ◌-◌, ◌≤◌}
+use Prim.Native.Nat.{◌+◌, ◌≤◌}
 use native.Mathlib.Omega.{arith}
 use lib.ListN.{length}
 use Rattle.graph.specs.Layouts.{decoded}
-use Rattle.notes.specs.Index.{Besides}
-use Rattle.turns.specs.Turns.{AtRound}
 use Rattle.notes.proofs.Noting.{noted_none, covers_none}
 use Rattle.turns.proofs.Loop.{holds_filled, ends_settled, ends_spent, goes_on, covers_behind}
 use Rattle.marked.proofs.Marked.{Marking, marks_stand, longs_stand, took_part, took_besides}

@@ -1,13 +1,9 @@
 -- `marked::run_on` meets its contract: each turn begins with a round in the first half of the room, and the next, which is another, in the
 -- second; `run_noted` goes on from there.
-use Prim.Native.Nat.{◌+◌, ◌-◌, ◌≤◌}
-use mathlib.Core.Path.{◌∙◌}
-use native.Mathlib.Omega.{arith}
-use lib.ListN.{length}
+use Prim.Native.Nat.{◌-◌}
 use Rattle.graph.specs.Layouts.{decoded}
 use Rattle.halves.specs.Room.{Same}
 use Rattle.turns.specs.Turns.{AtRound}
-use Rattle.turns.proofs.Loop.{from_here, holds_filled, filled_on, ends_settled, ends_spent, covers_behind, full_round, anywhere}
 use Rattle.marked.proofs.run_on.Given as goal
 
 abbrev pub invariant-loop-n : goal.invariant-loop-n

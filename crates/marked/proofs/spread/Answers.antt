@@ -1,5 +1,5 @@
 -- `marked::spread` meets its contract.
-use mathlib.Core.Path.{◌≡◌, refl}
+use mathlib.Core.Path.{refl}
 use native.Mathlib.Omega.{arith}
 use borrow.Author.Tests.{le-leb, lt-leb}
 use Rattle.marked.proofs.Taking.{spread_whole}

@@ -1,11 +1,7 @@
 -- `marked::take_both` meets its contract.
-use Prim.Native.Nat.{ℕ, ◌+◌, ◌≤◌}
 use mathlib.Core.Logic.{inl}
-use mathlib.Core.Path.{◌≡◌, sym, subst, ◌∙◌}
+use mathlib.Core.Path.{sym, subst, ◌∙◌}
 use native.Mathlib.Omega.{arith}
-use lib.ListN.{length}
-use borrow.Author.Rules.{rules}
-use borrow.Author.Tests.{ltb-true}
 use Rattle.marked.specs.Took.{Within}
 use Rattle.notes.specs.declared.Marks.{Marks}
 use Rattle.marked.proofs.Taking.{took_both, took_fewer, took_spread, joined_stands, joined_within}

@@ -1,7 +1,6 @@
 -- `marked::unchanged` meets its contract.
-use mathlib.Core.Path.{◌≡◌, refl}
+use mathlib.Core.Path.{refl}
 use native.Mathlib.Omega.{arith}
-use borrow.Author.Tests.{not-true, not-false}
 use Rattle.lists.proofs.Tests.{clash}
 use Rattle.marked.proofs.Marked.{level_same}
 use Rattle.marked.proofs.unchanged.Goals as goal

@@ -1,6 +1,5 @@
 -- `notes::advance` meets its contract.
 use native.Mathlib.Omega.{arith}
-use borrow.Author.Rules.{rules}
 use Rattle.notes.proofs.Publishing.{everything_marks}
 use Rattle.notes.proofs.advance.Goals as goal
 

@@ -1,7 +1,6 @@
 -- `notes::is_long` meets its contract.
-use mathlib.Core.Path.{◌≡◌, refl}
+use mathlib.Core.Path.{refl}
 use native.Mathlib.Omega.{arith}
-use borrow.Author.Rules.{rules}
 use borrow.Author.Tests.{le-leb, lt-leb}
 use Rattle.notes.specs.Index.{long_for}
 use Rattle.notes.proofs.is_long.Goals as goal

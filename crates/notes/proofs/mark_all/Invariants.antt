@@ -1,10 +1,6 @@
 -- `notes::mark_all` meets its contract: the first u slots are marked.
 use Prim.Native.Nat.{◌-◌, ◌≤◌}
-use mathlib.Core.Path.{◌≡◌}
-use native.Mathlib.Omega.{arith}
-use borrow.Author.Rules.{rules}
 use Rattle.notes.specs.Index.{Everything}
-use Rattle.notes.proofs.Publishing.{everything_none, everything_more}
 use Rattle.notes.proofs.mark_all.Given as goal
 
 abbrev pub invariant-loop-u : goal.invariant-loop-u

@@ -1,5 +1,4 @@
 -- `notes::mostly_changed` keeps within the room.
-use Prim.Native.Nat.{◌-◌, ◌≤◌}
 use native.Mathlib.Omega.{arith}
 use Rattle.notes.proofs.mostly_changed.Goals as goal
 

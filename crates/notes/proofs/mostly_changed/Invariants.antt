@@ -1,6 +1,5 @@
 -- `notes::mostly_changed` keeps within the room.
 use Prim.Native.Nat.{◌-◌, ◌≤◌}
-use native.Mathlib.Omega.{arith}
 use Rattle.notes.proofs.mostly_changed.Given as goal
 
 abbrev pub invariant-loop-i : goal.invariant-loop-i

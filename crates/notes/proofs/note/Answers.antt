@@ -1,16 +1,12 @@
 -- `notes::note` meets its contract: the targets at q are left to note.
-use Prim.Native.Nat.{ℕ, ◌+◌, ◌-◌, ◌<◌}
-use mathlib.Core.List.{List, []}
-use mathlib.Core.Path.{◌≡◌, refl, sym, ap, subst, ◌∙◌}
+use Prim.Native.Nat.{◌+◌}
+use mathlib.Core.Path.{◌≡◌, ap, ◌∙◌}
 use native.Mathlib.Omega.{arith}
-use borrow.Author.Rules.{rules}
 use Rattle.wire.specs.Bytes.{number}
-use Rattle.wire.specs.Layout.{items, Sound}
-use Rattle.wire.proofs.Layouts.{items_more, sound_more}
-use Rattle.rules.specs.Graph.{Target}
+use Rattle.wire.proofs.Layouts.{sound_more}
 use Rattle.graph.specs.Format.{node_at}
-use Rattle.graph.specs.Layouts.{target_layout, TargetOk}
-use Rattle.notes.specs.Index.{slot_of, Noted}
+use Rattle.graph.specs.Layouts.{TargetOk}
+use Rattle.notes.specs.Index.{slot_of}
 use Rattle.notes.proofs.Noting.{noted_more, noted_end, noted_again, noted_first}
 use Rattle.notes.proofs.note.Goals as goal
 use Rattle.notes.proofs.note.Goals.{After-slot-u, In-loop-i}

@@ -1,12 +1,9 @@
 -- `notes::note_covers` meets its contract: the first j are noted.
-use Prim.Native.Nat.{ℕ, ◌+◌, ◌-◌, ◌*◌, ◌≤◌, min}
-use mathlib.Core.List.{List}
-use mathlib.Core.Path.{◌≡◌, refl, sym, ap, subst, ◌∙◌}
+use Prim.Native.Nat.{ℕ, ◌+◌, ◌*◌, ◌≤◌}
+use mathlib.Core.Path.{◌≡◌, refl, ap, subst, ◌∙◌}
 use native.Mathlib.Omega.{arith}
-use borrow.Author.Rules.{rules}
 use lib.ListN.{length}
 use Rattle.wire.specs.Bytes.{number}
-use Rattle.wire.specs.Layout.{Sound}
 use Rattle.graph.specs.Format.{cover_target_at, cover_width}
 use Rattle.graph.specs.Layouts.{cover_layout, CoverOk}
 use Rattle.notes.specs.Index.{slot_of, NotedCovers}

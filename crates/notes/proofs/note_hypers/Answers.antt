@@ -1,20 +1,17 @@
 -- `notes::note_hypers` meets its contract: the first j hyperedges are noted, or long.
-use Prim.Native.Nat.{ℕ, ◌+◌, ◌-◌, ◌*◌, ◌≤◌}
-use mathlib.Core.List.{List, []}
-use mathlib.Core.Bool.{Bool, false}
+use Prim.Native.Nat.{ℕ, ◌+◌, ◌*◌}
+use mathlib.Core.Bool.{Bool}
 use mathlib.Core.Path.{◌≡◌, refl, sym, ap, subst, ◌∙◌}
 use native.Mathlib.Omega.{arith}
 use lib.ListN.{length}
-use borrow.Author.Rules.{rules}
 use Rattle.wire.specs.Bytes.{number}
 use Rattle.wire.specs.Layout.{items, end, Sound}
 use Rattle.wire.proofs.Layouts.{end_none, items_length}
 use Rattle.graph.specs.Format.{graph_header, target_count_at, hyper_width, target_width}
 use Rattle.graph.specs.Layouts.{target_layout, hyper_layout, HyperOk}
-use Rattle.notes.specs.Index.{targets_at, long_for, Noted, Longs}
+use Rattle.notes.specs.Index.{targets_at, long_for, Noted}
 use Rattle.wire.proofs.Parts.{end_next, sound_at}
 use Rattle.notes.proofs.Noting.{noted_open, noted_long, none_short, longs_none, longs_short, longs_more}
-use Rattle.notes.proofs.note_hypers.Invariants.{Noting}
 use Rattle.notes.proofs.note_hypers.Goals as goal
 use Rattle.notes.proofs.note_hypers.Goals.{After-note, In-loop-j}
 

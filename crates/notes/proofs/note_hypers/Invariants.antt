@@ -1,19 +1,12 @@
 -- `notes::note_hypers` meets its contract: the first j hyperedges are noted, or long.
 use Prim.Native.Nat.{ℕ, ◌+◌, ◌-◌, ◌*◌, ◌≤◌}
 use mathlib.Core.List.{List, []}
-use mathlib.Core.Bool.{Bool, false}
-use mathlib.Core.Path.{◌≡◌, refl, sym, ap, subst, ◌∙◌}
-use native.Mathlib.Omega.{arith}
-use lib.ListN.{length}
-use borrow.Author.Rules.{rules}
-use Rattle.wire.specs.Bytes.{number}
-use Rattle.wire.specs.Layout.{items, end, Sound}
-use Rattle.wire.proofs.Layouts.{end_none, items_length}
-use Rattle.graph.specs.Format.{graph_header, target_count_at, hyper_width, target_width}
-use Rattle.graph.specs.Layouts.{target_layout, hyper_layout, HyperOk}
-use Rattle.notes.specs.Index.{targets_at, long_for, Noted, Longs}
-use Rattle.wire.proofs.Parts.{end_next, sound_at}
-use Rattle.notes.proofs.Noting.{noted_open, noted_long, none_short, longs_none, longs_short, longs_more}
+use mathlib.Core.Bool.{false}
+use mathlib.Core.Path.{◌≡◌}
+use Rattle.wire.specs.Layout.{end}
+use Rattle.graph.specs.Format.{graph_header, hyper_width, target_width}
+use Rattle.graph.specs.Layouts.{hyper_layout}
+use Rattle.notes.specs.Index.{long_for, Noted, Longs}
 use Rattle.notes.proofs.note_hypers.Given as goal
 
 -- so far: all are noted or long, the stride is that of a count, and a count that may come again is not that of a long one

@@ -1,6 +1,5 @@
 -- `notes::publish` meets its contract: the first span, then the second.
 use native.Mathlib.Omega.{arith}
-use borrow.Author.Rules.{rules}
 use Rattle.notes.proofs.Publishing.{published_begin, published_over, published_rest}
 use Rattle.notes.proofs.publish.Goals as goal
 

@@ -1,11 +1,8 @@
 -- `notes::publish_block` meets its contract: those below v are brought up, whatever was brought up before the block.
-use Prim.Native.Nat.{ℕ, ◌+◌, ◌-◌, ◌≤◌, ◌<◌}
-use mathlib.Core.List.{List}
-use mathlib.Core.Path.{◌≡◌, refl, sym, ap, subst, ◌∙◌}
+use Prim.Native.Nat.{◌+◌, ◌≤◌, ◌<◌}
+use mathlib.Core.Path.{◌≡◌, refl, sym}
 use native.Mathlib.Omega.{arith}
-use lib.ListN.{length, get_or, set, length-set}
-use Rattle.notes.specs.Index.{Published}
-use Rattle.notes.specs.declared.Marks.{Marks}
+use lib.ListN.{length, get_or, length-set}
 use Rattle.notes.proofs.Publishing.{published_same, published_more}
 use Rattle.notes.proofs.publish_block.Goals as goal
 use Rattle.notes.proofs.publish_block.Goals.{Else-old-value, In-loop-v}

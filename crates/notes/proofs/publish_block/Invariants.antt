@@ -1,12 +1,9 @@
 -- `notes::publish_block` meets its contract: those below v are brought up, whatever was brought up before the block.
-use Prim.Native.Nat.{ℕ, ◌+◌, ◌-◌, ◌≤◌, ◌<◌}
+use Prim.Native.Nat.{ℕ, ◌+◌, ◌-◌, ◌≤◌}
 use mathlib.Core.List.{List}
-use mathlib.Core.Path.{◌≡◌, refl, sym, ap, subst, ◌∙◌}
-use native.Mathlib.Omega.{arith}
-use lib.ListN.{length, get_or, set, length-set}
+use mathlib.Core.Path.{◌≡◌}
+use lib.ListN.{length}
 use Rattle.notes.specs.Index.{Published}
-use Rattle.notes.specs.declared.Marks.{Marks}
-use Rattle.notes.proofs.Publishing.{published_same, published_more}
 use Rattle.notes.proofs.publish_block.Given as goal
 
 abbrev pub invariant-loop-v : goal.invariant-loop-v

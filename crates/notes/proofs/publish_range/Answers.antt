@@ -1,11 +1,8 @@
 -- `notes::publish_range` meets its contract: those below v are brought up.
-use Prim.Native.Nat.{ℕ, ◌+◌, ◌-◌, ◌≤◌, ◌<◌}
-use mathlib.Core.List.{List}
+use Prim.Native.Nat.{◌+◌, ◌≤◌, ◌<◌}
 use mathlib.Core.Path.{◌≡◌, refl, ◌∙◌}
-use borrow.Author.Tests.{not-false}
 use native.Mathlib.Omega.{arith}
 use lib.ListN.{length}
-use Rattle.notes.specs.Index.{Published}
 use Rattle.notes.proofs.Publishing.{published_alike}
 use Rattle.notes.proofs.publish_range.Goals as goal
 use Rattle.notes.proofs.publish_range.Goals.{After-block-k, At-loop-v}

@@ -1,12 +1,9 @@
 -- `notes::publish_range` meets its contract: those below v are brought up.
-use Prim.Native.Nat.{ℕ, ◌+◌, ◌-◌, ◌≤◌, ◌<◌}
+use Prim.Native.Nat.{ℕ, ◌+◌, ◌-◌, ◌≤◌}
 use mathlib.Core.List.{List}
-use mathlib.Core.Path.{◌≡◌, refl, ◌∙◌}
-use borrow.Author.Tests.{not-false}
-use native.Mathlib.Omega.{arith}
+use mathlib.Core.Path.{◌≡◌}
 use lib.ListN.{length}
 use Rattle.notes.specs.Index.{Published}
-use Rattle.notes.proofs.Publishing.{published_alike}
 use Rattle.notes.proofs.publish_range.Given as goal
 
 abbrev pub invariant-loop-v : goal.invariant-loop-v

@@ -1,12 +1,6 @@
 -- `ordered::in_order` meets its contract: what is left to be tested from a record on, whose source was read, is the whole test.
-use Prim.Native.Nat.{◌+◌, ◌*◌, ◌-◌, ◌≤◌}
-use mathlib.Core.Path.{◌≡◌, refl, ◌∙◌}
-use lib.ListN.{length}
-use borrow.Author.Rules.{rules}
-use native.Mathlib.Omega.{arith}
-use Rattle.ordered.specs.Ordered.{record_width}
-use Rattle.ordered.proofs.Told.{read_number, read_never}
-use Rattle.ordered.proofs.Left.{left_less, order_none, Left, left_begins, left_another, left_fails, left_passes, left_last}
+use Prim.Native.Nat.{◌-◌}
+use Rattle.ordered.proofs.Left.{Left}
 use Rattle.ordered.proofs.in_order.Given as goal
 
 abbrev pub invariant-loop-at : goal.invariant-loop-at

@@ -1,7 +1,6 @@
 -- `ordered::last_named` meets its contract: each `return` is the test under what led there.
 use Prim.Native.Nat.{◌+◌}
 use mathlib.Core.Path.{◌≡◌, refl}
-use borrow.Author.Rules.{rules}
 use borrow.Author.Tests.{lt-ltb, le-ltb}
 use native.Mathlib.Omega.{arith}
 use Rattle.wire.specs.Read.{found, below, misnamed}

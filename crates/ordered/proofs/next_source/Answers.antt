@@ -3,7 +3,6 @@ use Prim.Native.Nat.{◌+◌, ◌*◌, ◌%◌}
 use mathlib.Core.Bool.{and-false}
 use mathlib.Core.Path.{◌≡◌, refl, ap}
 use lib.Dec.{ltb}
-use borrow.Author.Rules.{rules}
 use borrow.Author.Tests.{le-leb, lt-leb}
 use native.Mathlib.Omega.{arith}
 use Rattle.lists.proofs.Tests.{by}

@@ -1,5 +1,5 @@
 -- `ranking::rank` meets its contract: the passes stand, until one gives no rank or n ranks are given.
-use Prim.Native.Nat.{ℕ, ◌-◌, ◌*◌, ◌≤◌}
+use Prim.Native.Nat.{ℕ, ◌*◌, ◌≤◌}
 use mathlib.Core.Path.{subst}
 use lib.ListN.{length}
 use native.Mathlib.Omega.{arith}
@@ -68,18 +68,31 @@ covers c =
     Standing (decoded a.s.now a.n a.h a.c) a.claims.now c.rank_hypers-more.result c.rank_hypers-more.new.claims = let a = c.args in
     standing_hypers (decoded a.s.now a.n a.h a.c) c.requires.ready.closed c.requires.claim_width_in_bounds c.loop-i.invariant.2 c.rank_hypers-more.ensures
     (omega (arith, (let it : c.loop-i.given ≤ 4096 = let a = c.args in omega (arith, c.loop-i.invariant.2.counted, ranked_few a.n c.loop-i.claims, c.requires.n_bound) in it), c.ranges.h, items_length (hyper_layout a.s.now a.n) a.h graph_header)) in it)) (given c)
-    (omega (arith, (let it : c.rank_hypers-more.result ≤ 4096 = omega (arith, ((let it : let a = c.args in
-    Standing (decoded a.s.now a.n a.h a.c) a.claims.now c.rank_hypers-more.result c.rank_hypers-more.new.claims = let a = c.args in
-    standing_hypers (decoded a.s.now a.n a.h a.c) c.requires.ready.closed c.requires.claim_width_in_bounds c.loop-i.invariant.2 c.rank_hypers-more.ensures
-    (omega (arith, (let it : c.loop-i.given ≤ 4096 = let a = c.args in omega (arith, c.loop-i.invariant.2.counted, ranked_few a.n c.loop-i.claims, c.requires.n_bound) in it), c.ranges.h, items_length (hyper_layout a.s.now a.n) a.h graph_header)) in it)).counted, ranked_few c.args.n c.rank_hypers-more.new.claims, c.requires.n_bound) in it), c.ranges.c, items_length (cover_layout a.s.now a.n) a.c (end (hyper_layout a.s.now a.n) a.h graph_header)))
+    (omega (
+      arith,
+      (let it : c.rank_hypers-more.result ≤ 4096 = omega (
+        arith,
+        ((let it : let a = c.args in
+            Standing (decoded a.s.now a.n a.h a.c) a.claims.now c.rank_hypers-more.result c.rank_hypers-more.new.claims = let a = c.args in
+            standing_hypers (decoded a.s.now a.n a.h a.c) c.requires.ready.closed c.requires.claim_width_in_bounds c.loop-i.invariant.2 c.rank_hypers-more.ensures
+            (omega (arith, (let it : c.loop-i.given ≤ 4096 = let a = c.args in omega (arith, c.loop-i.invariant.2.counted, ranked_few a.n c.loop-i.claims, c.requires.n_bound) in it), c.ranges.h, items_length (hyper_layout a.s.now a.n) a.h graph_header)) in it)).counted,
+        ranked_few c.args.n c.rank_hypers-more.new.claims,
+        c.requires.n_bound,
+      ) in it),
+      c.ranges.c,
+      items_length (cover_layout a.s.now a.n) a.c (end (hyper_layout a.s.now a.n) a.h graph_header),
+    ))
 
 pub shape_of-claims-then-next-given : goal.shape_of-claims-then-next-given
 shape_of-claims-then-next-given c = (covers (goal.at.shape_of-claims-then-next-given c).After-rank_covers-next).kept.same_length
 
 pub returns-then-next-given : goal.returns-then-next-given
 unfolding decoded
-returns-then-next-given c = let a = c.args in record { kept = (covers (goal.at.returns-then-next-given c).After-rank_covers-next).kept; accepts_claims = none_ranked (decoded a.s.now a.n a.h a.c) c.requires.ready.closed c.requires.claim_width_in_bounds c.requires.agree c.requires.fact
-          (covers (goal.at.returns-then-next-given c).After-rank_covers-next) c.rank_hypers-more.ensures (given (goal.at.returns-then-next-given c).After-rank_covers-next) c.if-next-given.true }
+returns-then-next-given c = let a = c.args in record {
+  kept = (covers (goal.at.returns-then-next-given c).After-rank_covers-next).kept;
+  accepts_claims = none_ranked (decoded a.s.now a.n a.h a.c) c.requires.ready.closed c.requires.claim_width_in_bounds c.requires.agree c.requires.fact
+      (covers (goal.at.returns-then-next-given c).After-rank_covers-next) c.rank_hypers-more.ensures (given (goal.at.returns-then-next-given c).After-rank_covers-next) c.if-next-given.true;
+}
 
 pub loop-i-preserved : goal.loop-i-preserved
 loop-i-preserved c =

@@ -1,17 +1,8 @@
 -- `ranking::rank_covers` meets its contract: ranks are given to the sources of the cover edges passed.
-use Prim.Native.Nat.{ℕ, ◌+◌, ◌-◌, ◌*◌, ◌<◌, ◌≤◌}
-use mathlib.Core.Path.{◌≡◌, sym, ap, subst, ◌∙◌}
-use mathlib.Core.List.{List}
-use lib.ListN.{length}
-use native.Mathlib.Omega.{arith}
-use borrow.Author.Rules.{rules}
-use Rattle.wire.specs.Bytes.{number, put}
-use Rattle.wire.specs.Field.{long_width}
-use Rattle.graph.specs.Layouts.{cover_layout, CoverOk}
-use Rattle.support.specs.Claims.{rank_at, claim_width, claimed_value, claimed_rank}
+use Rattle.graph.specs.Layouts.{cover_layout}
+use Rattle.support.specs.Claims.{claimed_value, claimed_rank}
 use Rattle.support.specs.Backing.{CoverBacks}
-use Rattle.support.proofs.Passing.{passing_here}
-use Rattle.ranking.proofs.Giving.{Given, given_none, given_rank, given_idle, given_had, given_end}
+use Rattle.ranking.proofs.Giving.{Given}
 use Rattle.ranking.proofs.rank_covers.Given as goal
 
 abbrev pub invariant-loop-i : goal.invariant-loop-i

@@ -1,18 +1,9 @@
 -- `ranking::rank_hypers` meets its contract: ranks are given to the sources of the hyperedges passed.
-use Prim.Native.Nat.{ℕ, ◌+◌, ◌-◌, ◌*◌, ◌<◌, ◌≤◌}
-use mathlib.Core.Path.{◌≡◌, sym, ap, subst, ◌∙◌}
-use mathlib.Core.List.{List}
-use lib.ListN.{length}
-use native.Mathlib.Omega.{arith}
-use borrow.Author.Rules.{rules}
-use Rattle.wire.specs.Bytes.{number, put}
-use Rattle.wire.specs.Field.{long_width}
-use Rattle.graph.specs.Format.{graph_header, target_count_at}
-use Rattle.graph.specs.Layouts.{hyper_layout, HyperOk}
-use Rattle.support.specs.Claims.{rank_at, claim_width, claimed_value, claimed_rank}
+use Rattle.graph.specs.Format.{graph_header}
+use Rattle.graph.specs.Layouts.{hyper_layout}
+use Rattle.support.specs.Claims.{claimed_value, claimed_rank}
 use Rattle.support.specs.Backing.{HyperBacks}
-use Rattle.support.proofs.Passing.{passing_here}
-use Rattle.ranking.proofs.Giving.{Given, given_none, given_rank, given_idle, given_had, given_end}
+use Rattle.ranking.proofs.Giving.{Given}
 use Rattle.ranking.proofs.rank_hypers.Given as goal
 
 abbrev pub invariant-loop-i : goal.invariant-loop-i

@@ -1,13 +1,6 @@
 -- `ranks::begin` meets its contract: the claims of the nodes below v are begun.
-use Prim.Native.Nat.{ℕ, ◌+◌, ◌-◌, ◌*◌, ◌≤◌}
-use mathlib.Core.Path.{◌≡◌, refl, ap, subst, ◌∙◌}
-use lib.ListN.{length}
-use native.Mathlib.Omega.{arith}
-use Rattle.wire.specs.Field.{long_width}
-use Rattle.support.specs.Claims.{claim_width}
+use Prim.Native.Nat.{◌-◌, ◌≤◌}
 use Rattle.ranks.specs.Begun.{Begun}
-use Rattle.ranking.proofs.Puts.{put_length}
-use Rattle.ranks.proofs.Filling.{begun_none, begun_more}
 use Rattle.ranks.proofs.begin.Given as goal
 
 abbrev pub invariant-loop-v : goal.invariant-loop-v

@@ -1,9 +1,7 @@
 -- `ranks::clear` meets its contract: the first i words are 0.
-use Prim.Native.Nat.{◌-◌, ◌≤◌}
-use mathlib.Core.List.{◌++◌}
 use mathlib.Core.Path.{◌≡◌, refl}
 use native.Mathlib.Omega.{arith}
-use lib.ListN.{length, drop, replicate, length-set}
+use lib.ListN.{length-set}
 use Rattle.ranks.proofs.Filling.{zeros_more}
 use Rattle.ranks.proofs.clear.Goals as goal
 

@@ -1,10 +1,8 @@
 -- `ranks::clear` meets its contract: the first i words are 0.
 use Prim.Native.Nat.{◌-◌, ◌≤◌}
 use mathlib.Core.List.{◌++◌}
-use mathlib.Core.Path.{◌≡◌, refl}
-use native.Mathlib.Omega.{arith}
-use lib.ListN.{length, drop, replicate, length-set}
-use Rattle.ranks.proofs.Filling.{zeros_more}
+use mathlib.Core.Path.{◌≡◌}
+use lib.ListN.{length, drop, replicate}
 use Rattle.ranks.proofs.clear.Given as goal
 
 abbrev pub invariant-loop-i : goal.invariant-loop-i

@@ -1,6 +1,5 @@
 -- `ranks::fill` meets its contract: the rounds settle, the claims are begun from them and ranked, and the words are cleared.
 use native.Mathlib.Omega.{arith}
-use borrow.Author.Rules.{rules}
 use Rattle.graph.specs.Layouts.{decoded}
 use Rattle.ranks.proofs.Filling.{begun_agree, filled_rooms}
 use Rattle.ranks.proofs.fill.Goals as goal

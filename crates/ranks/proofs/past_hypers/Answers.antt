@@ -2,12 +2,10 @@
 use Prim.Native.Nat.{◌+◌, ◌*◌}
 use mathlib.Core.Path.{◌≡◌}
 use native.Mathlib.Omega.{arith}
-use borrow.Author.Rules.{rules}
 use Rattle.wire.specs.Bytes.{number}
-use Rattle.rules.specs.Graph.{Hyper}
-use Rattle.graph.specs.Format.{graph_header, target_count_at}
+use Rattle.graph.specs.Format.{target_count_at}
 use Rattle.graph.specs.Layouts.{hyper_layout, HyperOk}
-use Rattle.support.proofs.Passing.{Passing, passing_all, passing_here, passing_turn, passing_end}
+use Rattle.support.proofs.Passing.{passing_all, passing_here, passing_turn, passing_end}
 use Rattle.ranks.proofs.past_hypers.Goals as goal
 use Rattle.ranks.proofs.past_hypers.Goals.{In-loop-i}
 

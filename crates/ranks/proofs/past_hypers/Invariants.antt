@@ -1,13 +1,8 @@
 -- `ranks::past_hypers` meets its contract: what is left ends where all do.
-use Prim.Native.Nat.{◌+◌, ◌*◌}
-use mathlib.Core.Path.{◌≡◌}
-use native.Mathlib.Omega.{arith}
-use borrow.Author.Rules.{rules}
-use Rattle.wire.specs.Bytes.{number}
 use Rattle.rules.specs.Graph.{Hyper}
-use Rattle.graph.specs.Format.{graph_header, target_count_at}
-use Rattle.graph.specs.Layouts.{hyper_layout, HyperOk}
-use Rattle.support.proofs.Passing.{Passing, passing_all, passing_here, passing_turn, passing_end}
+use Rattle.graph.specs.Format.{graph_header}
+use Rattle.graph.specs.Layouts.{hyper_layout}
+use Rattle.support.proofs.Passing.{Passing}
 use Rattle.ranks.proofs.past_hypers.Given as goal
 
 abbrev pub invariant-loop-i : goal.invariant-loop-i

@@ -1,7 +1,6 @@
 -- `ranks::write` meets its contract: a refused message, a cycle through a cover edge, too little room, or claims that are accepted.
-use mathlib.Core.Logic.{◌⊎◌, inl, inr, ⊎_elim}
+use mathlib.Core.Logic.{inl, inr, ⊎_elim}
 use native.Mathlib.Omega.{arith}
-use borrow.Author.Rules.{rules}
 use Rattle.lists.proofs.Tests.{by}
 use Rattle.wire.specs.Bytes.{Bytes}
 use Rattle.rules.specs.Walks.{CoverCycle}

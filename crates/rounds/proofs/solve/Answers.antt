@@ -1,6 +1,5 @@
 -- `rounds::solve` meets its contract: a refused message, too little room, or the rounds on the graph that the message holds.
 use native.Mathlib.Omega.{arith}
-use borrow.Author.Rules.{rules}
 use Rattle.lists.proofs.Tests.{by}
 use Rattle.wire.specs.Bytes.{Bytes}
 use Rattle.graph.proofs.Ready.{Begin, begin}

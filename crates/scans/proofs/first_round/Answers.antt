@@ -1,16 +1,14 @@
 -- `scans::first_round` meets its contract: what is left to do to each next number makes it what it is to be, and the first half stays infinite.
 use Prim.Native.Nat.{ℕ, ◌+◌, ◌*◌, ◌≤◌, ◌<◌}
-use mathlib.Core.List.{List}
 use mathlib.Core.Path.{◌≡◌, refl, sym, ap, ◌∙◌}
 use native.Mathlib.Omega.{arith}
 use lib.ListN.{length, get_or}
-use borrow.Author.Rules.{rules}
 use Rattle.value.specs.Stored.{infinite}
-use Rattle.graph.specs.Format.{graph_header, hyper_width, target_width}
+use Rattle.graph.specs.Format.{hyper_width, target_width}
 use Rattle.graph.specs.Layouts.{HyperOk}
 use Rattle.scans.specs.Scan.{forth}
 use Rattle.scans.proofs.Infinite.{stays_infinite}
-use Rattle.scans.proofs.Scan.{Left, left_all, left_here, left_turn, left_none}
+use Rattle.scans.proofs.Scan.{left_all, left_here, left_turn, left_none}
 use Rattle.scans.proofs.first_round.Goals as goal
 use Rattle.scans.proofs.first_round.Goals.{In-loop-i}
 
@@ -56,12 +54,11 @@ pub overflow_add-p-else-count-last : goal.overflow_add-p-else-count-last
 overflow_add-p-else-count-last c = omega (arith, (here (goal.at.overflow_add-p-else-count-last c).In-loop-i).inside)
 
 pub loop-i-preserved : goal.loop-i-preserved
-loop-i-preserved c =
-    (
-      left_turn c.loop-i.invariant.0 (forth refl refl) c.requires.n_in_bounds c.loop-i-test.true c.take_first-else-count-last.ensures (ap (λ (k : ℕ). hyper_width + k * target_width) c.number_at-count.ensures),
-      λ v. omega (arith, c.type_inv.room v),
-      refl,
-    )
+loop-i-preserved c = (
+  left_turn c.loop-i.invariant.0 (forth refl refl) c.requires.n_in_bounds c.loop-i-test.true c.take_first-else-count-last.ensures (ap (λ (k : ℕ). hyper_width + k * target_width) c.number_at-count.ensures),
+  λ v. omega (arith, c.type_inv.room v),
+  refl,
+)
 
 pub shape_of-room : goal.shape_of-room
 shape_of-room c = c.loop-i.invariant.0.going.same_length

@@ -1,9 +1,8 @@
 -- `scans::lower` meets its contract.
-use Prim.Native.Nat.{ℕ, ◌+◌, ◌<◌, ◌≤◌}
-use mathlib.Core.Path.{◌≡◌, ◌∙◌}
+use Prim.Native.Nat.{◌+◌, ◌<◌}
+use mathlib.Core.Path.{◌∙◌}
 use native.Mathlib.Omega.{arith}
 use lib.ListN.{get_or}
-use borrow.Author.Rules.{rules}
 use Rattle.value.proofs.Stored.{least_min}
 use Rattle.scans.proofs.lower.Goals as goal
 use Rattle.scans.proofs.lower.Goals.{After-number_at-source}

@@ -1,6 +1,5 @@
 -- `scans::next_round` meets its contract: with the hyperedges, with the cover edges that are marked.
 use mathlib.Core.Path.{refl}
-use borrow.Author.Rules.{rules}
 use Rattle.scans.specs.Scan.{forth}
 use Rattle.scans.proofs.Next.{round_done}
 use Rattle.scans.proofs.next_round.Goals as goal

@@ -1,9 +1,7 @@
 -- `scans::take_first` meets its contract: with targets nothing is below infinity.
-use Prim.Native.Nat.{ℕ, ◌+◌, ◌<◌}
-use mathlib.Core.List.{List}
-use mathlib.Core.Path.{◌≡◌, sym, ap, ◌∙◌}
+use Prim.Native.Nat.{ℕ, ◌+◌}
+use mathlib.Core.Path.{sym, ap, ◌∙◌}
 use native.Mathlib.Omega.{arith}
-use borrow.Author.Rules.{rules}
 use lib.ListN.{set}
 use Rattle.scans.proofs.Infinite.{first_none, first_some}
 use Rattle.scans.proofs.take_first.Goals as goal

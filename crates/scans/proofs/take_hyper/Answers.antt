@@ -1,8 +1,6 @@
 -- `scans::take_hyper` meets its contract: the source's next number becomes the least of itself and what the hyperedge gives.
-use Prim.Native.Nat.{◌≤◌}
 use mathlib.Core.Path.{◌∙◌}
 use native.Mathlib.Omega.{arith}
-use borrow.Author.Rules.{rules}
 use Rattle.scans.proofs.Going.{sides_from, sides_to}
 use Rattle.scans.proofs.Taken.{targets_sound, half_long, hyper_taken}
 use Rattle.scans.proofs.take_hyper.Goals as goal

@@ -1,13 +1,11 @@
 -- `scans::take_hypers` meets its contract: what is left to do to each next number makes it what it is to be.
 use Prim.Native.Nat.{ℕ, ◌+◌, ◌*◌, ◌≤◌}
-use mathlib.Core.Path.{◌≡◌, refl, sym, ap, ◌∙◌}
+use mathlib.Core.Path.{refl, sym, ap, ◌∙◌}
 use native.Mathlib.Omega.{arith}
-use lib.ListN.{length, get_or}
-use borrow.Author.Rules.{rules}
-use Rattle.value.specs.Stored.{infinite}
+use lib.ListN.{length}
 use Rattle.graph.specs.Format.{hyper_width, target_width}
 use Rattle.graph.specs.Layouts.{HyperOk}
-use Rattle.scans.proofs.Scan.{Left, left_all, left_here, left_turn, left_none}
+use Rattle.scans.proofs.Scan.{left_all, left_here, left_turn, left_none}
 use Rattle.scans.proofs.take_hypers.Goals as goal
 use Rattle.scans.proofs.take_hypers.Goals.{In-loop-i}
 
@@ -63,12 +61,11 @@ pub overflow_add-p-else-count-ge-LONG : goal.overflow_add-p-else-count-ge-LONG
 overflow_add-p-else-count-ge-LONG c = omega (arith, (here (goal.at.overflow_add-p-else-count-ge-LONG c).In-loop-i).inside)
 
 pub loop-i-preserved : goal.loop-i-preserved
-loop-i-preserved c =
-    (
-      left_turn c.loop-i.invariant.0 c.requires.sides c.requires.n_in_bounds c.loop-i-test.true c.take_hyper-else-count-ge-LONG.ensures (ap (λ (k : ℕ). hyper_width + k * target_width) c.number_at-count.ensures),
-      λ v. omega (arith, c.type_inv.room v),
-      refl,
-    )
+loop-i-preserved c = (
+  left_turn c.loop-i.invariant.0 c.requires.sides c.requires.n_in_bounds c.loop-i-test.true c.take_hyper-else-count-ge-LONG.ensures (ap (λ (k : ℕ). hyper_width + k * target_width) c.number_at-count.ensures),
+  λ v. omega (arith, c.type_inv.room v),
+  refl,
+)
 
 pub shape_of-room : goal.shape_of-room
 shape_of-room c = c.loop-i.invariant.0.going.same_length

@@ -1,13 +1,10 @@
 -- `scans::take_hypers` meets its contract: what is left to do to each next number makes it what it is to be.
 use Prim.Native.Nat.{ℕ, ◌+◌, ◌*◌, ◌≤◌}
-use mathlib.Core.Path.{◌≡◌, refl, sym, ap, ◌∙◌}
-use native.Mathlib.Omega.{arith}
-use lib.ListN.{length, get_or}
-use borrow.Author.Rules.{rules}
+use mathlib.Core.Path.{◌≡◌}
+use lib.ListN.{get_or}
 use Rattle.value.specs.Stored.{infinite}
 use Rattle.graph.specs.Format.{hyper_width, target_width}
-use Rattle.graph.specs.Layouts.{HyperOk}
-use Rattle.scans.proofs.Scan.{Left, left_all, left_here, left_turn, left_none}
+use Rattle.scans.proofs.Scan.{Left}
 use Rattle.scans.proofs.take_hypers.Given as goal
 
 abbrev pub invariant-loop-i : goal.invariant-loop-i

@@ -1,8 +1,7 @@
 -- `scans::take_marked` meets its contract: the part of the cover edges that is marked, or none.
-use Prim.Native.Nat.{◌+◌, ◌-◌, ◌*◌, ◌≤◌}
-use mathlib.Core.Path.{◌≡◌, refl, sym, subst}
+use Prim.Native.Nat.{◌+◌, ◌*◌, ◌≤◌}
+use mathlib.Core.Path.{refl, sym, subst}
 use native.Mathlib.Omega.{arith}
-use borrow.Author.Rules.{rules}
 use lib.ListN.{length}
 use Rattle.graph.specs.Format.{cover_width}
 use Rattle.graph.specs.Layouts.{cover_layout, CoverOk}

@@ -1,10 +1,8 @@
 -- `sources::covers_from` meets its contract.
-use Prim.Native.Nat.{ℕ, ◌+◌, ◌-◌, ◌*◌, ◌≤◌, ◌<◌}
-use mathlib.Core.Path.{◌≡◌, refl, sym, ap, subst, ◌∙◌}
+use Prim.Native.Nat.{◌+◌, ◌*◌}
+use mathlib.Core.Path.{refl, sym, ap, subst, ◌∙◌}
 use native.Mathlib.Omega.{arith}
-use borrow.Author.Rules.{rules}
 use Rattle.wire.specs.Bytes.{number}
-use Rattle.wire.specs.Layout.{end}
 use Rattle.graph.specs.Format.{cover_width}
 use Rattle.graph.specs.Layouts.{cover_layout, CoverOk}
 use Rattle.wire.proofs.Stride.{end_wide}

@@ -1,10 +1,7 @@
 -- `sources::hypers_from` meets its contract.
-use Prim.Native.Nat.{ℕ, ◌+◌, ◌-◌, ◌*◌, ◌≤◌, ◌<◌}
-use mathlib.Core.Path.{◌≡◌, refl, sym, ap, subst, ◌∙◌}
+use mathlib.Core.Path.{sym, ap, subst, ◌∙◌}
 use native.Mathlib.Omega.{arith}
-use borrow.Author.Rules.{rules}
 use Rattle.wire.specs.Bytes.{number}
-use Rattle.wire.specs.Layout.{end}
 use Rattle.graph.specs.Layouts.{hyper_layout, HyperOk}
 use Rattle.wire.proofs.Parts.{sound_at}
 use Rattle.sources.proofs.hypers_from.Goals as goal

@@ -1,10 +1,8 @@
 -- `sources::hypers_to` meets its contract.
-use Prim.Native.Nat.{ℕ, ◌+◌, ◌-◌, ◌*◌, ◌≤◌, ◌<◌}
-use mathlib.Core.Path.{◌≡◌, refl, sym, ap, subst, ◌∙◌}
+use Prim.Native.Nat.{◌<◌}
+use mathlib.Core.Path.{sym, ap, subst, ◌∙◌}
 use native.Mathlib.Omega.{arith}
-use borrow.Author.Rules.{rules}
 use Rattle.wire.specs.Bytes.{number}
-use Rattle.wire.specs.Layout.{end}
 use Rattle.graph.specs.Layouts.{hyper_layout, HyperOk}
 use Rattle.wire.proofs.Parts.{sound_at}
 use Rattle.sources.proofs.hypers_to.Goals as goal
@@ -32,8 +30,7 @@ returns-then-z-h c =
     )
 
 pub returns : goal.returns
-returns c =
-    (
-      omega arith,
-      λ j low high. (sound_at (hyper_layout c.args.s.now c.args.n) j (omega (arith, c.requires.z_le_h)) c.requires.sound).named,
-    )
+returns c = (
+  omega arith,
+  λ j low high. (sound_at (hyper_layout c.args.s.now c.args.n) j (omega (arith, c.requires.z_le_h)) c.requires.sound).named,
+)

@@ -1,7 +1,6 @@
 -- `states::graph` meets its contract: a refused model or formula, or the graph of the question that they hold.
 use mathlib.Core.Path.{subst}
 use native.Mathlib.Omega.{arith}
-use borrow.Author.Rules.{rules}
 use Rattle.wire.specs.Bytes.{Bytes}
 use Rattle.questions.specs.Asking.{Asking, Held}
 use Rattle.states.proofs.Building.{graph_refused, graph_built}

@@ -1,6 +1,5 @@
 -- `states::nodes` meets its contract: a refused model or formula has none, and a question's are counted.
 use mathlib.Core.Path.{subst}
-use borrow.Author.Rules.{rules}
 use Rattle.transitions.proofs.Accepted.{states_few}
 use Rattle.questions.specs.Asking.{Asking, Held}
 use Rattle.states.proofs.Answering.{nodes_refused, nodes_counted}

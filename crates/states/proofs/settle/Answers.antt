@@ -1,7 +1,6 @@
 -- `states::settle` meets its contract: a refused model or formula, or the question that they hold, settled.
 use mathlib.Core.Path.{subst}
 use native.Mathlib.Omega.{arith}
-use borrow.Author.Rules.{rules}
 use Rattle.wire.specs.Bytes.{Bytes}
 use Rattle.questions.specs.Asking.{Asking, Held}
 use Rattle.states.proofs.Answering.{all_refused, all_settled}

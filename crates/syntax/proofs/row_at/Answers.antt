@@ -1,5 +1,4 @@
 -- `syntax::row_at` meets its contract: the row of the fields that stand there.
-use borrow.Author.Rules.{rules}
 use Rattle.syntax.proofs.row_at.Goals as goal
 
 pub returns : goal.returns

@@ -1,5 +1,4 @@
 -- `syntax::row_of` meets its contract: each arm is the row of its operator.
-use borrow.Author.Rules.{rules}
 use borrow.Author.Tests.{ne_eqb}
 use Rattle.syntax.specs.Rows.{row_of}
 use Rattle.syntax.proofs.row_of.Goals as goal

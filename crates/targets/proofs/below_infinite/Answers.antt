@@ -3,7 +3,6 @@ use Prim.Native.Nat.{ℕ, ◌+◌, ◌-◌, ◌<◌, min}
 use mathlib.Core.Path.{◌≡◌, ap}
 use native.Mathlib.Omega.{arith}
 use lib.ListN.{get_or}
-use borrow.Author.Rules.{rules}
 use Rattle.value.specs.Stored.{infinite}
 use Rattle.value.proofs.Stored.{stored_plus}
 use Rattle.wire.specs.Bytes.{number}

@@ -1,8 +1,7 @@
 -- `targets::least_of_fours` meets its contract: the least so far, and that over the targets left, make the whole.
-use Prim.Native.Nat.{ℕ, ◌+◌, ◌-◌, ◌*◌, ◌≤◌, ◌<◌, min}
+use Prim.Native.Nat.{ℕ, ◌+◌, ◌-◌, ◌*◌, ◌<◌, min}
 use mathlib.Core.Path.{◌≡◌, refl}
 use native.Mathlib.Omega.{arith}
-use Rattle.value.specs.Stored.{infinite}
 use Rattle.wire.specs.Layout.{items, Sound}
 use Rattle.graph.specs.Format.{target_width}
 use Rattle.graph.specs.Layouts.{target_layout}

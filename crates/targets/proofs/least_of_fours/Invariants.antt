@@ -1,14 +1,12 @@
 -- `targets::least_of_fours` meets its contract: the least so far, and that over the targets left, make the whole.
-use Prim.Native.Nat.{ℕ, ◌+◌, ◌-◌, ◌*◌, ◌≤◌, ◌<◌, min}
-use mathlib.Core.Path.{◌≡◌, refl}
-use native.Mathlib.Omega.{arith}
+use Prim.Native.Nat.{ℕ, ◌+◌, ◌-◌, ◌*◌, ◌≤◌, min}
+use mathlib.Core.Path.{◌≡◌}
 use Rattle.value.specs.Stored.{infinite}
 use Rattle.wire.specs.Layout.{items, Sound}
 use Rattle.graph.specs.Format.{target_width}
 use Rattle.graph.specs.Layouts.{target_layout}
 use Rattle.halves.specs.Held.{held}
 use Rattle.targets.specs.Below.{below}
-use Rattle.targets.proofs.Below.{sound_inside, sound_parts, below_le, below_turn, below_none}
 use Rattle.targets.proofs.least_of_fours.Given as goal
 
 abbrev pub invariant-loop-p : goal.invariant-loop-p

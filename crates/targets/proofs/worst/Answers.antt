@@ -1,8 +1,7 @@
 -- `targets::worst` meets its contract: the greatest so far, and that of the targets left, make the whole.
-use Prim.Native.Nat.{◌+◌, ◌-◌, ◌≤◌, ◌<◌, max}
-use mathlib.Core.Path.{◌≡◌, ap, ◌∙◌}
+use Prim.Native.Nat.{◌+◌, ◌-◌, ◌<◌, max}
+use mathlib.Core.Path.{ap, ◌∙◌}
 use native.Mathlib.Omega.{arith}
-use Rattle.value.specs.Stored.{stored, infinite}
 use Rattle.value.proofs.Stored.{stored_le, greatest_max, is_stored_le}
 use Rattle.wire.specs.Layout.{items, Sound}
 use Rattle.wire.proofs.Layouts.{sound_more}

@@ -55,10 +55,15 @@ least_with-least-requires c = record { by_index = (c.args.k - c.args.k / 4 * 4, 
 least : (c : After-struct_known-1) → let a = c.args in c.least_with-least.result ≡ below (held a.x.now) ((items (target_layout c.args.s.now c.args.n) c.args.k c.args.at))
 least c =
     let a = c.args in
-    omega (arith, c.least_with-least.ensures (a.k - a.k / 4 * 4) (omega arith), (let it : let a = c.args in
-    c.least_of_fours-among.result ≡ below (held a.x.now) (items (target_layout a.s.now a.n) (a.k / 4 * 4) a.at) = c.least_of_fours-among.ensures (c.args.k / 4) refl in it), (let it : let a = c.args in let L = target_layout a.s.now a.n in let x = held a.x.now in
-    below x ((items (target_layout c.args.s.now c.args.n) c.args.k c.args.at)) ≡ min (below x (items L (a.k / 4 * 4) a.at)) (below x (items L (a.k - a.k / 4 * 4) (a.at + a.k / 4 * (4 * target_width)))) = let a = c.args in
-    below_parts a.s.now a.n (a.k / 4 * 4) a.k a.at (a.k - a.k / 4 * 4) (a.at + a.k / 4 * (4 * target_width)) (omega arith) (omega arith) (held a.x.now) in it))
+    omega (
+      arith,
+      c.least_with-least.ensures (a.k - a.k / 4 * 4) (omega arith),
+      (let it : let a = c.args in
+          c.least_of_fours-among.result ≡ below (held a.x.now) (items (target_layout a.s.now a.n) (a.k / 4 * 4) a.at) = c.least_of_fours-among.ensures (c.args.k / 4) refl in it),
+      (let it : let a = c.args in let L = target_layout a.s.now a.n in let x = held a.x.now in
+          below x ((items (target_layout c.args.s.now c.args.n) c.args.k c.args.at)) ≡ min (below x (items L (a.k / 4 * 4) a.at)) (below x (items L (a.k - a.k / 4 * 4) (a.at + a.k / 4 * (4 * target_width)))) = let a = c.args in
+          below_parts a.s.now a.n (a.k / 4 * 4) a.k a.at (a.k - a.k / 4 * 4) (a.at + a.k / 4 * (4 * target_width)) (omega arith) (omega arith) (held a.x.now) in it),
+    )
 
 pub overflow_sub-most : goal.overflow_sub-most
 overflow_sub-most c = omega (arith, least c, below_le (held c.args.x.now) (given (goal.at.overflow_sub-most c).Start))

@@ -1,5 +1,5 @@
 -- `wire::follows` meets its contract: what wraps is below what is left up to n only where the source is below n and not below the one before it.
-use Rattle.std.proofs.Common.{◌≡◌, ℕ, ◌+◌, ◌-◌, ◌%◌, ◌^◌, ◌<◌, ◌≤◌, ◌&&◌, ltb, leb, arith, rules, ltb-false, ltb-true, le-ltb, lt-ltb, leb-false, leb-true}
+use Rattle.std.proofs.Common.{◌≡◌, ℕ, ◌+◌, ◌-◌, ◌%◌, ◌^◌, ◌<◌, ◌≤◌, ◌&&◌, ltb, leb, arith, ltb-false, ltb-true, le-ltb, lt-ltb, leb-false, leb-true}
 use Rattle.lists.proofs.Tests.{by_test}
 use Rattle.wire.proofs.follows.Goals as goal
 

@@ -1,5 +1,5 @@
 -- `wire::number_at` meets its contract: after i turns n is the number that the first i bytes make, below 256 ^ i.
-use Rattle.std.proofs.Common.{◌≡◌, ℕ, ◌+◌, ◌-◌, ◌^◌, ◌<◌, ◌≤◌, get_or, refl, ap, ◌∙◌, pow-suc, add-one, arith, lit<, rules}
+use Rattle.std.proofs.Common.{◌≡◌, ℕ, ◌+◌, ◌^◌, ◌<◌, ◌≤◌, get_or, refl, ap, ◌∙◌, pow-suc, add-one, arith, lit<, rules}
 use native.Mathlib.Nat.{pow-le-pow_right}
 use Rattle.wire.specs.Bytes.{number}
 use Rattle.wire.specs.Field.{width_of}

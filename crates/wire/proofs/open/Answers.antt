@@ -1,5 +1,5 @@
 -- `wire::open` meets its contract: each `return` is the reading under the tests that led there.
-use Rattle.std.proofs.Common.{◌≡◌, true, leb, length, ◌∙◌, rules, eq-eqb, ne_eqb, le-leb}
+use Rattle.std.proofs.Common.{◌≡◌, true, leb, length, ◌∙◌, eq-eqb, ne_eqb, le-leb}
 use borrow.Author.Tests.{lt-leb}
 use Rattle.lists.proofs.Tests.{by}
 use Rattle.wire.specs.Field.{field_at}

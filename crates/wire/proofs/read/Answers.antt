@@ -1,5 +1,5 @@
 -- `wire::read` meets its contract: each `return` is one of the two cases of a field.
-use Rattle.std.proofs.Common.{sym, ap, ◌∙◌, arith, rules}
+use Rattle.std.proofs.Common.{sym, ap, ◌∙◌, arith}
 use Rattle.wire.specs.declared.Field.TheVariants.{Number}
 use Rattle.wire.proofs.Fields.{field_short, field_value}
 use Rattle.wire.proofs.read.Goals as goal

@@ -1,8 +1,7 @@
 -- `wire::read_below` meets its contract: each `return` is the reading under the tests that led there.
-use Rattle.std.proofs.Common.{◌≡◌, sym, ◌∙◌, rules, le-ltb, lt-ltb, eq-eqb, ne_eqb, le-leb}
-use borrow.Author.Tests.{lt-leb}
+use Rattle.std.proofs.Common.{◌≡◌, ◌∙◌, le-ltb, lt-ltb}
 use Rattle.lists.proofs.Tests.{by}
-use Rattle.wire.specs.Read.{field, good, below, found, fault_of}
+use Rattle.wire.specs.Read.{below}
 use Rattle.wire.specs.Field.{width_of, field_at}
 use Rattle.wire.specs.declared.Field.TheVariants.{Number}
 use Rattle.wire.proofs.Reading.{reading, stopped, field_found}

@@ -1,5 +1,5 @@
 -- `wire::read_count` meets its contract: each `return` is the reading under the tests that led there.
-use Rattle.std.proofs.Common.{◌≡◌, sym, ◌∙◌, rules, le-leb}
+use Rattle.std.proofs.Common.{◌≡◌, ◌∙◌, le-leb}
 use borrow.Author.Tests.{lt-leb}
 use Rattle.lists.proofs.Tests.{by}
 use Rattle.wire.specs.Field.{width_of, field_at}

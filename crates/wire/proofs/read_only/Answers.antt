@@ -1,5 +1,5 @@
 -- `wire::read_only` meets its contract: each `return` is the reading under the tests that led there.
-use Rattle.std.proofs.Common.{◌≡◌, sym, ◌∙◌, rules, eq-eqb, ne_eqb}
+use Rattle.std.proofs.Common.{◌≡◌, ◌∙◌, eq-eqb, ne_eqb}
 use Rattle.lists.proofs.Tests.{by}
 use Rattle.wire.specs.Field.{field_at}
 use Rattle.wire.specs.Start.{only}

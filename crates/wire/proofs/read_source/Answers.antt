@@ -1,5 +1,5 @@
 -- `wire::read_source` meets its contract: each `return` is the reading under the tests that led there.
-use Rattle.std.proofs.Common.{◌≡◌, ◌∙◌, rules, le-ltb, lt-ltb, le-leb}
+use Rattle.std.proofs.Common.{◌≡◌, ◌∙◌, le-ltb, lt-ltb, le-leb}
 use Rattle.lists.proofs.Tests.{by}
 use Rattle.wire.specs.declared.Field.TheVariants.{Number}
 use Rattle.wire.specs.Field.{field_at}

@@ -1,5 +1,5 @@
 -- `wire::store` meets its contract, by the width.
-use Rattle.std.proofs.Common.{arith, rules}
+use Rattle.std.proofs.Common.{arith}
 use Rattle.wire.proofs.Bytes.{put_one}
 use Rattle.wire.proofs.store.Goals as goal
 

@@ -1,5 +1,5 @@
 -- `wire::store_four` meets its contract: the bytes of the swapped number are the number's.
-use Rattle.std.proofs.Common.{◌≡◌, ℕ, ◌+◌, ◌*◌, ◌/◌, ◌%◌, arith, length-set, rules}
+use Rattle.std.proofs.Common.{◌≡◌, ℕ, ◌+◌, ◌*◌, ◌/◌, ◌%◌, arith, length-set}
 use Rattle.wire.proofs.Bytes.{put_four}
 use Rattle.wire.proofs.store_four.Goals as goal
 

@@ -1,8 +1,7 @@
 -- `wire::store_long` meets its contract, as `store` does: storing the i bytes of `rest` that are left makes the whole.
-use Rattle.std.proofs.Common.{◌≡◌, ℕ, ◌≤◌, length, sym, refl, ap, ◌∙◌, arith, length-set, rules}
+use Rattle.std.proofs.Common.{◌≡◌, ◌≤◌, length}
 use Rattle.wire.specs.Bytes.{put}
 use Rattle.wire.specs.Field.{long_width}
-use Rattle.wire.proofs.Bytes.{put_none, put_last}
 use Rattle.wire.proofs.store_long.Given as goal
 
 abbrev pub invariant-loop-i : goal.invariant-loop-i

@@ -1,5 +1,5 @@
 -- `wire::store_two` meets its contract: the bytes of the swapped number are the number's.
-use Rattle.std.proofs.Common.{◌≡◌, ◌+◌, ◌*◌, ◌/◌, ◌%◌, ◌∙◌, arith, length-set, rules}
+use Rattle.std.proofs.Common.{◌≡◌, ◌+◌, ◌*◌, ◌/◌, ◌%◌, arith, length-set}
 use Rattle.wire.proofs.Bytes.{put_two}
 use Rattle.wire.proofs.store_two.Goals as goal
 

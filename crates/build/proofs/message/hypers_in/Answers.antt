@@ -1,7 +1,6 @@
 -- `message::hypers_in` meets its contract, kind of row by kind of row.
 use Prim.Native.Nat.{◌/◌}
 use mathlib.Core.Path.{sym, subst, ap, ◌∙◌}
-use borrow.Author.Rules.{rules}
 use Rattle.syntax.specs.declared.Row.{Row}
 use Rattle.syntax.specs.declared.Row.TheVariants.{Next}
 use Rattle.syntax.specs.declared.Quantifier.{Quantifier}

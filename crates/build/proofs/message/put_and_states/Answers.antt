@@ -1,5 +1,5 @@
 -- `message::put_and_states` meets its contract: the hyperedges of the states left make the whole.
-use Prim.Native.Nat.{◌+◌, ◌*◌, ◌-◌, ◌≤◌}
+use Prim.Native.Nat.{◌+◌, ◌*◌, ◌≤◌}
 use mathlib.Core.List.{[]}
 use mathlib.Core.Path.{refl}
 use native.Mathlib.Omega.{arith}
@@ -10,7 +10,7 @@ use Rattle.syntax.specs.declared.Row.TheVariants.{And}
 use Rattle.transitions.specs.Held.{held_model}
 use Rattle.records.specs.Bytes.{pair_width}
 use Rattle.records.proofs.Edges.{pair_length, single_laid, first_fits}
-use Rattle.build.proofs.Nodes.{RowLeft, row_begun, operand_fits}
+use Rattle.build.proofs.Nodes.{row_begun, operand_fits}
 use Rattle.build.proofs.message.put_and_states.Goals as goal
 use Rattle.build.proofs.message.put_and_states.Goals.{In-loop-a}
 

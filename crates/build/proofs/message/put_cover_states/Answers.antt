@@ -1,5 +1,5 @@
 -- `message::put_cover_states` meets its contract: the cover edges of the states that are left make the whole.
-use Prim.Native.Nat.{ℕ, ◌+◌, ◌*◌, ◌-◌, ◌≤◌}
+use Prim.Native.Nat.{ℕ, ◌+◌, ◌*◌, ◌≤◌}
 use mathlib.Core.Path.{◌≡◌, refl, sym, ap, ◌∙◌}
 use native.Mathlib.Omega.{arith}
 use lib.ListN.{length}
@@ -10,7 +10,7 @@ use Rattle.graph.specs.Format.{cover_bound_at, cover_target_at, cover_width}
 use Rattle.records.specs.Bytes.{cover_bytes}
 use Rattle.build.proofs.Nodes.{place_fits}
 use Rattle.build.proofs.Covers.{cover_of, cover_length, covers_coded}
-use Rattle.wire.proofs.Spans.{SpanLeft, span_begun, span_done, span_fits, span_then}
+use Rattle.wire.proofs.Spans.{span_begun, span_done, span_fits, span_then}
 use Rattle.build.proofs.message.put_cover_states.Goals as goal
 use Rattle.build.proofs.message.put_cover_states.Goals.{After-code-code, In-loop-a, Start}
 

@@ -1,13 +1,9 @@
 -- `message::put_covers` meets its contract: the cover edges of the rows that are left make the whole.
-use Prim.Native.Nat.{◌-◌}
 use mathlib.Core.Path.{sym, ap, ◌∙◌}
 use native.Mathlib.Omega.{arith}
-use borrow.Author.Rules.{rules}
 use Rattle.reduction.specs.Built.{is_until}
-use Rattle.transitions.specs.Held.{held_rows}
-use Rattle.records.specs.Bytes.{covers_of}
 use Rattle.sizing.proofs.Untils.{not_until}
-use Rattle.build.proofs.Covers.{Covering, covering_all, covering_none, row_readable, helper_fits, until_fits, until_covered, other_covered}
+use Rattle.build.proofs.Covers.{covering_all, covering_none, row_readable, helper_fits, until_fits, until_covered, other_covered}
 use Rattle.build.proofs.message.put_covers.Goals as goal
 
 pub loop-r-init : goal.loop-r-init

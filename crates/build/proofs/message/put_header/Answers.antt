@@ -2,7 +2,6 @@
 use mathlib.Core.List.{append_assoc}
 use mathlib.Core.Path.{refl}
 use native.Mathlib.Omega.{arith}
-use borrow.Author.Rules.{rules}
 use Rattle.wire.specs.Start.{version_at, kind_at}
 use Rattle.wire.proofs.Laid.{said, stored, ◌then◌}
 use Rattle.wire.proofs.Laid as laid

@@ -1,16 +1,9 @@
 -- `message::put_helper_states` meets its contract: the helpers of the states left make the whole.
-use Prim.Native.Nat.{◌+◌, ◌-◌}
-use native.Mathlib.Numerals.{add-one}
-use native.Mathlib.Omega.{arith}
-use lib.ListN.{get_or}
-use borrow.Author.Rules.{rules}
-use Rattle.transitions.specs.Held.{held_model, Own}
+use Prim.Native.Nat.{◌-◌}
+use Rattle.transitions.specs.Held.{held_model}
 use Rattle.records.specs.Bytes.{helper_bytes}
-use Rattle.transitions.proofs.Accepted.{states_few}
-use Rattle.transitions.proofs.Ranges.{starts_own}
-use Rattle.build.proofs.Nodes.{place_fits, own_read}
-use Rattle.build.proofs.Helpers.{own_narrow, helper_of, helper_spans, helper_is}
-use Rattle.wire.proofs.Spans.{SpanLeft, span_begun, span_done, span_fits, span_then}
+use Rattle.build.proofs.Helpers.{helper_of}
+use Rattle.wire.proofs.Spans.{SpanLeft}
 use Rattle.build.proofs.message.put_helper_states.Given as goal
 
 abbrev pub invariant-loop-a : goal.invariant-loop-a

@@ -2,14 +2,12 @@
 use mathlib.Core.Bool.{false}
 use mathlib.Core.Path.{◌≡◌, sym, ap, ◌∙◌}
 use native.Mathlib.Omega.{arith}
-use borrow.Author.Rules.{rules}
 use Rattle.syntax.specs.declared.Row.TheVariants.{Until}
 use Rattle.syntax.specs.Layouts.{row_at}
-use Rattle.reduction.specs.Built.{is_until, untils}
-use Rattle.transitions.specs.Held.{held_model, held_rows}
-use Rattle.records.specs.Bytes.{helpers_bytes}
+use Rattle.reduction.specs.Built.{is_until}
+use Rattle.transitions.specs.Held.{held_model}
 use Rattle.sizing.proofs.Untils.{not_until}
-use Rattle.build.proofs.Helpers.{RowsLeft, rows_all, rows_none, until_fit, until_fits, until_then, other_then}
+use Rattle.build.proofs.Helpers.{rows_all, rows_none, until_fit, until_fits, until_then, other_then}
 use Rattle.build.proofs.message.put_helpers.Goals as goal
 use Rattle.build.proofs.message.put_helpers.Goals.{In-Until, In_default}
 

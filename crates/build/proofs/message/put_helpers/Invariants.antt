@@ -1,14 +1,8 @@
 -- `message::put_helpers` meets its contract: the helpers of the rows left make the whole.
-use mathlib.Core.Bool.{false}
-use mathlib.Core.Path.{◌≡◌, sym, ap, ◌∙◌}
-use native.Mathlib.Omega.{arith}
-use borrow.Author.Rules.{rules}
-use Rattle.syntax.specs.declared.Row.TheVariants.{Until}
-use Rattle.syntax.specs.Layouts.{row_at}
-use Rattle.reduction.specs.Built.{is_until, untils}
+use Rattle.reduction.specs.Built.{untils}
 use Rattle.transitions.specs.Held.{held_model, held_rows}
 use Rattle.records.specs.Bytes.{helpers_bytes}
-use Rattle.build.proofs.Helpers.{RowsLeft, rows_all, rows_none, until_fit, until_fits, until_then, other_then}
+use Rattle.build.proofs.Helpers.{RowsLeft}
 use Rattle.build.proofs.message.put_helpers.Given as goal
 
 abbrev pub invariant-loop-i : goal.invariant-loop-i

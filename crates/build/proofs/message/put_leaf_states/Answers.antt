@@ -1,16 +1,15 @@
 -- `message::put_leaf_states` meets its contract: the hyperedges of the states left make the whole.
-use Prim.Native.Nat.{◌+◌, ◌*◌, ◌-◌}
+use Prim.Native.Nat.{◌+◌, ◌*◌}
 use mathlib.Core.Bool.{beq}
 use mathlib.Core.Path.{◌≡◌, ap}
 use native.Mathlib.Omega.{arith}
-use borrow.Author.Rules.{rules}
 use Rattle.reduction.specs.Built.{row_edges}
 use Rattle.transitions.specs.Held.{held_model}
 use Rattle.transitions.specs.Looked.{leaf_edges}
 use Rattle.records.specs.Bytes.{hypers_bytes}
 use Rattle.wire.proofs.Spans.{span_done, span_fits, span_then}
 use Rattle.build.specs.Leaf.{leaf_row}
-use Rattle.build.proofs.Nodes.{RowLeft, row_begun, leaf_are}
+use Rattle.build.proofs.Nodes.{row_begun, leaf_are}
 use Rattle.build.proofs.message.put_leaf_states.Goals as goal
 use Rattle.build.proofs.message.put_leaf_states.Goals.{After-holds}
 

@@ -4,7 +4,6 @@ use mathlib.Core.Path.{◌≡◌, ap}
 use native.Mathlib.Numerals.{add-one}
 use native.Mathlib.Omega.{arith}
 use lib.ListN.{get_or}
-use borrow.Author.Rules.{rules}
 use Rattle.lists.proofs.Places.{first}
 use Rattle.wire.proofs.Spans.{span_done, span_fits, span_then}
 use Rattle.syntax.specs.declared.Row.TheVariants.{Next}
@@ -13,7 +12,7 @@ use Rattle.transitions.specs.Held.{transitions_from, held_model, Own}
 use Rattle.transitions.proofs.Accepted.{states_few}
 use Rattle.transitions.proofs.Ranges.{starts_own}
 use Rattle.records.specs.Bytes.{hypers_bytes, next_edges}
-use Rattle.build.proofs.Nodes.{RowLeft, row_begun, operand_fits, next_are, own_read}
+use Rattle.build.proofs.Nodes.{row_begun, operand_fits, next_are, own_read}
 use Rattle.build.proofs.message.put_next_states.Goals as goal
 use Rattle.build.proofs.message.put_next_states.Goals.{In-loop-a, Start}
 

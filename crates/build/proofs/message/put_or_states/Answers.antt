@@ -1,5 +1,5 @@
 -- `message::put_or_states` meets its contract: the hyperedges of the states left make the whole.
-use Prim.Native.Nat.{◌+◌, ◌*◌, ◌-◌, ◌≤◌}
+use Prim.Native.Nat.{◌+◌, ◌*◌, ◌≤◌}
 use mathlib.Core.List.{[], ◌∷◌}
 use mathlib.Core.Path.{refl}
 use native.Mathlib.Omega.{arith}
@@ -13,7 +13,7 @@ use Rattle.reduction.specs.Built.{to}
 use Rattle.transitions.specs.Held.{held_model}
 use Rattle.records.specs.Bytes.{single_width, hypers_bytes}
 use Rattle.records.proofs.Edges.{single_length, single_laid, more_laid, hypers_more, first_fits}
-use Rattle.build.proofs.Nodes.{RowLeft, row_begun, operand_fits}
+use Rattle.build.proofs.Nodes.{row_begun, operand_fits}
 use Rattle.build.proofs.message.put_or_states.Goals as goal
 use Rattle.build.proofs.message.put_or_states.Goals.{In-loop-a}
 

@@ -2,7 +2,6 @@
 use Prim.Native.Nat.{◌+◌, ◌≤◌}
 use mathlib.Core.Path.{◌≡◌, ap}
 use lib.ListN.{length}
-use borrow.Author.Rules.{rules}
 use Rattle.model.specs.Model.{Model}
 use Rattle.syntax.specs.declared.Row.{Row}
 use Rattle.reduction.specs.Built.{row_edges}

@@ -1,12 +1,12 @@
 -- `message::put_rows` meets its contract: the hyperedges of the rows left, and how many they are, make the whole.
-use Prim.Native.Nat.{ℕ, ◌+◌, ◌-◌, ◌≤◌}
+use Prim.Native.Nat.{ℕ, ◌+◌, ◌-◌}
 use mathlib.Core.List.{List, ◌++◌}
 use mathlib.Core.Path.{◌≡◌, refl, ap, ◌∙◌}
 use native.Mathlib.Nat.{zero-add}
 use native.Mathlib.Omega.{arith}
 use lib.ListN.{length}
 use Rattle.wire.specs.Layout.{items}
-use Rattle.wire.proofs.Laid.{Left, all_left, left_fits, left_then, none_left}
+use Rattle.wire.proofs.Laid.{all_left, left_fits, left_then, none_left}
 use Rattle.syntax.specs.Format.{formula_header, row_width, place_of}
 use Rattle.syntax.specs.declared.Row.{Row}
 use Rattle.syntax.specs.Layouts.{row_at, row_layout}

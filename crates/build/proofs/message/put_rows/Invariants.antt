@@ -1,20 +1,13 @@
 -- `message::put_rows` meets its contract: the hyperedges of the rows left, and how many they are, make the whole.
-use Prim.Native.Nat.{ℕ, ◌+◌, ◌-◌, ◌≤◌}
-use mathlib.Core.List.{List, ◌++◌}
-use mathlib.Core.Path.{◌≡◌, refl, ap, ◌∙◌}
-use native.Mathlib.Nat.{zero-add}
-use native.Mathlib.Omega.{arith}
+use Prim.Native.Nat.{◌+◌, ◌-◌, ◌≤◌}
+use mathlib.Core.Path.{◌≡◌}
 use lib.ListN.{length}
 use Rattle.wire.specs.Layout.{items}
-use Rattle.wire.proofs.Laid.{Left, all_left, left_fits, left_then, none_left}
-use Rattle.syntax.specs.Format.{formula_header, row_width, place_of}
-use Rattle.syntax.specs.declared.Row.{Row}
-use Rattle.syntax.specs.Layouts.{row_at, row_layout}
-use Rattle.reduction.specs.Built.{layout}
+use Rattle.wire.proofs.Laid.{Left}
+use Rattle.syntax.specs.Format.{place_of}
+use Rattle.syntax.specs.Layouts.{row_layout}
 use Rattle.transitions.specs.Held.{held_model, held_rows}
-use Rattle.records.specs.Bytes.{row_hypers, rows_hypers, row_bytes, rows_bytes}
-use Rattle.build.proofs.Nodes.{rows_more, rows_count, rows_bytes_lem, rows_none, row_fits}
-use Rattle.wire.proofs.Stride.{items_left}
+use Rattle.records.specs.Bytes.{rows_hypers, rows_bytes}
 use Rattle.build.proofs.message.put_rows.Given as goal
 
 abbrev pub invariant-loop-r : goal.invariant-loop-r

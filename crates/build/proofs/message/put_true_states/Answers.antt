@@ -1,11 +1,11 @@
 -- `message::put_true_states` meets its contract: the hyperedges of the states left make the whole.
-use Prim.Native.Nat.{◌+◌, ◌*◌, ◌-◌}
+use Prim.Native.Nat.{◌+◌, ◌*◌}
 use mathlib.Core.Path.{refl}
 use native.Mathlib.Omega.{arith}
 use Rattle.syntax.specs.declared.Row.TheVariants.{True}
 use Rattle.wire.proofs.Spans.{span_done, span_fits, span_then}
 use Rattle.records.proofs.Edges.{bare_fits, bare_laid}
-use Rattle.build.proofs.Nodes.{RowLeft, row_begun}
+use Rattle.build.proofs.Nodes.{row_begun}
 use Rattle.build.proofs.message.put_true_states.Goals as goal
 
 pub loop-a-init : goal.loop-a-init

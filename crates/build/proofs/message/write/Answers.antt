@@ -5,7 +5,6 @@ use mathlib.Core.Path.{◌≡◌, refl, ap, ◌∙◌}
 use native.Mathlib.Nat.{mul-le-mul_left}
 use native.Mathlib.Omega.{arith}
 use lib.ListN.{length}
-use borrow.Author.Rules.{rules}
 use Rattle.wire.specs.Laid.{Laid}
 use Rattle.wire.proofs.Laid.{◌then◌, fits, said, same_length as as_long}
 use Rattle.model.specs.Model.{Model}

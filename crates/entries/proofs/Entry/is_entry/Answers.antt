@@ -1,5 +1,4 @@
 -- `Entry::is_entry` meets its contract: a refusal's number is tested from both ends.
-use borrow.Author.Rules.{rules}
 use borrow.Author.Tests.{le-leb, lt-leb}
 use Rattle.entries.proofs.Entry.is_entry.Goals as goal
 

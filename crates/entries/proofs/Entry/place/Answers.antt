@@ -1,5 +1,4 @@
 -- `Entry::place` meets its contract: the refusal numbers follow yes and no.
-use borrow.Author.Rules.{rules}
 use Rattle.entries.proofs.Entry.place.Goals as goal
 
 pub returns-in-Refused : goal.returns-in-Refused

@@ -1,5 +1,4 @@
 -- `Entry::rounds` meets its contract: of the refusals only BUDGET hands its rounds on.
-use borrow.Author.Rules.{rules}
 use borrow.Author.Tests.{ne_eqb}
 use Rattle.entries.proofs.Entry.rounds.Goals as goal
 

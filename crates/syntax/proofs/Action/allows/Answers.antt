@@ -1,5 +1,4 @@
 -- `syntax::Action::allows` meets its contract: the one action given, or any.
-use borrow.Author.Rules.{rules}
 use Rattle.syntax.proofs.Action.allows.Goals as goal
 
 pub returns-in-Only : goal.returns-in-Only

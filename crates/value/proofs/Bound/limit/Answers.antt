@@ -1,7 +1,6 @@
 -- `Bound::limit` meets its contract: a bound is below infinity's number.
 use mathlib.Core.Path.{sym, ap, ◌∙◌}
 use native.Mathlib.Omega.{arith}
-use borrow.Author.Rules.{rules}
 use Rattle.value.specs.Value.{meets}
 use Rattle.value.specs.Stored.{meaning}
 use Rattle.value.specs.declared.Bound.{Bound}

@@ -1,6 +1,5 @@
 -- `Value::add` meets its contract: past the test the sum is below infinity's number.
 use native.Mathlib.Omega.{arith}
-use borrow.Author.Rules.{rules}
 use Rattle.value.proofs.Stored.{stored_plus}
 use Rattle.value.proofs.Value.add.Goals as goal
 

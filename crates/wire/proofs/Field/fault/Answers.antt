@@ -1,7 +1,5 @@
-
 use Rattle.wire.specs.Read.{fault_of}
-use Rattle.std.proofs.Common.{refl, rules}
-use Rattle.wire.proofs.Field.fault.Lts as lts
+use Rattle.std.proofs.Common.{refl}
 use Rattle.wire.proofs.Field.fault.Goals as goal
 
 -- src/lib.rt:50:5
