@@ -6,7 +6,6 @@ use Rattle.ranks.specs.Answers.{written_number, written_offset, Writes}
 use Rattle.claims.specs.Promise.{JudgedPromise}
 use Rattle.ranks.specs.Promise.{WrittenPromise}
 use Rattle.claims.specs.declared.Judged.{Judged}
-use Rattle.claims.specs.declared.Judged.TheVariants as Judged
 use Rattle.ranks.specs.declared.Written.{Written}
 
 -- 0 none, 1 yes, 2 no

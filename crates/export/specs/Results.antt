@@ -13,7 +13,6 @@ use Rattle.search.specs.declared.Answer.{Answer as Searched}
 use Rattle.settling.specs.Answer.{read_settled, read_asked, answer_of, all_of}
 use Rattle.settling.specs.declared.Answer.{Answer}
 use Rattle.settling.specs.declared.AllStates.{AllStates}
-use Rattle.settling.specs.declared.AllStates.TheVariants as AllStates
 
 -- the counts of an accepted message's header; a refusal leaves what is lent for them as it came. Nodes, hyperedges and cover edges
 abbrev pub graph_counts : graph.Checked → (came : List ℕ) → List ℕ

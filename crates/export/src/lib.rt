@@ -2,6 +2,7 @@
 // `requires`: any bytes and any lengths will do. The number, the verdict, the count and the length are the answer, and are always
 // written; rooms, counts, rows and states are lent memory, which a refusal leaves as it came.
 #![tactic(auto)]
+
 ghost use Rattle.std.specs.Prelude.{◌≡◌};
 ghost use Rattle.graph.specs.Message.{read_graph};
 ghost use Rattle.graph.specs.Answers as g;

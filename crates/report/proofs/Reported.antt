@@ -16,7 +16,6 @@ use Rattle.wire.proofs.Reading.{good_then, bad_then, bind_good, demand_good, goo
 use Rattle.questions.specs.Question.{Question}
 use Rattle.settling.specs.Answer.{read_settled, bytes_of}
 use Rattle.pieces.specs.declared.Cut.{Cut}
-use Rattle.pieces.specs.declared.Cut.TheVariants as Cut
 use Rattle.pieces.specs.Lines.{refused_line}
 use Rattle.pieces.specs.Pieces.{cut_of}
 use Rattle.pieces.specs.Cut.{read_cut}

@@ -3,7 +3,6 @@ use mathlib.Core.Path.{◌≡◌, ap, ◌∙◌}
 use Rattle.tally.specs.Entered.{answer_number, enter_of}
 use Rattle.tally.specs.declared.Entered.{Entered}
 use Rattle.entries.specs.Returned.{entry_of}
-use borrow.Author.Rules.{rules}
 use Rattle.export.proofs.note.Goals as goal
 
 pub returns : goal.returns

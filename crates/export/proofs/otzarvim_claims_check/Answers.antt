@@ -1,5 +1,4 @@
 -- `export::otzarvim_claims_check` meets its contract: the number, the verdict and the offset of the checker's answer.
-use borrow.Author.Rules.{rules}
 use Rattle.export.proofs.otzarvim_claims_check.Goals as goal
 
 pub returns : goal.returns

@@ -1,5 +1,4 @@
 -- `export::otzarvim_claims_write` meets its contract: the number and the offset of the writer's answer, and the rooms.
-use borrow.Author.Rules.{rules}
 use Rattle.export.proofs.otzarvim_claims_write.Goals as goal
 
 pub returns : goal.returns

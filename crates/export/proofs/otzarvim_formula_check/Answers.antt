@@ -1,6 +1,5 @@
 -- `export::otzarvim_formula_check` meets its contract: the number and offset of what the check answers, and the rows of an accepted message.
 use mathlib.Core.Path.{sym, ap, ◌∙◌}
-use borrow.Author.Rules.{rules}
 use Rattle.lists.proofs.Tests.{by}
 use Rattle.formula.specs.Answers.{checked_number, checked_offset}
 use Rattle.formula.specs.declared.Checked.{Checked}

@@ -1,6 +1,5 @@
 -- `export::otzarvim_formula_text` meets its contract: the number and the length of what the writing answers.
 use mathlib.Core.Path.{ap, ◌∙◌}
-use borrow.Author.Rules.{rules}
 use Rattle.text.specs.Written.{written_number, written_offset, written_length}
 use Rattle.export.proofs.otzarvim_formula_text.Goals as goal
 

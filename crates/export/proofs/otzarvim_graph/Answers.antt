@@ -1,6 +1,5 @@
 -- `export::otzarvim_graph` meets its contract: the number, the room and the length.
 use mathlib.Core.Path.{ap, subst, ◌∙◌}
-use borrow.Author.Rules.{rules}
 use Rattle.build.specs.Built.{built_number, built_offset, built_length}
 use Rattle.states.specs.Promise.{PromiseGraph}
 use Rattle.export.proofs.otzarvim_graph.Goals as goal

@@ -1,6 +1,5 @@
 -- `export::otzarvim_graph_check` meets its contract: the number and offset of what the check answers, and the counts of an accepted message.
 use mathlib.Core.Path.{sym, ap, ◌∙◌}
-use borrow.Author.Rules.{rules}
 use Rattle.lists.proofs.Tests.{by}
 use Rattle.graph.specs.Answers.{checked_number, checked_offset}
 use Rattle.graph.specs.declared.Checked.{Checked}

@@ -1,6 +1,5 @@
 -- `export::otzarvim_model_check` meets its contract: the number and offset of what the check answers, and the counts of an accepted message.
 use mathlib.Core.Path.{sym, ap, ◌∙◌}
-use borrow.Author.Rules.{rules}
 use Rattle.lists.proofs.Tests.{by}
 use Rattle.model.specs.Answers.{checked_number, checked_offset}
 use Rattle.model.specs.declared.Checked.{Checked}

@@ -1,6 +1,5 @@
 -- `export::otzarvim_rounds_solve` meets its contract: the number and the count of how the rounds ended.
 use mathlib.Core.Path.{ap, subst, ◌∙◌}
-use borrow.Author.Rules.{rules}
 use Rattle.turns.specs.Outcome.{outcome_number, outcome_offset, outcome_count}
 use Rattle.rounds.specs.Promise.{Promise}
 use Rattle.export.proofs.otzarvim_rounds_solve.Goals as goal

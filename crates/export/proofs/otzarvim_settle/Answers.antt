@@ -1,6 +1,5 @@
 -- `export::otzarvim_settle` meets its contract: each part of the answer, and both rooms; the lent states case by case.
 use mathlib.Core.Path.{◌≡◌, sym, ap, subst, ◌∙◌}
-use borrow.Author.Rules.{rules}
 use Rattle.lists.proofs.Tests.{by}
 use Rattle.settling.specs.Answer.{all_number, all_offset, all_count, all_length}
 use Rattle.states.specs.Promise.{PromiseAll}

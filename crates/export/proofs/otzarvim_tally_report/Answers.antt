@@ -1,7 +1,6 @@
 -- `export::otzarvim_tally_report` meets its contract: the number and the length of what the report answers.
 use mathlib.Core.Path.{ap, ◌∙◌}
 use Rattle.lines.specs.Lines.{reported_number, reported_length}
-use borrow.Author.Rules.{rules}
 use Rattle.export.proofs.otzarvim_tally_report.Goals as goal
 
 pub returns : goal.returns

@@ -1,6 +1,5 @@
 -- `export::otzarvim_verdict` meets its contract: each part of the answer, and both rooms.
 use mathlib.Core.Path.{ap, subst, ◌∙◌}
-use borrow.Author.Rules.{rules}
 use Rattle.settling.specs.Answer.{verdict_number, answer_number, answer_offset, answer_verdict, answer_count, answer_length}
 use Rattle.states.specs.Promise.{Promise}
 use Rattle.export.proofs.otzarvim_verdict.Goals as goal

@@ -1,7 +1,6 @@
 -- `report::answer` meets its contract: the lines of a settled question, or of a refusal.
 use mathlib.Core.Path.{◌≡◌, refl, sym, ◌∙◌}
 use native.Mathlib.Omega.{arith}
-use borrow.Author.Rules.{rules}
 use Rattle.lists.proofs.Tests.{by}
 use Rattle.wire.specs.Bytes.{Bytes}
 use Rattle.wire.proofs.Laid.{said}

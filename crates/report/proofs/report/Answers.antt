@@ -3,7 +3,6 @@ use Prim.Native.Nat.{◌≤◌}
 use mathlib.Core.Path.{sym}
 use lib.ListN.{length}
 use lib.Seq.{length-take-le}
-use borrow.Author.Rules.{rules}
 use Rattle.lists.proofs.Tests.{by}
 use Rattle.pieces.proofs.Lines.{refused_fits}
 use Rattle.report.proofs.Reported.{end_inside, end_reads, end_refused, none_reported, as_reported, refusal_reported}
