@@ -4,7 +4,7 @@
 usage: answers.py CRATE [FUNCTION..]      at the top of the repository; FUNCTION as its folder below proofs/
 
 It asks the check for each goal's old and new name (rt check --generated DIR --old-names), and keeps each answer as it was but for names
-and paths. Answers that the check most likely finds by itself are left out, and kept in dropped.json beside the output of the check.
+and paths. Answers that the check most likely finds by itself are left out, and kept in port-dropped-CRATE.json in the folder for temporary files.
 """
 
 import json
@@ -13,6 +13,7 @@ import re
 import shutil
 import subprocess
 import sys
+import tempfile
 
 NAME = r"[^\s(){}\[\].;,@\"«»]+"
 TOKEN = re.compile(r"\s+|--[^\n]*|\"[^\"\n]*\"|" + NAME + r"|.", re.S)
@@ -931,7 +932,7 @@ def names_of(crate_dir, to):
 def main(argv):
     crate, only = argv[0], argv[1:]
     top = os.path.join("crates", crate)
-    data = names_of(top, f"/tmp/port-names-{crate}")
+    data = names_of(top, os.path.join(tempfile.gettempdir(), f"port-names-{crate}"))
     proofs = os.path.join(top, "proofs")
     dropped = {}
     for folder, dirs, files in os.walk(proofs):
@@ -962,7 +963,7 @@ def main(argv):
             os.rmdir(folder)
         dropped[rel] = turner.dropped
         print("turned:", rel, *sorted(result))
-    with open(f"/tmp/port-dropped-{crate}.json", "w") as f:
+    with open(os.path.join(tempfile.gettempdir(), f"port-dropped-{crate}.json"), "w") as f:
         json.dump(dropped, f, ensure_ascii=False, indent=1)
 
 
