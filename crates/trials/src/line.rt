@@ -1,7 +1,8 @@
 // A line of output, gathered and then written at once.
-ghost use Rattle.std.specs.Prelude.{◌≡◌, [], ◌∷◌, OnOk};
+ghost use Rattle.std.specs.Prelude.{◌≡◌, [], ◌∷◌, OnOk, OnErr};
 ghost use Rattle.std.specs.Io.KnownBytes.{Appends};
 ghost use Rattle.io.specs.Digits.{last_digits};
+ghost use Rattle.intake.specs.Fronts.{AppendsFront};
 ghost use Rattle.trials.specs.Lines.{Sound, text_of, more, WithNumber};
 
 use std::io::{Result, Write};
@@ -75,14 +76,15 @@ impl Line {
         self.byte(b' ').text(&digits[..k])
     }
 
-    // Writes the line with its end.
+    // Writes the line with its end; at an error some front of it is written.
     pub fn write<W: Write>(self, to: &mut W) -> Result<()>
         requires { Sound self }
-        ensures { OnOk result (Appends (W.contents to.old) (W.contents to.new) (more (text_of self) (10 ∷ []))) }
+        ensures ok { OnOk result (Appends (W.contents to.old) (W.contents to.new) (more (text_of self) (10 ∷ []))) }
+        ensures err { OnErr result (AppendsFront (W.contents to.old) (W.contents to.new) (more (text_of self) (10 ∷ []))) }
     {
         let whole = self.byte(b'\n');
         let bytes = whole.bytes;
         let len = whole.len;
-        to.write_all(&bytes[..len])
+        intake::put(to, &bytes[..len])
     }
 }
