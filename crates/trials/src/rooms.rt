@@ -3,7 +3,7 @@ ghost use Rattle.std.specs.Prelude.{◌+◌, ◌%◌};
 ghost use Rattle.io.specs.Counts.{IsPrefixLen};
 ghost use Rattle.trials.specs.Rooms.{Each};
 
-// As many of the bytes as are asked for, or all. Both facts of `Counts` are asked where a front is lent.
+// As many of the bytes as are asked for, or all. Both facts of `IsPrefixLen` are asked where a front is lent.
 pub fn front_of_bytes(n: u32, s: &[u8]) -> usize
     ensures { IsPrefixLen result s.now }
 {
