@@ -13,19 +13,20 @@ c_tools
 rust_tools || die "no Rust compiler for x86-64"
 
 # The Rattle library and the program; elsewhere than on x86-64 also the same LLVM modules for this machine.
-here() { # NAME RT-WORDS
+here() { # NAME CRATE RT-WORDS
     caught "$out" "$@"
     "$kit_clang" --target="$machine-unknown-linux-gnu" -Wno-override-module -O3 -fPIC -c -x ir "$out/$1.ll" -o "$out/$1-here.o"
 }
 
 archive
 if [ "$machine" != x86_64 ]; then
-    here library staticlib export
-    rm -f "$target/stamp/otzarvim" # or it would not be compiled again
-    here program check otzarvim
+    # shellcheck disable=SC2086
+    here library export $archive_words
+    here program otzarvim run
 else
-    (cd "$root" && rt check otzarvim) >"$out/log" 2>&1 || { cat "$out/log"; die "the program is not proved"; }
+    (cd "$root/crates/otzarvim" && rt run </dev/null) >"$out/log" 2>&1 || { cat "$out/log"; die "the program is not proved"; }
 fi
+program=$root/crates/otzarvim/out/otzarvim
 
 # Compiles a plain version by gcc and by clang, whose object and prefix have the other name. Functions start at multiples of 64 bytes: else
 # what is linked before them moves them, and by that alone verdicts in plain Rust took up to 1.5 times as long on an Arm core.
@@ -126,7 +127,7 @@ END
     claims "${1:-$turn}" "${2:-$turns}" "${3:-}" $run "$out/x86_64/claims"
     printf '\nPrograms, with their start and end:\n\n'
     # shellcheck disable=SC2086
-    programs $((10 * ${2:-$turns})) "${3:-}" x86_64 "$target/bin/otzarvim" $run
+    programs $((10 * ${2:-$turns})) "${3:-}" x86_64 "$program" $run
     if [ "$machine" != x86_64 ]; then
         printf '\n## %s, without an emulator: the LLVM modules of the library and the program compiled for this machine\n\n' "$machine"
         "$out/here/harness" "${1:-0.01}" "${2:-21}" "${3:-}"

@@ -1,7 +1,7 @@
 #!/usr/bin/env bash
 # Proves and builds the library for C and Rust (target/lib/libotzarvim.a), builds the examples and the Rust crate over it, runs
 # them and the doc tests of the crate, and compares what they write with what stands beside them. With --unproved the library is compiled
-# from the same sources with no proof, for the gate, which proves them right after. See bindings/README.md.
+# from the same sources with no proof and with checks, for the gate, which proves them too. See bindings/README.md.
 set -euo pipefail
 root=$(cd "$(dirname "$0")/.." && pwd -P)
 . "$root/bindings/common.sh"
@@ -22,7 +22,7 @@ case "$*" in
 --unproved)
     lib=$out/unproved
     unproved "$lib"
-    say "target/bindings/unproved/libotzarvim.a compiled, and not proved"
+    say "target/bindings/unproved/libotzarvim.a compiled with checks, and not proved"
     ;;
 *) die "usage: bindings/check.sh [--unproved]" ;;
 esac

@@ -1,8 +1,8 @@
 # Shared by bindings/check.sh and bench/run.sh, which read it with `.`: how programs for x86-64 Linux are
 # built and run on this machine. On x86-64 they are built by the machine's own compilers and run as they are.
-# Elsewhere they are built by Debian's cross compiler and run under the emulator of the Rattle kit; for Rust,
-# which wants a library for x86-64 that rustup may be unable to fetch, Debian's compiler is unpacked below
-# target/, and programs with Rust's own `main` run under Debian's emulator, unpacked there too: the kit's
+# Elsewhere they are built by Debian's cross compiler and run under the emulator of a Rattle kit that has one; for Rust,
+# which wants a library for x86-64 that rustup may be unable to fetch, Debian's compiler is unpacked,
+# and programs with Rust's own `main` run under Debian's emulator, unpacked there too: the kit's
 # emulator cannot read /proc/self/maps, which such a program does when it starts.
 
 say() { printf '%s: %s\n' "$(basename "$0" .sh)" "$*"; }
@@ -12,9 +12,11 @@ die() {
 }
 
 target=$root/target
+# Where Debian's packages are unpacked: outside the checkout, in which rt ci refuses links, as packages have them.
+unpacked=${XDG_CACHE_HOME:-${HOME:-/tmp}/.cache}/otzarvim
 machine=$(uname -m)
-kit=$(dirname "$(dirname "$(rt doc)")")
-tools=$kit/on/$machine/toolchain
+kit=$(dirname "$(rt doc)")
+tools=$kit/toolchain
 triple=x86_64-unknown-linux-gnu
 
 # Runs a command as root: the installation of a Debian package.
@@ -38,7 +40,7 @@ c_tools() {
         nm=nm
         run=
         emulated="as they are"
-        command -v gcc >/dev/null || die "gcc is not on the path"
+        installed gcc gcc libc6-dev
         return
     fi
     gcc=x86_64-linux-gnu-gcc
@@ -53,7 +55,7 @@ c_tools() {
 # Sets `rustc`, `rustdoc` (for x86-64) and `run_rust`; fails where there is no way.
 rust_tools() {
     if [ "$machine" = x86_64 ]; then
-        command -v rustc >/dev/null || return 1
+        installed rustc rustc
         rustc="rustc --edition 2021"
         rustdoc="rustdoc --edition 2021"
         run_rust=
@@ -65,12 +67,12 @@ rust_tools() {
         rustdoc="rustdoc"
     else
         unpack_rust || return 1
-        libraries=$(dirname "$(find "$target/rust/root/usr/lib" -name 'librustc_driver-*.so' | head -n 1)")
-        rustc="env LD_LIBRARY_PATH=$libraries $target/rust/root/usr/bin/rustc --sysroot $target/rust/root/usr"
-        rustdoc="env LD_LIBRARY_PATH=$libraries $target/rust/root/usr/bin/rustdoc --sysroot $target/rust/root/usr"
+        libraries=$(dirname "$(find "$unpacked/root/usr/lib" -name 'librustc_driver-*.so' | head -n 1)")
+        rustc="env LD_LIBRARY_PATH=$libraries $unpacked/root/usr/bin/rustc --sysroot $unpacked/root/usr"
+        rustdoc="env LD_LIBRARY_PATH=$libraries $unpacked/root/usr/bin/rustdoc --sysroot $unpacked/root/usr"
     fi
     unpack qemu-user-static || return 1
-    run_rust="$target/rust/root/usr/bin/qemu-x86_64-static -L $sysroot"
+    run_rust="$unpacked/root/usr/bin/qemu-x86_64-static -L $sysroot"
     rustc="$rustc --edition 2021 --target $triple -C linker=$gcc"
     rustdoc="$rustdoc --edition 2021 --target $triple -C linker=$gcc"
 }
@@ -80,24 +82,24 @@ apt() { # get|cache WORDS
     local tool=$1
     shift
     "apt-$tool" -qq -o APT::Architecture="$(dpkg --print-architecture)" -o APT::Architectures="$(dpkg --print-architecture),amd64" \
-        -o Dir::State="$target/rust/apt" -o Dir::State::status=/dev/null -o Dir::Cache="$target/rust/apt/cache" \
+        -o Dir::State="$unpacked/apt" -o Dir::State::status=/dev/null -o Dir::Cache="$unpacked/apt/cache" \
         -o APT::Sandbox::User="$(id -un)" "$@"
 }
 
-# Unpacks packages below target/rust/root, each once.
+# Unpacks packages below $unpacked/root, each once.
 unpack() { # PACKAGE..
     local p
-    mkdir -p "$target/rust/deb" "$target/rust/root" "$target/rust/done"
+    mkdir -p "$unpacked/deb" "$unpacked/root" "$unpacked/done"
     for p in "$@"; do
-        [ ! -e "$target/rust/done/$p" ] || continue
-        if [ ! -d "$target/rust/apt/lists" ]; then
-            mkdir -p "$target/rust/apt/lists/partial" "$target/rust/apt/cache/archives/partial"
-            apt get update >/dev/null 2>&1 || { rm -rf "$target/rust/apt"; return 1; }
+        [ ! -e "$unpacked/done/$p" ] || continue
+        if [ ! -d "$unpacked/apt/lists" ]; then
+            mkdir -p "$unpacked/apt/lists/partial" "$unpacked/apt/cache/archives/partial"
+            apt get update >/dev/null 2>&1 || { rm -rf "$unpacked/apt"; return 1; }
         fi
-        say "unpacking $p below target/rust"
-        rm -f "$target"/rust/deb/*.deb
-        (cd "$target/rust/deb" && apt get download "$p" >/dev/null) && dpkg -x "$target"/rust/deb/*.deb "$target/rust/root" && touch "$target/rust/done/$p" || return 1
-        rm -f "$target"/rust/deb/*.deb
+        say "unpacking $p below $unpacked"
+        rm -f "$unpacked"/deb/*.deb
+        (cd "$unpacked/deb" && apt get download "$p" >/dev/null) && dpkg -x "$unpacked"/deb/*.deb "$unpacked/root" && touch "$unpacked/done/$p" || return 1
+        rm -f "$unpacked"/deb/*.deb
     done
 }
 
@@ -111,12 +113,14 @@ unpack_rust() {
     unpack "$(depended "$driver" libllvm)"
 }
 
-# The archive for C and Rust, proved and compiled: target/lib/libotzarvim.a. What it stands on is proved before, on all cores, since
-# rt staticlib takes one crate after another.
+# The words by which rt makes the archive: for every x86-64 processor, since an archive, other than a program, does not look at what it runs on.
+archive_words="lib --cpu x86-64"
+
+# The archive for C and Rust, proved and compiled: target/lib/libotzarvim.a. What it stands on is proved before, one crate after another.
 archive() {
     mkdir -p "$target/lib"
-    # shellcheck disable=SC2046
-    (cd "$root" && rt check $(sed -n 's/^export: *//p' crates.txt) && rt staticlib export) >"$target/lib/log" 2>&1 ||
+    # shellcheck disable=SC2086
+    (cd "$root/crates/export" && rt $archive_words) >"$target/lib/log" 2>&1 ||
         { cat "$target/lib/log"; die "the library is not proved"; }
-    cp "$target/staticlib/libexport.a" "$target/lib/libotzarvim.a"
+    cp "$root/crates/export/out/libexport.a" "$target/lib/libotzarvim.a"
 }

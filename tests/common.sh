@@ -24,34 +24,15 @@ build() {
     independent=$scratch/independent
 }
 
-# The folder of the kit's toolchain for this machine, found from rt as rt itself does.
-toolchain() {
-    rt=$(command -v rt) || die "rt is not on the path"
-    while [ -L "$rt" ]; do
-        link=$(readlink "$rt")
-        case $link in
-        /*) rt=$link ;;
-        *) rt=$(dirname "$rt")/$link ;;
-        esac
-    done
-    kit=${RATTLE_HOME:-$(cd "$(dirname "$rt")/.." && pwd -P)}
-    echo "$kit/on/$(uname -m)/toolchain"
-}
-
-# copy_program NAME [FILE]: copies a program out of the repository: target/bin/NAME, as `rt check NAME`
-# leaves it, or the file that is given.
+# copy_program NAME [FILE]: copies a program out of the repository: crates/NAME/out/NAME, as `rt run` in
+# crates/NAME leaves it, or the file that is given.
 copy_program() {
-    program=${2:-$root/target/bin/$1}
-    [ -f "$program" ] || die "there is no $program: build it with rt check $1"
+    program=${2:-$root/crates/$1/out/$1}
+    [ -f "$program" ] || die "there is no $program: build it with rt run </dev/null in crates/$1"
     mkdir "$scratch/run"
     cp "$program" "$scratch/run/program"
     chmod 711 "$scratch"
     chmod 755 "$scratch/run" "$scratch/run/program"
-    tools=$(toolchain)
-    loader=$tools/lib/ld-linux-x86-64.so.2
-    emulator=$tools/bin/qemu-x86_64
-    [ -x "$emulator" ] || emulator=''
-    for word in $(env | sed -n 's/^\(QEMU_[A-Za-z0-9_]*\)=.*/\1/p'); do unset "$word"; done
     drop=''
     if [ "$(id -u)" = 0 ]; then
         drop='setpriv --reuid=65534 --regid=65534 --clear-groups --no-new-privs'
@@ -59,13 +40,12 @@ copy_program() {
     limit=''
 }
 
-# Runs the copy as rt runs programs, under the kit's loader and C library, under its emulator on a
-# machine that isn't x86-64, and as nobody where the caller is root; its input and output are the
+# Runs the copy as rt runs programs, as nobody where the caller is root; its input and output are the
 # caller's. Where `limit` is set, for so many seconds at most.
 run_program() {
     (
         cd "$scratch/run" || exit
         # shellcheck disable=SC2086
-        exec $drop ${limit:+timeout "$limit"} ${emulator:+"$emulator"} "$loader" --library-path "$tools/lib" ./program
+        exec $drop ${limit:+timeout "$limit"} ./program
     )
 }

@@ -3,7 +3,7 @@
 #
 #   tests/long.sh SEED CALLS [LETTERS]
 #
-# The program is target/bin/trials, as `rt check trials` leaves it, or the file that TRIALS names, and
+# The program is crates/trials/out/trials, as `rt run` there leaves it, or the file that TRIALS names, and
 # runs as rt runs programs. Exit status 1 where a line differs; the batch, the lines expected and those
 # written are then left in target/long.
 set -eu

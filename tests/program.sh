@@ -4,7 +4,7 @@
 #
 #   tests/program.sh [SEED] [CASES]
 #
-# The program is target/bin/otzarvim, as `rt check otzarvim` leaves it, or the file that OTZARVIM names,
+# The program is crates/otzarvim/out/otzarvim, as `rt run` there leaves it, or the file that OTZARVIM names,
 # and runs as rt runs programs, JOBS at a time (2 unless set). Each case is read from a file; some also
 # come through a pipe in pieces, with pauses. Exit status 1 at the first difference: the case is shown,
 # and left in target/program.
@@ -106,7 +106,7 @@ done
 [ "$count" -lt 1 ] || in_pieces 1 $(seq 82 | sed 's/.*/1/')
 echo "$fed cases in pieces, as expected"
 
-# No input at all, in each way in which there can be none, and one without end.
+# No input at all, and one without end; and inputs that can't be read at all: then the program writes nothing and ends with status 1.
 echo 'refused 2' >"$scratch/refused"
 # refused INPUT STATUS
 refused() {
@@ -115,14 +115,25 @@ refused() {
         exit 1
     fi
 }
-ended=0
-run_program <&- >"$scratch/wrote" 2>&1 || ended=$?
-refused closed "$ended"
-for input in /dev/null / /dev/zero; do
+# unread INPUT STATUS
+unread() {
+    if [ "$2" -ne 1 ] || [ -s "$scratch/wrote" ] || [ ! -s "$scratch/said" ]; then
+        echo "standard input $1: NOT told as an error, but status $2 and: $(head -c 500 "$scratch/wrote")" >&2
+        exit 1
+    fi
+}
+for input in /dev/null /dev/zero; do
+    ended=0
     run_program <"$input" >"$scratch/wrote" 2>&1 || ended=$?
     refused "$input" "$ended"
 done
-echo "standard input closed, empty, a folder and endless: refused 2"
+ended=0
+run_program <&- >"$scratch/wrote" 2>"$scratch/said" || ended=$?
+unread closed "$ended"
+ended=0
+run_program </ >"$scratch/wrote" 2>"$scratch/said" || ended=$?
+unread / "$ended"
+echo "standard input empty and endless: refused 2; closed and a folder: an error, and nothing written"
 
 echo "the tools' tests with the program:"
 OTZARVIM=$scratch/run/program python3 -m unittest discover -s "$root/tools"

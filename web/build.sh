@@ -10,19 +10,20 @@ work=$target/web-work
 most=65536 # bytes of the library
 
 # The functions that the header promises, and nothing else; the stack stands first, so that one that is too deep ends the call.
-caught "$work" library staticlib export
+# shellcheck disable=SC2086
+caught "$work" library export $archive_words
 "$kit_clang" --target=wasm32-unknown-unknown -Wno-override-module -mbulk-memory -O3 -c -x ir "$work/library.ll" -o "$work/library.o"
-ln -sf "$tools/bin/ld.lld" "$work/wasm-ld"
+ln -sf "$tools/bin/ld.lld" "$room/wasm-ld"
 grep -o '^uint8_t otzarvim_[a-z_]*' "$root/include/otzarvim.h" | cut -d' ' -f2 | sort >"$work/functions"
 sed 's/^/--export=/' "$work/functions" |
-    xargs "$work/wasm-ld" --no-entry --strip-all --stack-first -z stack-size=98304 "$work/library.o" -o "$work/otzarvim.wasm"
+    xargs "$room/wasm-ld" --no-entry --strip-all --stack-first -z stack-size=98304 "$work/library.o" -o "$work/otzarvim.wasm"
 size=$(wc -c <"$work/otzarvim.wasm")
 [ "$size" -lt "$most" ] || die "otzarvim.wasm has $size bytes: fewer than $most are allowed"
 
-# CodeMirror and dagre, from Debian's packages: as they are installed, or else unpacked below target/.
+# CodeMirror and dagre, from Debian's packages: as they are installed, or else unpacked outside the checkout.
 from_debian() { # PACKAGE FILE FOLDER
     local file=$2
-    [ -e "$file" ] || { unpack "$1" && file=$target/rust/root$2; } || die "no $2: Debian's package $1 could not be had"
+    [ -e "$file" ] || { unpack "$1" && file=$unpacked/root$2; } || die "no $2: Debian's package $1 could not be had"
     cp -L "$file" "$3/"
 }
 

@@ -13,7 +13,7 @@ from .formula import Formula, Row
 from .mistakes import Mistake, Place
 from .model import Model, Transition
 from .paper import ALL_NEXTS, NO_BOUND, PROPOSITIONS, SOME_NEXTS, UNTILS, Operator
-from .running import ROOT, run
+from .running import ROOT, WORDS, built, run, said_of
 
 INFINITE = 2**64 - 1
 CLAIM = 16
@@ -132,9 +132,9 @@ def verdict(message: bytes, claims: bytes, program: Optional[str] = None) -> Tup
         if len(data) > MOST_MESSAGE:
             raise Mistake(Place(what), f"{len(data):,} bytes: the program {TRIALS} takes {MOST_MESSAGE:,}")
     given = program or os.environ.get(VARIABLE)
-    found = Path(given) if given else ROOT / "target" / "bin" / TRIALS
+    found = Path(given) if given else built(ROOT, TRIALS, TRIALS)
     if not found.is_file():
-        raise Mistake(Place(str(found)), f"there is no program here: 'rt check {TRIALS}' builds it")
+        raise Mistake(Place(str(found)), f"there is no program here: {said_of(WORDS, TRIALS)} builds it")
     body = b"".join(struct.pack(">I", len(data)) + data for data in (message, claims))
     answer = run(found, b"C" + struct.pack(">I", len(body)) + body).split()
     # from request 4 on an offset stands behind the number

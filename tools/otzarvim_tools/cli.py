@@ -280,7 +280,7 @@ def _add_library(command: argparse.ArgumentParser) -> None:
 
 
 def _add_asked(command: argparse.ArgumentParser) -> None:
-    command.add_argument("--program", metavar="PATH", help=f"ask this program (else the variable {VARIABLE} names it, else it is target/bin/otzarvim, built if it is missing)")
+    command.add_argument("--program", metavar="PATH", help=f"ask this program (else the variable {VARIABLE} names it, else it is crates/otzarvim/out/otzarvim, built if it is missing)")
     _add_library(command)
     command.add_argument("--by", choices=(PROGRAM, LIBRARY), help="who is to answer (else the program, and the library what the program has no room for)")
 
@@ -323,7 +323,7 @@ def _add_files(add: Add) -> None:
     compiles.add_argument("-o", dest="output", metavar="FILE", required=True, help="where the bytes go; - for standard output")
     compiles.add_argument("--raw", action="store_true", help=_RAW)
 
-    trials = f"the program trials to ask (else the variable {claims.VARIABLE}, else target/bin/{claims.TRIALS})"
+    trials = f"the program trials to ask (else the variable {claims.VARIABLE}, else crates/{claims.TRIALS}/out/{claims.TRIALS})"
     certifies = add("certify", "write claims about a question's graph that the checker accepts: a value and a rank for each node", certify)
     verifies = add("verify", "ask the checker whether it accepts such claims", verify)
     for command in (certifies, verifies):

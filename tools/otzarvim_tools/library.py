@@ -18,10 +18,11 @@ from typing import List, Optional, Union
 from .answers import Answer, Refused
 from .mistakes import Mistake, Place
 from .paper import GRAPH_NODES, MOST_GRAPH, MOST_TEXT, OK
-from .running import ROOT, build, command, environment, kit_tools
+from .running import ROOT, build, built, command, environment, kit_tools, said_of
 
 VARIABLE = "OTZARVIM_LIBRARY"
 CRATE = "export"
+WORDS = "lib --cpu x86-64"  # of rt, which makes the archive, for every x86-64 processor
 _ASKED = ">III"
 _ANSWERED = ">BQIIIII"
 _LONGEST_MODEL, _LONGEST_FORMULA = 2_097_152, 4_096
@@ -157,12 +158,12 @@ def open_library(option: Optional[str] = None, root: Path = ROOT) -> Library:
 
 def _find(root: Path) -> Path:
     """The repository's library, linked again where its archive is newer."""
-    archive = root / "target" / "staticlib" / f"lib{CRATE}.a"
+    archive = built(root, CRATE, f"lib{CRATE}.a")
     made = root / "target" / "otz" / ("libotzarvim.so" if os.uname().machine == "x86_64" else "bridge")
     if not archive.is_file() and not made.is_file():
-        build(root, ["staticlib", CRATE], "The library")
+        build(root, WORDS, CRATE, "The library")
         if not archive.is_file():
-            raise Mistake(Place(str(archive)), f"'rt staticlib {CRATE}' left no archive here")
+            raise Mistake(Place(str(archive)), f"{said_of(WORDS, CRATE)} left no archive here")
     if archive.is_file() and (not made.is_file() or made.stat().st_mtime < archive.stat().st_mtime):
         link(root, archive, made)
     return made

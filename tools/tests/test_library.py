@@ -123,13 +123,14 @@ class Building(Surroundings):
     def setUp(self):
         super().setUp()
         os.environ.pop(library.VARIABLE, None)
-        tools = f"kit/on/{os.uname().machine}/toolchain"
+        tools = "kit/toolchain"
+        (self.folder / "crates/export").mkdir(parents=True)
         for tool in ("ld.lld", "clang"):
             # says what it was asked, and leaves what it was to make
             self.script(f"{tools}/bin/{tool}", '#!/bin/sh\necho "${0##*/} $*" >>"$LOG"\nwhile [ "$1" != -o ]; do shift; done\n: >"$2"\n')
-        self.script("kit/bin/rt", '#!/bin/sh\necho "$@" >>"$LOG"; mkdir -p target/staticlib; : >target/staticlib/libexport.a\n')
+        self.script("kit/bin/rt", '#!/bin/sh\necho "$@" >>"$LOG"; mkdir -p out; : >out/libexport.a\n')
         self.log = self.folder / "log"
-        os.environ.update(LOG=str(self.log), RATTLE_HOME=str(self.folder / "kit"), PATH=f"{self.folder / 'kit/bin'}{os.pathsep}{os.defpath}")
+        os.environ.update(LOG=str(self.log), PATH=f"{self.folder / 'kit/bin'}{os.pathsep}{os.defpath}")
 
     def find(self):
         with mock.patch("sys.stderr", self.quiet):
@@ -144,13 +145,13 @@ class Building(Surroundings):
         native = os.uname().machine == "x86_64"
         made = self.find()
         self.assertEqual(made, self.folder / "target/otz" / ("libotzarvim.so" if native else "bridge"))
-        self.assertEqual(self.asked(), ["staticlib", "ld.lld"] if native else ["staticlib", "clang", "ld.lld"])
-        self.assertIn("rt staticlib export", self.quiet.getvalue())
+        self.assertEqual(self.asked(), ["lib", "ld.lld"] if native else ["lib", "clang", "ld.lld"])
+        self.assertIn("'rt lib --cpu x86-64' in crates/export", self.quiet.getvalue())
         self.find()
         self.assertEqual(self.asked(), [])
         # a newer archive is linked again, and proved by whoever made it
         after = made.stat().st_mtime + 5
-        os.utime(self.folder / "target/staticlib/libexport.a", (after, after))
+        os.utime(self.folder / "crates/export/out/libexport.a", (after, after))
         self.find()
         self.assertEqual(self.asked()[-1], "ld.lld")
 
@@ -165,12 +166,11 @@ class Building(Surroundings):
 
     def test_failures(self):
         archive, made = Path(self.write("libexport.a", "")), self.folder / "out" / "x.so"
-        self.script(f"kit/on/{os.uname().machine}/toolchain/bin/ld.lld", "#!/bin/sh\necho no >&2\nexit 5\n")
+        self.script("kit/toolchain/bin/ld.lld", "#!/bin/sh\necho no >&2\nexit 5\n")
         self.mistake(lambda: library.link(ROOT, archive, made), "ended with status 5: no")
         self.assertFalse(made.exists())
         self.script("kit/bin/rt", "#!/bin/sh\nexit 0\n")
-        self.mistake(self.find, "'rt staticlib export' left no archive here")
-        del os.environ["RATTLE_HOME"]
+        self.mistake(self.find, "'rt lib --cpu x86-64' in crates/export left no archive here")
         os.environ["PATH"] = str(self.folder)
         self.mistake(lambda: library.link(ROOT, archive, made), "install the Rattle kit")
         self.mistake(self.find, "the library isn't built, and there is no 'rt'")

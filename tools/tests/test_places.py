@@ -10,7 +10,7 @@ ROOT = Path(__file__).resolve().parents[2]
 CHAIN = re.compile(r"(?:\.before\s*){5,}")
 
 # The definition of a place: its type leads from a place, or from a place and what it needs, to another.
-DEFINED = re.compile(r"^\s*abbrev (?:pub )?(\S+) : .*→ (?:tie|lts)\.\S+.*\n\s*\1 .*=", re.MULTILINE)
+DEFINED = re.compile(r"^\s*abbrev (?:pub )?(\S+) : .*→ (?:goal|tie|lts)\.\S+.*\n\s*\1 .*=", re.MULTILINE)
 
 
 def chains(text):

@@ -1,6 +1,6 @@
 """The program itself against the stand-in. Only where the variable OTZARVIM names the program:
 
-    OTZARVIM=target/bin/otzarvim python3 -m unittest discover -s tools
+    OTZARVIM=crates/otzarvim/out/otzarvim python3 -m unittest discover -s tools
 """
 
 import os

@@ -8,7 +8,7 @@ ROOT = Path(__file__).resolve().parents[2]
 PROMISES = (ROOT / "docs" / "PROMISES.md").read_text()
 
 # Stand for each message's own name, or for several names.
-PATTERNS = {"readX", "writeX", "front_of_"}
+PATTERNS = {"read_X", "write_X", "front_of_"}
 
 
 def sources():

@@ -39,8 +39,8 @@ ENTRIES = {
 
 def imported(line):
     """The file that a `use` line names, and the names it brings in: {name: file}, {alias: file}."""
-    line = re.sub(r"^(?:ghost |pub |unfoldable )*use ", "", line.strip()).rstrip(";")
-    match = re.match(r"Rattle·(\w+)(?:·specs)?\.specs\.(\w+)(?:\.\{(.*)\}| as (\S+))$", line)
+    line = re.sub(r"^(?:ghost |pub |unfoldable )*use ", "", " ".join(line.split())).rstrip(";")
+    match = re.match(r"Rattle\.(\w+)\.specs\.(\w+)(?:\.\{(.*)\}| as (\S+))$", line)
     if not match:
         return {}, {}
     crate, module, names, alias = match.groups()
@@ -54,7 +54,8 @@ class File:
     def __init__(self, text):
         self.lines, self.names, self.aliases = {}, {}, {}
         current = []
-        for line in text.splitlines():
+        # an import may take several lines
+        for line in re.sub(r"(?m)^((?:pub |unfoldable )*use [^\n{]*\{[^}]*)\}", lambda found: " ".join(found[0].split()), text).splitlines():
             line = line.strip()
             if not line or line.startswith("--") or re.match(r"(?:pub )?mod |module |infix", line):
                 continue
@@ -75,14 +76,14 @@ FILES = {(path.parts[-3], path.stem): File(path.read_text()) for path in ROOT.gl
 def cited(text, names, aliases):
     """The definitions that a text names, as (file, name)."""
     found = {(names[token], token) for token in TOKEN.findall(text) if token in names}
-    for alias, name in re.findall(r"([\w-]+)\.([^\s(){}\[\],;]+)", text):
+    for alias, name in re.findall(r"([\w-]+)\.([^\s(){}\[\],;.]+)", text):
         if alias in aliases:
             found.add((aliases[alias], name))
     for name, file in names.items():
-        if name.startswith("_") and name.strip("_") in TOKEN.findall(text):
+        if name.startswith("◌") and name.strip("◌") in TOKEN.findall(text):
             found.add((file, name))
     if "= do" in text:
-        found |= {(("wire", "Read"), "_>>=_"), (("wire", "Read"), "_>>_")}
+        found |= {(("wire", "Read"), "◌>>=◌"), (("wire", "Read"), "◌>>◌")}
     return found
 
 
@@ -92,7 +93,7 @@ def contracts():
         for path in (ROOT / "crates" / crate / "src").glob("*.rt"):
             text = path.read_text()
             names, aliases = {}, {}
-            for line in re.findall(r"^ghost use .*$", text, re.M):
+            for line in re.findall(r"^ghost use [^;]*;", text, re.M):
                 brought = imported(line)
                 names.update(brought[0])
                 aliases.update(brought[1])

@@ -1,28 +1,27 @@
 // Whether an edge backs the value that its source claims.
-ghost use mathlib.Core.Path.{_≡_};
-ghost use mathlib.Core.Bool.{true, false};
-ghost use Prim.Native.Nat.{_+_, _*_, _<_, _≤_};
-ghost use lib.ListN.{length};
-ghost use Rattle·lists.specs.Lists.{_∈_};
-ghost use Rattle·value.specs.Value.{plus};
-ghost use Rattle·value.specs.Stored.{stored};
-ghost use Rattle·wire.specs.Bytes.{number};
-ghost use Rattle·wire.specs.Layout.{items, Sound};
-ghost use Rattle·rules.specs.Graph.{Target};
-ghost use Rattle·rules.specs.Rounds as rules;
-ghost use Rattle·graph.specs.Format.{targetCountAt, nodeAt};
-ghost use Rattle·graph.specs.Layouts.{targetLayout, hyperLayout, coverLayout, TargetOk, HyperOk, CoverOk};
-ghost use Rattle·support.specs.Claims.{claimWidth, claimedValue, claimedRank};
-ghost use Rattle·support.specs.Backing.{HyperBacks, CoverBacks};
-use value::Bound;
-use value::Value;
+#![tactic(auto)]
+
+ghost use Rattle.std.specs.Prelude.{◌≡◌, true, false, ◌+◌, ◌*◌, ◌<◌, ◌≤◌, length};
+ghost use Rattle.lists.specs.Lists.{◌∈◌};
+ghost use Rattle.value.specs.Value.{plus};
+ghost use Rattle.value.specs.Stored.{stored};
+ghost use Rattle.wire.specs.Bytes.{number};
+ghost use Rattle.wire.specs.Layout.{items, Sound};
+ghost use Rattle.rules.specs.Graph.{Target};
+ghost use Rattle.rules.specs.Rounds as rules;
+ghost use Rattle.graph.specs.Format.{target_count_at, node_at};
+ghost use Rattle.graph.specs.Layouts.{target_layout, hyper_layout, cover_layout, TargetOk, HyperOk, CoverOk};
+ghost use Rattle.support.specs.Claims.{claim_width, claimed_value, claimed_rank};
+ghost use Rattle.support.specs.Backing.{HyperBacks, CoverBacks};
+
+use value::{Bound, Value};
 use wire::Width;
 
 // Weight plus claimed value of the target at a position.
 fn target_sum(s: &[u8], n: usize, claims: &[u8], at: usize) -> Value
-    requires { ⌜ TargetOk (now s) n at ⌝ }
-    requires { ⌜ n * claimWidth ≤ length (now claims) ⌝ }
-    ensures { λ r. ⌜ r .0 ≡ stored (plus (number 4 (now (s .entry)) at) (claimedValue (now (claims .entry)) (number 2 (now (s .entry)) (at + nodeAt)))) ⌝ }
+    requires target_ok { TargetOk s.now n at }
+    requires claim_width_in_bounds { n * claim_width ≤ length claims.now }
+    ensures { result.0 ≡ stored (plus (number 4 s.now at) (claimed_value claims.now (number 2 s.now (at + node_at)))) }
 {
     let weight = wire::number_at(s, at, Width::Four);
     let node = wire::number_at(s, at + graph::NODE_AT, Width::Two) as usize;
@@ -32,9 +31,9 @@ fn target_sum(s: &[u8], n: usize, claims: &[u8], at: usize) -> Value
 
 // The greatest weight plus claimed value over k targets at a position; 0 with none. Once it is infinite the targets left are not read.
 fn worst(s: &[u8], n: usize, claims: &[u8], k: u32, at: usize) -> Value
-    requires { ⌜ Sound (targetLayout (now s) n) k at ⌝ }
-    requires { ⌜ n * claimWidth ≤ length (now claims) ⌝ }
-    ensures { λ r. ⌜ r .0 ≡ stored (rules.worst (claimedValue (now (claims .entry))) (items (targetLayout (now (s .entry)) n) k at)) ⌝ }
+    requires sound { Sound (target_layout s.now n) k at }
+    requires claim_width_in_bounds { n * claim_width ≤ length claims.now }
+    ensures { result.0 ≡ stored (rules.worst (claimed_value claims.now) (items (target_layout s.now n) k at)) }
 {
     let mut most = Value(0);
     let mut i = k;
@@ -53,10 +52,10 @@ fn worst(s: &[u8], n: usize, claims: &[u8], k: u32, at: usize) -> Value
 
 // Whether all of k targets at a position have a rank below one.
 fn ranks_below(s: &[u8], n: usize, claims: &[u8], rank: u64, k: u32, at: usize) -> bool
-    requires { ⌜ Sound (targetLayout (now s) n) k at ⌝ }
-    requires { ⌜ n * claimWidth ≤ length (now claims) ⌝ }
-    ensures { λ r. ⌜ (r ≡ true → (t : Target) → t ∈ items (targetLayout (now (s .entry)) n) k at → claimedRank (now (claims .entry)) (t .node) < rank)
-        × (r ≡ false → ¬ ((t : Target) → t ∈ items (targetLayout (now (s .entry)) n) k at → claimedRank (now (claims .entry)) (t .node) < rank)) ⌝ }
+    requires sound { Sound (target_layout s.now n) k at }
+    requires claim_width_in_bounds { n * claim_width ≤ length claims.now }
+    ensures { (result ≡ true → (t : Target) → t ∈ items (target_layout s.now n) k at → claimed_rank claims.now t.node < rank)
+        × (result ≡ false → ¬ ((t : Target) → t ∈ items (target_layout s.now n) k at → claimed_rank claims.now t.node < rank)) }
 {
     let mut i = k;
     let mut p = at;
@@ -74,11 +73,11 @@ fn ranks_below(s: &[u8], n: usize, claims: &[u8], rank: u64, k: u32, at: usize) 
 
 // Whether the hyperedge of k targets at a position backs its source.
 pub fn hyper_backs(s: &[u8], n: usize, claims: &[u8], k: u32, at: usize) -> bool
-    requires { ⌜ HyperOk (now s) n at ⌝ }
-    requires { ⌜ k ≡ number 2 (now s) (at + targetCountAt) ⌝ }
-    requires { ⌜ n * claimWidth ≤ length (now claims) ⌝ }
-    ensures { λ r. ⌜ (r ≡ true → HyperBacks (claimedValue (now (claims .entry))) (claimedRank (now (claims .entry))) (hyperLayout (now (s .entry)) n .item at))
-        × (r ≡ false → ¬ HyperBacks (claimedValue (now (claims .entry))) (claimedRank (now (claims .entry))) (hyperLayout (now (s .entry)) n .item at)) ⌝ }
+    requires hyper_ok { HyperOk s.now n at }
+    requires k_value { k ≡ number 2 s.now (at + target_count_at) }
+    requires claim_width_in_bounds { n * claim_width ≤ length claims.now }
+    ensures { (result ≡ true → HyperBacks (claimed_value claims.now) (claimed_rank claims.now) ((hyper_layout s.now n).item at))
+        × (result ≡ false → ¬ HyperBacks (claimed_value claims.now) (claimed_rank claims.now) ((hyper_layout s.now n).item at)) }
 {
     let source = wire::number_at(s, at, Width::Two) as usize;
     let claimed = claimed::value_of(n, claims, source);
@@ -96,10 +95,10 @@ pub fn hyper_backs(s: &[u8], n: usize, claims: &[u8], k: u32, at: usize) -> bool
 
 // Whether the cover edge at a position backs its source.
 pub fn cover_backs(s: &[u8], n: usize, claims: &[u8], at: usize) -> bool
-    requires { ⌜ CoverOk (now s) n at ⌝ }
-    requires { ⌜ n * claimWidth ≤ length (now claims) ⌝ }
-    ensures { λ r. ⌜ (r ≡ true → CoverBacks (claimedValue (now (claims .entry))) (claimedRank (now (claims .entry))) (coverLayout (now (s .entry)) n .item at))
-        × (r ≡ false → ¬ CoverBacks (claimedValue (now (claims .entry))) (claimedRank (now (claims .entry))) (coverLayout (now (s .entry)) n .item at)) ⌝ }
+    requires cover_ok { CoverOk s.now n at }
+    requires claim_width_in_bounds { n * claim_width ≤ length claims.now }
+    ensures { (result ≡ true → CoverBacks (claimed_value claims.now) (claimed_rank claims.now) ((cover_layout s.now n).item at))
+        × (result ≡ false → ¬ CoverBacks (claimed_value claims.now) (claimed_rank claims.now) ((cover_layout s.now n).item at)) }
 {
     let source = wire::number_at(s, at, Width::Two) as usize;
     let bound = Bound::coded(wire::number_at(s, at + graph::COVER_BOUND_AT, Width::Four));

@@ -1,146 +1,146 @@
 -- The bytes of cover edges, state by state and row by row. Assumes nothing.
-use Prim.Native.Nat.{ℕ, suc, _+_, _*_, _-_, _<_, _≤_}
-use mathlib.Core.List.{List, [], _∷_, _++_, append-nil}
+use Prim.Native.Nat.{ℕ, suc, ◌+◌, ◌*◌, ◌-◌, ◌<◌, ◌≤◌}
+use mathlib.Core.List.{List, [], ◌∷◌, ◌++◌, append-nil}
 use mathlib.Core.Bool.{false}
-use mathlib.Core.Path.{_≡_, ap, subst, _∙_}
-use native.Mathlib.Nat.{mul-le-mul-left, mul-suc}
+use mathlib.Core.Path.{◌≡◌, ap, subst, ◌∙◌}
+use native.Mathlib.Nat.{mul-le-mul_left, mul-suc}
 use native.Mathlib.Numerals.{add-one}
 use native.Mathlib.Omega.{arith}
 use lib.ListN.{length, length-append}
-use Rattle·lists.specs.Making.{span}
-use Rattle·value.specs.declared.Bound.{Bound}
-use Rattle·value.specs.Coded.{codeOf}
-use Rattle·wire.specs.Bytes.{bytes}
-use Rattle·wire.specs.Laid.{Laid}
-use Rattle·wire.specs.Layout.{items}
-use Rattle·wire.specs.Write.{writeAll}
-use Rattle·wire.proofs.Bytes.{length-bytes}
-use Rattle·wire.proofs.Laid.{Left, all-left, none-left, left-fits, left-then}
-use Rattle·wire.proofs.Layouts.{items-more}
-use Rattle·graph.specs.Format.{coverWidth}
-use Rattle·graph.specs.Write.{writeCover}
-use Rattle·syntax.specs.Format.{formulaHeader, rowWidth}
-use Rattle·syntax.specs.declared.Quantifier.{Quantifier}
-use Rattle·syntax.specs.declared.Row.{Row}
-use Rattle·syntax.specs.declared.Row.the-variants.{Until}
-use Rattle·syntax.specs.Layouts.{rowAt, rowLayout}
-use Rattle·reduction.specs.Built.{isUntil, untils}
-use Rattle·transitions.specs.Held.{heldRows, HoldsRows}
-use Rattle·records.specs.Bytes.{coverBytes, coversFrom, coversOf}
-use Rattle·transitions.proofs.Accepted.{rows-length}
-use Rattle·transitions.proofs.Counting.{passing-here, passing-there}
-use Rattle·lists.proofs.Making.{span-agree}
-use Rattle·wire.proofs.Written.{span-written}
-use Rattle·sizing.proofs.Untils.{other-row}
+use Rattle.lists.specs.Making.{span}
+use Rattle.value.specs.declared.Bound.{Bound}
+use Rattle.value.specs.Coded.{code_of}
+use Rattle.wire.specs.Bytes.{bytes}
+use Rattle.wire.specs.Laid.{Laid}
+use Rattle.wire.specs.Layout.{items}
+use Rattle.wire.specs.Write.{write_all}
+use Rattle.wire.proofs.Bytes.{length_bytes}
+use Rattle.wire.proofs.Laid.{Left, all_left, none_left, left_fits, left_then}
+use Rattle.wire.proofs.Layouts.{items_more}
+use Rattle.graph.specs.Format.{cover_width}
+use Rattle.graph.specs.Write.{write_cover}
+use Rattle.syntax.specs.Format.{formula_header, row_width}
+use Rattle.syntax.specs.declared.Quantifier.{Quantifier}
+use Rattle.syntax.specs.declared.Row.{Row}
+use Rattle.syntax.specs.declared.Row.TheVariants.{Until}
+use Rattle.syntax.specs.Layouts.{row_at, row_layout}
+use Rattle.reduction.specs.Built.{is_until, untils}
+use Rattle.transitions.specs.Held.{held_rows, HoldsRows}
+use Rattle.records.specs.Bytes.{cover_bytes, covers_from, covers_of}
+use Rattle.transitions.proofs.Accepted.{rows_length}
+use Rattle.transitions.proofs.Counting.{passing_here, passing_there}
+use Rattle.lists.proofs.Making.{span_agree}
+use Rattle.wire.proofs.Written.{span_written}
+use Rattle.sizing.proofs.Untils.{other_row}
 
 -- ---- an until row's, with its bound as a number
 
 module _ (n r h code : ℕ) where
   -- the one of state a
-  abbrev pub coverOf : ℕ → List ℕ
-  coverOf a = bytes 2 (a + n * r) ++ bytes 4 code ++ bytes 2 (a + n * h)
+  abbrev pub cover_of : ℕ → List ℕ
+  cover_of a = bytes 2 (a + n * r) ++ bytes 4 code ++ bytes 2 (a + n * h)
 
-  pub cover-length : (a : ℕ) → length (coverOf a) ≡ coverWidth
-  cover-length a = simp (length-append, length-bytes)
+  pub cover_length : (a : ℕ) → length (cover_of a) ≡ cover_width
+  cover_length a = simp (length-append, length_bytes)
 
-pub covers-coded : (n r h : ℕ) (b : Bound) → coverBytes n r h b ≡ span (coverOf n r h (codeOf b)) 0 n
-unfolding coverBytes writeCover writeAll
-covers-coded n r h b =
-    span-written writeCover (λ a. record { source = a + n * r; bound = b; target = a + n * h } ∷ []) 0 n
-    ∙ span-agree _ (coverOf n r h (codeOf b)) 0 n (λ a p q. append-nil _)
+pub covers_coded : (n r h : ℕ) (b : Bound) → cover_bytes n r h b ≡ span (cover_of n r h (code_of b)) 0 n
+unfolding cover_bytes write_cover write_all
+covers_coded n r h b =
+    span_written write_cover (λ a. record { source = a + n * r; bound = b; target = a + n * h } ∷ []) 0 n
+    ∙ span_agree _ (cover_of n r h (code_of b)) 0 n (λ a p q. append-nil _)
 
 -- ---- all rows'
 
 module _ (n r h : ℕ) (row : Row) (rows : List Row) where
   -- an until row, and any other
-  pub covers-until : {q : Quantifier} {l k : ℕ} {b : Bound} → row ≡ Until q l k b → coversFrom n r h (row ∷ rows) ≡ coverBytes n r h b ++ coversFrom n (r + 1) (h + 1) rows
-  unfolding coversFrom
-  covers-until e = rw (e, add-one r, add-one h)
+  pub covers_until : {q : Quantifier} {l k : ℕ} {b : Bound} → row ≡ Until q l k b → covers_from n r h (row ∷ rows) ≡ cover_bytes n r h b ++ covers_from n (r + 1) (h + 1) rows
+  unfolding covers_from
+  covers_until e = rw (e, add-one r, add-one h)
 
-  pub covers-other : isUntil row ≡ false → coversFrom n r h (row ∷ rows) ≡ coversFrom n (r + 1) h rows
-  unfolding coversFrom
-  covers-other e = rw add-one (other-row row (λ q l k b. coverBytes n r h b ++ coversFrom n (suc r) (suc h) rows) (coversFrom n (suc r) h rows) e)
+  pub covers_other : is_until row ≡ false → covers_from n r h (row ∷ rows) ≡ covers_from n (r + 1) h rows
+  unfolding covers_from
+  covers_other e = rw add-one (other_row row (λ q l k b. cover_bytes n r h b ++ covers_from n (suc r) (suc h) rows) (covers_from n (suc r) h rows) e)
 
 -- a loop over k rows: the rows from place r on can be read, the helper of the next until stands at place h behind all rows, and the
 -- bytes of their cover edges are left
 module _ (n : ℕ) (f : List ℕ) (k : ℕ) where
-  abbrev rowsLeft : (row-at r : ℕ) → List Row
-  rowsLeft row-at r = items (rowLayout f) (k - r) row-at
+  abbrev rows_left : (row_from r : ℕ) → List Row
+  rows_left row_from r = items (row_layout f) (k - r) row_from
 
-  pub record Covering (b : List ℕ) (at : ℕ) (whole b′ : List ℕ) (next row-at h r : ℕ) : Type 0 where
-    pub readable : row-at + (k - r) * rowWidth ≤ length f
+  pub record Covering (b : List ℕ) (at : ℕ) (whole b' : List ℕ) (next row_from h r : ℕ) : Type 0 where
+    pub readable : row_from + (k - r) * row_width ≤ length f
     pub behind : k ≤ h
     pub near : h ≤ k + r
-    pub nodes-fit : n * (h + length (untils (rowsLeft row-at r))) ≤ 4096
-    pub left : Left b at whole b′ next (coversFrom n r h (rowsLeft row-at r))
+    pub nodes_fit : n * (h + length (untils (rows_left row_from r))) ≤ 4096
+    pub left : Left b at whole b' next (covers_from n r h (rows_left row_from r))
 
-  pub covering-all : {p : ℕ} → HoldsRows f k p → (b : List ℕ) (at : ℕ) → n * (k + length (untils (heldRows f k))) ≤ 4096
-      → at + length (coversOf n (heldRows f k)) ≤ length b → Covering b at (coversOf n (heldRows f k)) b at formulaHeader k 0
-  unfolding heldRows
-  covering-all held b at nodes fits =
+  pub covering_all : {p : ℕ} → HoldsRows f k p → (b : List ℕ) (at : ℕ) → n * (k + length (untils (held_rows f k))) ≤ 4096
+      → at + length (covers_of n (held_rows f k)) ≤ length b → Covering b at (covers_of n (held_rows f k)) b at formula_header k 0
+  unfolding held_rows
+  covering_all held b at nodes fits =
       let all : k - 0 ≡ k = omega arith in
-      let whole : coversOf n (heldRows f k) ≡ coversFrom n 0 k (heldRows f k) = ap (λ (h : ℕ). coversFrom n 0 h (heldRows f k)) (rows-length f k) in
+      let whole : covers_of n (held_rows f k) ≡ covers_from n 0 k (held_rows f k) = ap (λ (h : ℕ). covers_from n 0 h (held_rows f k)) (rows_length f k) in
       record {
-        readable = omega (arith, held .long);
+        readable = omega (arith, held.long);
         behind = omega arith;
         near = omega arith;
-        nodes-fit = rw all nodes;
-        left = rw all (subst (Left b at (coversOf n (heldRows f k)) b at) whole (all-left b at (coversOf n (heldRows f k)) fits));
+        nodes_fit = rw all nodes;
+        left = rw all (subst (Left b at (covers_of n (held_rows f k)) b at) whole (all_left b at (covers_of n (held_rows f k)) fits));
       }
 
-  module _ {b : List ℕ} {at : ℕ} {whole b′ : List ℕ} {next row-at h r : ℕ} (c : Covering b at whole b′ next row-at h r) where
-    pub covering-none : k ≤ r → Laid b at whole b′ next
-    unfolding items coversFrom
-    covering-none e = let none : k - r ≡ 0 = omega arith in none-left (rw none at (c .left))
+  module _ {b : List ℕ} {at : ℕ} {whole b' : List ℕ} {next row_from h r : ℕ} (c : Covering b at whole b' next row_from h r) where
+    pub covering_none : k ≤ r → Laid b at whole b' next
+    unfolding items covers_from
+    covering_none e = let none : k - r ≡ 0 = omega arith in none_left (rw none at c.left)
 
     module _ (below : r < k) where
       abbrev rest : List Row
-      rest = rowsLeft (row-at + rowWidth) (r + 1)
+      rest = rows_left (row_from + row_width) (r + 1)
 
       less : k - r - 1 ≡ k - (r + 1)
       less = omega arith
 
-      here : rowsLeft row-at r ≡ rowAt f row-at ∷ rest
-      here = rw less at (items-more (rowLayout f) (k - r) row-at (omega arith))
+      here : rows_left row_from r ≡ row_at f row_from ∷ rest
+      here = rw less at (items_more (row_layout f) (k - r) row_from (omega arith))
 
       -- the next row can be read
-      pub row-readable : row-at + rowWidth ≤ length f
-      row-readable = omega (arith, c .readable)
+      pub row_readable : row_from + row_width ≤ length f
+      row_readable = omega (arith, c.readable)
 
       -- an until: its helper's nodes are below the limit
-      module _ {q : Quantifier} {l m : ℕ} {limit : Bound} (is : rowAt f row-at ≡ Until q l m limit) where
-        one-more : length (untils (rowsLeft row-at r)) ≡ 1 + length (untils rest)
-        one-more = rw less at (passing-here (rowLayout f) isUntil (k - r) row-at (omega arith) (ap isUntil is))
+      module _ {q : Quantifier} {l m : ℕ} {limit : Bound} (is : row_at f row_from ≡ Until q l m limit) where
+        one_more : length (untils (rows_left row_from r)) ≡ 1 + length (untils rest)
+        one_more = rw less at (passing_here (row_layout f) is_until (k - r) row_from (omega arith) (ap is_until is))
 
-        bytes-are : coversFrom n r h (rowsLeft row-at r) ≡ coverBytes n r h limit ++ coversFrom n (r + 1) (h + 1) rest
-        bytes-are = ap (coversFrom n r h) here ∙ covers-until n r h (rowAt f row-at) rest is
+        bytes_are : covers_from n r h (rows_left row_from r) ≡ cover_bytes n r h limit ++ covers_from n (r + 1) (h + 1) rest
+        bytes_are = ap (covers_from n r h) here ∙ covers_until n r h (row_at f row_from) rest is
 
-        pub helper-fits : n * h + n ≤ 4096
-        helper-fits =
-            let within : n * suc h ≤ n * (h + length (untils (rowsLeft row-at r))) = mul-le-mul-left n (omega (arith, one-more)) in
-            omega (arith, c .nodes-fit, rw mul-suc at within)
+        pub helper_fits : n * h + n ≤ 4096
+        helper_fits =
+            let within : n * suc h ≤ n * (h + length (untils (rows_left row_from r))) = mul-le-mul_left n (omega (arith, one_more)) in
+            omega (arith, c.nodes_fit, rw mul-suc at within)
 
         -- its cover edges fit, and once they are laid in the others are left
-        pub until-fits : next + length (coverBytes n r h limit) ≤ length b′
-        until-fits = left-fits (c .left) (coverBytes n r h limit) (coversFrom n (r + 1) (h + 1) rest) bytes-are
+        pub until_fits : next + length (cover_bytes n r h limit) ≤ length b'
+        until_fits = left_fits c.left (cover_bytes n r h limit) (covers_from n (r + 1) (h + 1) rest) bytes_are
 
-        pub until-covered : {b″ : List ℕ} {end : ℕ} → Laid b′ next (coverBytes n r h limit) b″ end → Covering b at whole b″ end (row-at + rowWidth) (h + 1) (r + 1)
-        until-covered laid = record {
-          readable = omega (arith, c .readable);
-          behind = omega (arith, c .behind);
-          near = omega (arith, c .near);
-          nodes-fit =
-              let same : h + 1 + length (untils rest) ≡ h + length (untils (rowsLeft row-at r)) = omega (arith, one-more) in
-              rw same (c .nodes-fit);
-          left = left-then (c .left) (coverBytes n r h limit) (coversFrom n (r + 1) (h + 1) rest) bytes-are laid;
+        pub until_covered : {b'' : List ℕ} {end : ℕ} → Laid b' next (cover_bytes n r h limit) b'' end → Covering b at whole b'' end (row_from + row_width) (h + 1) (r + 1)
+        until_covered laid = record {
+          readable = omega (arith, c.readable);
+          behind = omega (arith, c.behind);
+          near = omega (arith, c.near);
+          nodes_fit =
+              let same : h + 1 + length (untils rest) ≡ h + length (untils (rows_left row_from r)) = omega (arith, one_more) in
+              rw same c.nodes_fit;
+          left = left_then c.left (cover_bytes n r h limit) (covers_from n (r + 1) (h + 1) rest) bytes_are laid;
         }
 
       -- any other row has none
-      pub other-covered : isUntil (rowAt f row-at) ≡ false → Covering b at whole b′ next (row-at + rowWidth) h (r + 1)
-      other-covered e = record {
-        readable = omega (arith, c .readable);
-        behind = omega (arith, c .behind);
-        near = omega (arith, c .near);
-        nodes-fit = rw (← rw less at (passing-there (rowLayout f) isUntil (k - r) row-at (omega arith) e)) (c .nodes-fit);
-        left = subst (Left b at whole b′ next) (ap (coversFrom n r h) here ∙ covers-other n r h (rowAt f row-at) rest e) (c .left);
+      pub other_covered : is_until (row_at f row_from) ≡ false → Covering b at whole b' next (row_from + row_width) h (r + 1)
+      other_covered e = record {
+        readable = omega (arith, c.readable);
+        behind = omega (arith, c.behind);
+        near = omega (arith, c.near);
+        nodes_fit = rw (← rw less at (passing_there (row_layout f) is_until (k - r) row_from (omega arith) e)) c.nodes_fit;
+        left = subst (Left b at whole b' next) (ap (covers_from n r h) here ∙ covers_other n r h (row_at f row_from) rest e) c.left;
       }

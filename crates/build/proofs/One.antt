@@ -1,34 +1,33 @@
 -- One answer and one content of every lent room: two calls with the same arguments that satisfy the contract of a public function agree.
 -- Here a are the arguments, r is the result, and s is what stands in each argument at the end, in the order of the parameters. Assumes nothing.
-use mathlib.Core.Path.{_≡_, sym, _∙_}
-use denote.Ref.{now}
-use Rattle·build·proofs.proofs.build.Reads as build
-use Rattle·build·proofs.proofs.count_nodes.Reads as count-nodes
-use Rattle·build·proofs.proofs.Built.number.Reads as Built-number
-use Rattle·build·proofs.proofs.Built.offset.Reads as Built-offset
-use Rattle·build·proofs.proofs.Built.length.Reads as Built-length
+use mathlib.Core.Path.{◌≡◌, sym, ◌∙◌}
+use Rattle.build.proofs.build.Reads as build
+use Rattle.build.proofs.count_nodes.Reads as count-nodes
+use Rattle.build.proofs.Built.number.Reads as Built-number
+use Rattle.build.proofs.Built.offset.Reads as Built-offset
+use Rattle.build.proofs.Built.length.Reads as Built-length
 
 -- `build::build`: the answer and the room
-pub one-build : (κs : _) (a : _) (r r′ : _) (s s′ : _) → build.Post κs a r s → build.Post κs a r′ s′
-    → (r ≡ r′) × (now (s .1 .1 .1 .1 .1 .1 .1 .0) ≡ now (s′ .1 .1 .1 .1 .1 .1 .1 .0))
-one-build κs a r r′ s s′ p q = (p .0 ∙ sym (q .0), p .1 ∙ sym (q .1))
+pub one_build : (κs : _) (a : _) (r r' : _) (s s' : _) → build.Post κs a r s → build.Post κs a r' s'
+    → (r ≡ r') × (s.1.1.1.1.1.1.1.0.now ≡ s'.1.1.1.1.1.1.1.0.now)
+one_build κs a r r' s s' p q = (p.0 ∙ sym q.0, p.1 ∙ sym q.1)
 
 -- `build::count_nodes`
-pub one-count-nodes : (κs : _) (a : _) (r r′ : _) (s s′ : _) → count-nodes.Post κs a r s → count-nodes.Post κs a r′ s′
-    → r ≡ r′
-one-count-nodes κs a r r′ s s′ p q = p ∙ sym q
+pub one_count_nodes : (κs : _) (a : _) (r r' : _) (s s' : _) → count-nodes.Post κs a r s → count-nodes.Post κs a r' s'
+    → r ≡ r'
+one_count_nodes κs a r r' s s' p q = p ∙ sym q
 
 -- `build::Built::number`
-pub one-number : (κs : _) (a : _) (r r′ : _) (s s′ : _) → Built-number.Post κs a r s → Built-number.Post κs a r′ s′
-    → r ≡ r′
-one-number κs a r r′ s s′ p q = p ∙ sym q
+pub one_number : (κs : _) (a : _) (r r' : _) (s s' : _) → Built-number.Post κs a r s → Built-number.Post κs a r' s'
+    → r ≡ r'
+one_number κs a r r' s s' p q = p ∙ sym q
 
 -- `build::Built::offset`
-pub one-offset : (κs : _) (a : _) (r r′ : _) (s s′ : _) → Built-offset.Post κs a r s → Built-offset.Post κs a r′ s′
-    → r ≡ r′
-one-offset κs a r r′ s s′ p q = p ∙ sym q
+pub one_offset : (κs : _) (a : _) (r r' : _) (s s' : _) → Built-offset.Post κs a r s → Built-offset.Post κs a r' s'
+    → r ≡ r'
+one_offset κs a r r' s s' p q = p ∙ sym q
 
 -- `build::Built::length`
-pub one-length : (κs : _) (a : _) (r r′ : _) (s s′ : _) → Built-length.Post κs a r s → Built-length.Post κs a r′ s′
-    → r ≡ r′
-one-length κs a r r′ s s′ p q = p ∙ sym q
+pub one_length : (κs : _) (a : _) (r r' : _) (s s' : _) → Built-length.Post κs a r s → Built-length.Post κs a r' s'
+    → r ≡ r'
+one_length κs a r r' s s' p q = p ∙ sym q

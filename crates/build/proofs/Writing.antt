@@ -1,146 +1,146 @@
 -- What the writing of a graph that passes no limit may rely on. Assumes nothing.
-use Prim.Native.Nat.{ℕ, _+_, _*_, _≤_}
-use mathlib.Core.List.{List, _++_}
-use mathlib.Core.Bool.{Bool, true, _&&_}
-use mathlib.Core.Logic.{_↔_}
-use mathlib.Core.Path.{_≡_, refl, sym, ap, _∙_}
-use native.Mathlib.Nat.{mul-le-mul-left}
+use Prim.Native.Nat.{ℕ, ◌+◌, ◌*◌, ◌≤◌}
+use mathlib.Core.List.{List, ◌++◌}
+use mathlib.Core.Bool.{Bool, true, ◌&&◌}
+use mathlib.Core.Logic.{◌↔◌}
+use mathlib.Core.Path.{◌≡◌, refl, sym, ap, ◌∙◌}
+use native.Mathlib.Nat.{mul-le-mul_left}
 use native.Mathlib.Omega.{arith}
 use lib.Dec.{leb}
 use lib.ListN.{length, length-append}
 use borrow.Author.Tests.{leb-true, le-leb}
-use Rattle·lists.specs.Lists.{all}
-use Rattle·lists.proofs.Kept.{keep-length}
-use Rattle·lists.proofs.Lists.{all-true, true-all}
-use Rattle·lists.proofs.Making.{∈-keep}
-use Rattle·lists.proofs.Places.{place-lt, ∈-place}
-use Rattle·lists.proofs.Tests.{and-left, and-right}
-use Rattle·wire.proofs.Bytes.{length-bytes}
-use Rattle·rules.specs.Graph.{Graph, Hyper}
-use Rattle·graph.specs.Format.{graphHeader}
-use Rattle·graph.specs.WellFormed.{targetsOf}
-use Rattle·graph.specs.Write.{writeHeader, writeGraph}
-use Rattle·reduction.specs.Built.{isUntil, untils, graphOf, Fits}
-use Rattle·build·specs.specs.Built.{fits, Writable}
-use Rattle·records.specs.Bytes.{rowsHypers, helpersHypers, rowsBytes, helpersBytes, coversOf, HelpersFit}
-use Rattle·transitions.specs.Held.{heldModel, heldRows, HoldsModel, HoldsRows}
-use Rattle·transitions.proofs.Accepted.{rows-length}
-use Rattle·build·proofs.proofs.Parts.{graph-parts}
-use Rattle·build·proofs.proofs.Narrow.{few-narrow}
-use Rattle·sizing.proofs.Whole.{size-of-graph, writing-length}
+use Rattle.lists.specs.Lists.{all}
+use Rattle.lists.proofs.Kept.{keep_length}
+use Rattle.lists.proofs.Lists.{all_true, true_all}
+use Rattle.lists.proofs.Making.{∈-keep}
+use Rattle.lists.proofs.Places.{place_lt, ∈-place}
+use Rattle.lists.proofs.Tests.{and_left, and_right}
+use Rattle.wire.proofs.Bytes.{length_bytes}
+use Rattle.rules.specs.Graph.{Graph, Hyper}
+use Rattle.graph.specs.Format.{graph_header}
+use Rattle.graph.specs.WellFormed.{targets_of}
+use Rattle.graph.specs.Write.{write_header, write_graph}
+use Rattle.reduction.specs.Built.{is_until, untils, graph_of, Fits}
+use Rattle.build.specs.Built.{fits, Writable}
+use Rattle.records.specs.Bytes.{rows_hypers, helpers_hypers, rows_bytes, helpers_bytes, covers_of, HelpersFit}
+use Rattle.transitions.specs.Held.{held_model, held_rows, HoldsModel, HoldsRows}
+use Rattle.transitions.proofs.Accepted.{rows_length}
+use Rattle.build.proofs.Parts.{graph_parts}
+use Rattle.build.proofs.Narrow.{few_narrow}
+use Rattle.sizing.proofs.Whole.{size_of_graph, writing_length}
 
 -- what the test says, limit by limit
-pub fits-each : (g : Graph) → fits g ≡ true → Fits g
+pub fits_each : (g : Graph) → fits g ≡ true → Fits g
 unfolding fits
-fits-each g e =
-    let nodes = leb (g .nodes) 4096 in
-    let hypers = leb (length (g .hypers)) 65535 in
-    let targets = leb (targetsOf (g .hypers)) 262144 in
-    let few : Hyper → Bool = λ h. leb (length (h .targets)) 65535 in
-    let each = all few (g .hypers) in
-    let covers = leb (length (g .covers)) 4096 in
-    let rest = and-right nodes (hypers && (targets && (each && covers))) e in
-    let edges = and-right hypers (targets && (each && covers)) rest in
-    let last = and-right targets (each && covers) edges in
+fits_each g e =
+    let nodes = leb g.nodes 4096 in
+    let hypers = leb (length g.hypers) 65535 in
+    let targets = leb (targets_of g.hypers) 262144 in
+    let few : Hyper → Bool = λ h. leb (length h.targets) 65535 in
+    let each = all few g.hypers in
+    let covers = leb (length g.covers) 4096 in
+    let rest = and_right nodes (hypers && (targets && (each && covers))) e in
+    let edges = and_right hypers (targets && (each && covers)) rest in
+    let last = and_right targets (each && covers) edges in
     record {
-      nodes-fit = leb-true _ _ (and-left nodes _ e);
-      hypers-fit = leb-true _ _ (and-left hypers _ rest);
-      targets-fit = leb-true _ _ (and-left targets _ edges);
-      each-fits = λ {h} m. leb-true _ _ (all-true few (g .hypers) (and-left each covers last) h m);
-      covers-fit = leb-true _ _ (and-right each covers last);
+      nodes_fit = leb-true _ _ (and_left nodes _ e);
+      hypers_fit = leb-true _ _ (and_left hypers _ rest);
+      targets_fit = leb-true _ _ (and_left targets _ edges);
+      each_fits = λ {h} m. leb-true _ _ (all_true few g.hypers (and_left each covers last) h m);
+      covers_fit = leb-true _ _ (and_right each covers last);
     }
 
 -- and the limits say it: SIZE exactly where one is passed
-pub fits-exactly : (g : Graph) → (fits g ≡ true) ↔ Fits g
+pub fits_exactly : (g : Graph) → (fits g ≡ true) ↔ Fits g
 unfolding fits
-fits-exactly g = (
-  fits-each g,
+fits_exactly g = (
+  fits_each g,
   λ f. rw (
-    le-leb (g .nodes) 4096 (f .nodes-fit),
-    le-leb (length (g .hypers)) 65535 (f .hypers-fit),
-    le-leb (targetsOf (g .hypers)) 262144 (f .targets-fit),
-    true-all (λ (h : Hyper). leb (length (h .targets)) 65535) (g .hypers) (λ h m. le-leb (length (h .targets)) 65535 (f .each-fits m)),
-    le-leb (length (g .covers)) 4096 (f .covers-fit),
+    le-leb g.nodes 4096 f.nodes_fit,
+    le-leb (length g.hypers) 65535 f.hypers_fit,
+    le-leb (targets_of g.hypers) 262144 f.targets_fit,
+    true_all (λ (h : Hyper). leb (length h.targets) 65535) g.hypers (λ h m. le-leb (length h.targets) 65535 (f.each_fits m)),
+    le-leb (length g.covers) 4096 f.covers_fit,
   ),
 )
 
 -- none of its hyperedges is too large, tested on all at once
-fits-most : (g : Graph) → fits g ≡ true → all (λ h. leb (length (h .targets)) 65535) (g .hypers) ≡ true
-fits-most g e = true-all _ (g .hypers) (λ h m. le-leb _ _ (fits-each g e .each-fits m))
+fits_most : (g : Graph) → fits g ≡ true → all (λ h. leb (length h.targets) 65535) g.hypers ≡ true
+fits_most g e = true_all _ g.hypers (λ h m. le-leb _ _ ((fits_each g e).each_fits m))
 
 -- there are no more until rows than rows
-pub untils-few : {f : List ℕ} {k p : ℕ} → HoldsRows f k p → length (untils (heldRows f k)) ≤ k
-untils-few {f} {k} h = omega (arith, keep-length isUntil (heldRows f k), rows-length f k)
+pub untils_few : {f : List ℕ} {k p : ℕ} → HoldsRows f k p → length (untils (held_rows f k)) ≤ k
+untils_few {f} {k} h = omega (arith, keep_length is_until (held_rows f k), rows_length f k)
 
 -- the header is as long whatever its counts are
-pub header-length : (long n h c : ℕ) → length (writeHeader long n h c) ≡ graphHeader
-header-length long n h c = simp (length-append, length-bytes)
+pub header_length : (long n h c : ℕ) → length (write_header long n h c) ≡ graph_header
+header_length long n h c = simp (length-append, length_bytes)
 
 module _ {m : List ℕ} {n p t : ℕ} {f : List ℕ} {k u : ℕ} {b : List ℕ} (hm : HoldsModel m n p t) (hr : HoldsRows f k p)
-    (u-is : u ≡ length (untils (heldRows f k))) (w : Writable (graphOf (heldModel m n p t) (heldRows f k)) b) where
+    (u-is : u ≡ length (untils (held_rows f k))) (w : Writable (graph_of (held_model m n p t) (held_rows f k)) b) where
   -- rows and helpers have few nodes
-  pub nodes-few : n * (k + u) ≤ 4096
-  unfolding heldModel graphOf
-  nodes-few = rw u-is (rw rows-length at (fits-each (graphOf (heldModel m n p t) (heldRows f k)) (w .fits) .nodes-fit))
+  pub nodes_few : n * (k + u) ≤ 4096
+  unfolding held_model graph_of
+  nodes_few = rw u-is (rw rows_length at (fits_each (graph_of (held_model m n p t) (held_rows f k)) w.fits).nodes_fit)
 
-  pub rows-few : n * k ≤ 4096
-  rows-few = let below : n * k ≤ n * (k + u) = mul-le-mul-left n (omega arith) in omega (arith, nodes-few)
+  pub rows_few : n * k ≤ 4096
+  rows_few = let below : n * k ≤ n * (k + u) = mul-le-mul_left n (omega arith) in omega (arith, nodes_few)
 
-  pub helpers-fit : HelpersFit (heldModel m n p t) k (untils (heldRows f k))
-  unfolding heldModel
-  helpers-fit =
-      let M = heldModel m n p t in
-      let rows = heldRows f k in
-      let g = graphOf M rows in
-      let size = size-of-graph M rows in
+  pub helpers_fit : HelpersFit (held_model m n p t) k (untils (held_rows f k))
+  unfolding held_model
+  helpers_fit =
+      let M = held_model m n p t in
+      let rows = held_rows f k in
+      let g = graph_of M rows in
+      let size = size_of_graph M rows in
       record {
-        node = rw (← u-is) nodes-few;
+        node = rw (← u-is) nodes_few;
         operands = λ {row} q l.
-            let (i, at) = ∈-place (∈-keep isUntil rows q .0) in
-            omega (arith, hr .well-formed .earlier i at l, place-lt rows i at, rows-length f k);
-        narrow = few-narrow M rows (rw (← size .0) (fits-each g (w .fits) .hypers-fit)) (leb-true _ _ (sym (size .2) ∙ fits-most g (w .fits)));
+            let (i, at) = ∈-place (∈-keep is_until rows q).0 in
+            omega (arith, hr.well_formed.earlier i at l, place_lt rows i at, rows_length f k);
+        narrow = few_narrow M rows (rw (← size.0) (fits_each g w.fits).hypers_fit) (leb-true _ _ (sym size.2 ∙ fits_most g w.fits));
       }
 
   -- the hyperedges of rows and of helpers together are the graph's, and few
-  pub hypers-few : {rows helpers : ℕ} → rows ≡ length (rowsHypers (heldModel m n p t) 0 (heldRows f k)) → helpers ≡ length (helpersHypers (heldModel m n p t) k (untils (heldRows f k)))
-      → (rows + helpers ≡ length (graphOf (heldModel m n p t) (heldRows f k) .hypers)) × (rows + helpers ≤ 65535)
-  unfolding graphOf
-  hypers-few {rows} {helpers} rows-are helpers-are =
-      let M = heldModel m n p t in
-      let first = rowsHypers M 0 (heldRows f k) in
-      let second = helpersHypers M (length (heldRows f k)) (untils (heldRows f k)) in
-      let there = ap (λ (h : ℕ). length (helpersHypers M h (untils (heldRows f k)))) (rows-length f k) in
-      let all : rows + helpers ≡ length (first ++ second) = omega (arith, rows-are, helpers-are, there, length-append first second) in
-      (all, omega (arith, all, fits-each (graphOf M (heldRows f k)) (w .fits) .hypers-fit))
+  pub hypers_few : {rows helpers : ℕ} → rows ≡ length (rows_hypers (held_model m n p t) 0 (held_rows f k)) → helpers ≡ length (helpers_hypers (held_model m n p t) k (untils (held_rows f k)))
+      → (rows + helpers ≡ length (graph_of (held_model m n p t) (held_rows f k)).hypers) × (rows + helpers ≤ 65535)
+  unfolding graph_of
+  hypers_few {rows} {helpers} rows_are helpers-are =
+      let M = held_model m n p t in
+      let first = rows_hypers M 0 (held_rows f k) in
+      let second = helpers_hypers M (length (held_rows f k)) (untils (held_rows f k)) in
+      let there = ap (λ (h : ℕ). length (helpers_hypers M h (untils (held_rows f k)))) (rows_length f k) in
+      let all : rows + helpers ≡ length (first ++ second) = omega (arith, rows_are, helpers-are, there, length-append first second) in
+      (all, omega (arith, all, (fits_each (graph_of M (held_rows f k)) w.fits).hypers_fit))
 
   -- the message is not long
-  pub long-few : length (writeGraph (graphOf (heldModel m n p t) (heldRows f k))) ≤ 1900000
-  long-few =
-      let g = graphOf (heldModel m n p t) (heldRows f k) in
-      let f = fits-each g (w .fits) in
-      omega (arith, writing-length g, f .hypers-fit, f .targets-fit, f .covers-fit)
+  pub long_few : length (write_graph (graph_of (held_model m n p t) (held_rows f k))) ≤ 1900000
+  long_few =
+      let g = graph_of (held_model m n p t) (held_rows f k) in
+      let f = fits_each g w.fits in
+      omega (arith, writing_length g, f.hypers_fit, f.targets_fit, f.covers_fit)
 
   -- the parts of the message
-  pub written-parts : {long hypers : ℕ} → long ≡ length (writeGraph (graphOf (heldModel m n p t) (heldRows f k))) → hypers ≡ length (graphOf (heldModel m n p t) (heldRows f k) .hypers)
-      → writeGraph (graphOf (heldModel m n p t) (heldRows f k))
-      ≡ writeHeader long (n * (k + u)) hypers (n * u) ++ (rowsBytes (heldModel m n p t) 0 (heldRows f k)
-      ++ helpersBytes (heldModel m n p t) k (untils (heldRows f k)) ++ coversOf n (heldRows f k))
-  unfolding heldModel
-  written-parts {long} {hypers} long-is hypers-are =
-      let parts = graph-parts (heldModel m n p t) (heldRows f k) long hypers long-is hypers-are in
-      rw (rows-length f k) (rw (rows-length f k, ← u-is) at parts)
+  pub written_parts : {long hypers : ℕ} → long ≡ length (write_graph (graph_of (held_model m n p t) (held_rows f k))) → hypers ≡ length (graph_of (held_model m n p t) (held_rows f k)).hypers
+      → write_graph (graph_of (held_model m n p t) (held_rows f k))
+      ≡ write_header long (n * (k + u)) hypers (n * u) ++ (rows_bytes (held_model m n p t) 0 (held_rows f k)
+      ++ helpers_bytes (held_model m n p t) k (untils (held_rows f k)) ++ covers_of n (held_rows f k))
+  unfolding held_model
+  written_parts {long} {hypers} long_is hypers_are =
+      let parts = graph_parts (held_model m n p t) (held_rows f k) long hypers long_is hypers_are in
+      rw (rows_length f k) (rw (rows_length f k, ← u-is) at parts)
 
   -- they fit behind the header
-  pub body-fits : graphHeader + length (rowsBytes (heldModel m n p t) 0 (heldRows f k) ++ helpersBytes (heldModel m n p t) k (untils (heldRows f k)) ++ coversOf n (heldRows f k))
-      ≡ length (writeGraph (graphOf (heldModel m n p t) (heldRows f k)))
-  body-fits =
-      let g = graphOf (heldModel m n p t) (heldRows f k) in
-      let long = length (writeGraph g) in
-      let hypers = length (g .hypers) in
-      let body = rowsBytes (heldModel m n p t) 0 (heldRows f k) ++ helpersBytes (heldModel m n p t) k (untils (heldRows f k)) ++ coversOf n (heldRows f k) in
-      omega (arith, ap length (written-parts refl refl), length-append (writeHeader long (n * (k + u)) hypers (n * u)) body, header-length long (n * (k + u)) hypers (n * u))
+  pub body_fits : graph_header + length (rows_bytes (held_model m n p t) 0 (held_rows f k) ++ helpers_bytes (held_model m n p t) k (untils (held_rows f k)) ++ covers_of n (held_rows f k))
+      ≡ length (write_graph (graph_of (held_model m n p t) (held_rows f k)))
+  body_fits =
+      let g = graph_of (held_model m n p t) (held_rows f k) in
+      let long = length (write_graph g) in
+      let hypers = length g.hypers in
+      let body = rows_bytes (held_model m n p t) 0 (held_rows f k) ++ helpers_bytes (held_model m n p t) k (untils (held_rows f k)) ++ covers_of n (held_rows f k) in
+      omega (arith, ap length (written_parts refl refl), length-append (write_header long (n * (k + u)) hypers (n * u)) body, header_length long (n * (k + u)) hypers (n * u))
 
 -- where three parts fit, so do the first of them
-pub parts-fit : (at : ℕ) (r e c : List ℕ) {size : ℕ} → at + length (r ++ e ++ c) ≤ size
+pub parts_fit : (at : ℕ) (r e c : List ℕ) {size : ℕ} → at + length (r ++ e ++ c) ≤ size
     → (at + length r ≤ size) × (at + length (r ++ e) ≤ size) × (at + length (r ++ e ++ c) ≤ size)
-parts-fit at r e c fits = omega (arith, length-append r e, length-append (r ++ e) c)
+parts_fit at r e c fits = omega (arith, length-append r e, length-append (r ++ e) c)

@@ -1,10 +1,9 @@
 -- A row that looks at a label alone.
-use Prim.Native.Nat.{ℕ}
-use mathlib.Core.Bool.{Bool, true, false}
-use Rattle·syntax.specs.declared.Row.{Row}
-use Rattle·syntax.specs.declared.Row.the-variants.{Proposition, Negation}
+use Rattle.std.specs.Prelude.{ℕ, Bool, true, false}
+use Rattle.syntax.specs.declared.Row.{Row}
+use Rattle.syntax.specs.declared.Row.TheVariants.{Proposition, Negation}
 
 -- of a proposition, or of its negation
-abbrev pub leafRow : Bool → ℕ → Row
-leafRow true i = Proposition i
-leafRow false i = Negation i
+abbrev pub leaf_row : Bool → ℕ → Row
+leaf_row true i = Proposition i
+leaf_row false i = Negation i

@@ -1,16 +1,18 @@
 // The graph of an accepted model and formula, written into a lent room.
+#![tactic(auto)]
+
 mod message;
 
-ghost use mathlib.Core.Path.{_≡_};
-ghost use Prim.Native.Nat.{_+_, _*_, _≤_};
-ghost use lib.ListN.{length};
-ghost use Rattle·reduction.specs.Built as built;
-ghost use Rattle·transitions.specs.Held.{heldModel, heldRows, HoldsModel, HoldsRows};
-ghost use Rattle·build·specs.specs.Built.{builtNumber, builtOffset, builtLength, builtOf, builtRoom, enough};
+ghost use Rattle.std.specs.Prelude.{◌≡◌, ◌+◌, ◌*◌, ◌≤◌, length};
+ghost use Rattle.reduction.specs.Built as built;
+ghost use Rattle.transitions.specs.Held.{held_model, held_rows, HoldsModel, HoldsRows};
+ghost use Rattle.build.specs.Built.{built_number, built_offset, built_length, built_of, built_room, enough};
+
 use refusal::Fault;
 use sizing::Size;
 
 // The length of the graph, or why it was not built.
+#[derive(Clone, Copy)]
 pub enum Built {
     Graph(usize),
     Refused(Fault),
@@ -19,7 +21,7 @@ pub enum Built {
 impl Built {
     // The number that the paper gives the answer.
     pub fn number(self) -> u8
-        ensures { λ r. ⌜ r ≡ builtNumber self ⌝ }
+        ensures { result ≡ built_number self }
     {
         match self {
             Built::Graph(_) => 0,
@@ -29,7 +31,7 @@ impl Built {
 
     // Where the field starts that was found wrong, and 0 where none was.
     pub fn offset(self) -> usize
-        ensures { λ r. ⌜ r ≡ builtOffset self ⌝ }
+        ensures { result ≡ built_offset self }
     {
         match self {
             Built::Graph(_) => 0,
@@ -39,7 +41,7 @@ impl Built {
 
     // The returned length of the graph.
     pub fn length(self) -> usize
-        ensures { λ r. ⌜ r ≡ builtLength self ⌝ }
+        ensures { result ≡ built_length self }
     {
         match self {
             Built::Graph(n) => n,
@@ -50,17 +52,17 @@ impl Built {
 
 // The number of nodes of the graph of a model with n states and an accepted formula.
 pub fn count_nodes(n: u32, f: &[u8], k: u32, p: u32) -> u32
-    requires { ⌜ n ≤ 256 ⌝ }
-    requires { ⌜ HoldsRows (now f) k p ⌝ }
-    ensures { λ r. ⌜ r ≡ n * (k + length (built.untils (heldRows (now (f .entry)) k))) ⌝ }
+    requires n_bound { n ≤ 256 }
+    requires holds_rows { HoldsRows f.now k p }
+    ensures { result ≡ n * (k + length (built.untils (held_rows f.now k))) }
 {
     n * (k + sizing::count_untils(f, k, p))
 }
 
 // Whether hyperedges of this size, with so many nodes and cover edges, pass no limit, and rooms of so many bytes and values are large enough.
 fn is_enough(nodes: u32, covers: u32, size: Size, bytes: usize, values: usize) -> bool
-    requires { ⌜ covers ≤ nodes ⌝ }
-    ensures { λ r. ⌜ r ≡ enough nodes covers size bytes values ⌝ }
+    requires { covers ≤ nodes }
+    ensures { result ≡ enough nodes covers size bytes values }
 {
     if sizing::too_large(nodes, size) {
         return false;
@@ -86,10 +88,10 @@ pub fn build(
     values: usize,
     room: &mut [u8],
 ) -> Built
-    requires { ⌜ HoldsModel (now m) n p t ⌝ }
-    requires { ⌜ HoldsRows (now f) k p ⌝ }
-    ensures { λ r. ⌜ r ≡ builtOf (built.graphOf (heldModel (now (m .entry)) n p t) (heldRows (now (f .entry)) k)) (now (room .entry)) values ⌝ }
-    ensures { λ _. ⌜ now (room .exit) ≡ builtRoom (built.graphOf (heldModel (now (m .entry)) n p t) (heldRows (now (f .entry)) k)) (now (room .entry)) values ⌝ }
+    requires holds_model { HoldsModel m.now n p t }
+    requires holds_rows { HoldsRows f.now k p }
+    ensures value { result ≡ built_of (built.graph_of (held_model m.now n p t) (held_rows f.now k)) room.old values }
+    ensures room_after { room.new ≡ built_room (built.graph_of (held_model m.now n p t) (held_rows f.now k)) room.old values }
 {
     let untils = sizing::count_untils(f, k, p);
     let table = transitions::starts(m, n, p, t);

@@ -1,28 +1,25 @@
 // The message of the graph, written part by part: the hyperedges of rows and helpers, the cover edges, and the header, with the counts.
-ghost use mathlib.Core.Path.{_≡_};
-ghost use Prim.Native.Nat.{_+_, _*_, _≤_, _<_};
-ghost use lib.ListN.{length};
-ghost use Rattle·wire.specs.Laid.{Laid};
-ghost use Rattle·graph.specs.Format.{graphHeader};
-ghost use Rattle·graph.specs.Write.{writeHeader, writeGraph};
-ghost use Rattle·syntax.specs.declared.Row.the-variants.{True, And, Or, Next};
-ghost use Rattle·reduction.specs.Built as built;
-ghost use Rattle·transitions.specs.Held.{transitionsFrom, heldModel, heldRows, HoldsModel, HoldsRows, Starts, Reads};
-ghost use Rattle·records.specs.Bytes.{hypersBytes, helperList, rowsHypers, rowBytes, rowsBytes, helperBytes, helpersBytes, coverBytes, coversOf, RowFits, Narrow, HelpersFit};
-ghost use Rattle·build·specs.specs.Built.{Writable};
-ghost use Rattle·build·specs.specs.Leaf.{leafRow};
-ghost use Rattle·build·specs.specs.Told.{ToldHypers};
-use syntax::Action;
-use syntax::Quantifier;
-use syntax::Row;
+ghost use Rattle.std.specs.Prelude.{◌≡◌, ◌+◌, ◌*◌, ◌≤◌, ◌<◌, length};
+ghost use Rattle.wire.specs.Laid.{Laid};
+ghost use Rattle.graph.specs.Format.{graph_header};
+ghost use Rattle.graph.specs.Write.{write_header, write_graph};
+ghost use Rattle.syntax.specs.declared.Row.TheVariants.{True, And, Or, Next};
+ghost use Rattle.reduction.specs.Built as built;
+ghost use Rattle.transitions.specs.Held.{transitions_from, held_model, held_rows, HoldsModel, HoldsRows, Starts, Reads};
+ghost use Rattle.records.specs.Bytes.{hypers_bytes, helper_list, rows_hypers, row_bytes, rows_bytes, helper_bytes, helpers_bytes, cover_bytes, covers_of, RowFits, Narrow, HelpersFit};
+ghost use Rattle.build.specs.Built.{Writable};
+ghost use Rattle.build.specs.Leaf.{leaf_row};
+ghost use Rattle.build.specs.Told.{ToldHypers};
+
+use syntax::{Action, Quantifier, Row};
 use value::Bound;
 use wire::Width;
 
 // The hyperedges of true's nodes, over all states.
 fn put_true_states(room: &mut [u8], at: usize, m: &[u8], n: u32, p: u32, t: u32, r: u32) -> usize
-    requires { ⌜ RowFits n r True ⌝ }
-    requires { ⌜ at + length (rowBytes (heldModel (now m) n p t) r True) ≤ length (now room) ⌝ }
-    ensures { λ e. ⌜ Laid (now (room .entry)) at (rowBytes (heldModel (now (m .entry)) n p t) r True) (now (room .exit)) e ⌝ }
+    requires row_fits { RowFits n r True }
+    requires r_in_bounds { at + length (row_bytes (held_model m.now n p t) r True) ≤ length room.old }
+    ensures { Laid room.old at (row_bytes (held_model m.now n p t) r True) room.new result }
 {
     let mut next = at;
     let mut a: u32 = 0;
@@ -45,10 +42,10 @@ fn put_leaf_states(
     i: u32,
     is: bool,
 ) -> usize
-    requires { ⌜ HoldsModel (now m) n p t ⌝ }
-    requires { ⌜ RowFits n r (leafRow is i) ⌝ }
-    requires { ⌜ at + length (rowBytes (heldModel (now m) n p t) r (leafRow is i)) ≤ length (now room) ⌝ }
-    ensures { λ e. ⌜ Laid (now (room .entry)) at (rowBytes (heldModel (now (m .entry)) n p t) r (leafRow is i)) (now (room .exit)) e ⌝ }
+    requires holds_model { HoldsModel m.now n p t }
+    requires row_fits { RowFits n r (leaf_row is i) }
+    requires i_in_bounds { at + length (row_bytes (held_model m.now n p t) r (leaf_row is i)) ≤ length room.old }
+    ensures { Laid room.old at (row_bytes (held_model m.now n p t) r (leaf_row is i)) room.new result }
 {
     let mut next = at;
     let mut a: u32 = 0;
@@ -72,9 +69,9 @@ fn put_and_states(
     l: u32,
     k: u32,
 ) -> usize
-    requires { ⌜ RowFits n r (And l k) ⌝ }
-    requires { ⌜ at + length (rowBytes (heldModel (now m) n p t) r (And l k)) ≤ length (now room) ⌝ }
-    ensures { λ e. ⌜ Laid (now (room .entry)) at (rowBytes (heldModel (now (m .entry)) n p t) r (And l k)) (now (room .exit)) e ⌝ }
+    requires row_fits { RowFits n r (And l k) }
+    requires k_in_bounds { at + length (row_bytes (held_model m.now n p t) r (And l k)) ≤ length room.old }
+    ensures { Laid room.old at (row_bytes (held_model m.now n p t) r (And l k)) room.new result }
 {
     let mut next = at;
     let mut a: u32 = 0;
@@ -97,9 +94,9 @@ fn put_or_states(
     l: u32,
     k: u32,
 ) -> usize
-    requires { ⌜ RowFits n r (Or l k) ⌝ }
-    requires { ⌜ at + length (rowBytes (heldModel (now m) n p t) r (Or l k)) ≤ length (now room) ⌝ }
-    ensures { λ e. ⌜ Laid (now (room .entry)) at (rowBytes (heldModel (now (m .entry)) n p t) r (Or l k)) (now (room .exit)) e ⌝ }
+    requires row_fits { RowFits n r (Or l k) }
+    requires k_in_bounds { at + length (row_bytes (held_model m.now n p t) r (Or l k)) ≤ length room.old }
+    ensures { Laid room.old at (row_bytes (held_model m.now n p t) r (Or l k)) room.new result }
 {
     let mut next = at;
     let mut a: u32 = 0;
@@ -127,11 +124,11 @@ fn put_next_states(
     l: u32,
     bound: Bound,
 ) -> usize
-    requires { ⌜ HoldsModel (now m) n p t ⌝ }
-    requires { ⌜ (n < length (now table)) × Starts (now m) n t (now table) ⌝ }
-    requires { ⌜ RowFits n r (Next q action l bound) ⌝ }
-    requires { ⌜ at + length (rowBytes (heldModel (now m) n p t) r (Next q action l bound)) ≤ length (now room) ⌝ }
-    ensures { λ e. ⌜ Laid (now (room .entry)) at (rowBytes (heldModel (now (m .entry)) n p t) r (Next q action l bound)) (now (room .exit)) e ⌝ }
+    requires holds_model { HoldsModel m.now n p t }
+    requires n_in_bounds { (n < length table.now) × Starts m.now n t table.now }
+    requires row_fits { RowFits n r (Next q action l bound) }
+    requires bound_in_bounds { at + length (row_bytes (held_model m.now n p t) r (Next q action l bound)) ≤ length room.old }
+    ensures { Laid room.old at (row_bytes (held_model m.now n p t) r (Next q action l bound)) room.new result }
 {
     let shift = n * l;
     let mut next = at;
@@ -159,11 +156,11 @@ fn put_row_states(
     r: u32,
     row: Row,
 ) -> usize
-    requires { ⌜ HoldsModel (now m) n p t ⌝ }
-    requires { ⌜ (n < length (now table)) × Starts (now m) n t (now table) ⌝ }
-    requires { ⌜ RowFits n r row ⌝ }
-    requires { ⌜ at + length (rowBytes (heldModel (now m) n p t) r row) ≤ length (now room) ⌝ }
-    ensures { λ e. ⌜ Laid (now (room .entry)) at (rowBytes (heldModel (now (m .entry)) n p t) r row) (now (room .exit)) e ⌝ }
+    requires holds_model { HoldsModel m.now n p t }
+    requires n_in_bounds { (n < length table.now) × Starts m.now n t table.now }
+    requires row_fits { RowFits n r row }
+    requires row_in_bounds { at + length (row_bytes (held_model m.now n p t) r row) ≤ length room.old }
+    ensures { Laid room.old at (row_bytes (held_model m.now n p t) r row) room.new result }
 {
     match row {
         Row::True => put_true_states(room, at, m, n, p, t, r),
@@ -179,7 +176,7 @@ fn put_row_states(
 
 // How many hyperedges a row has in n states, told by their bytes where there are as many targets as hyperedges, or none.
 fn hypers_in(row: Row, n: u32, bytes: usize) -> usize
-    ensures { λ r. ⌜ ToldHypers row n bytes r ⌝ }
+    ensures { ToldHypers row n bytes result }
 {
     match row {
         Row::And(_, _) => n as usize,
@@ -193,6 +190,7 @@ fn hypers_in(row: Row, n: u32, bytes: usize) -> usize
 }
 
 // Where the next part belongs, and how many hyperedges stand before it.
+#[derive(Drop)]
 struct Put {
     next: usize,
     hypers: usize,
@@ -210,13 +208,13 @@ fn put_rows(
     f: &[u8],
     k: u32,
 ) -> Put
-    requires { ⌜ HoldsModel (now m) n p t ⌝ }
-    requires { ⌜ (n < length (now table)) × Starts (now m) n t (now table) ⌝ }
-    requires { ⌜ HoldsRows (now f) k p ⌝ }
-    requires { ⌜ n * k ≤ 4096 ⌝ }
-    requires { ⌜ at + length (rowsBytes (heldModel (now m) n p t) 0 (heldRows (now f) k)) ≤ length (now room) ⌝ }
-    ensures { λ e. ⌜ Laid (now (room .entry)) at (rowsBytes (heldModel (now (m .entry)) n p t) 0 (heldRows (now (f .entry)) k)) (now (room .exit)) (e .next) ⌝ }
-    ensures { λ e. ⌜ e .hypers ≡ length (rowsHypers (heldModel (now (m .entry)) n p t) 0 (heldRows (now (f .entry)) k)) ⌝ }
+    requires holds_model { HoldsModel m.now n p t }
+    requires n_in_bounds { (n < length table.now) × Starts m.now n t table.now }
+    requires holds_rows { HoldsRows f.now k p }
+    requires k_bound { n * k ≤ 4096 }
+    requires k_in_bounds { at + length (rows_bytes (held_model m.now n p t) 0 (held_rows f.now k)) ≤ length room.old }
+    ensures laid { Laid room.old at (rows_bytes (held_model m.now n p t) 0 (held_rows f.now k)) room.new result.next }
+    ensures hypers_value { result.hypers ≡ length (rows_hypers (held_model m.now n p t) 0 (held_rows f.now k)) }
 {
     let mut next = at;
     let mut hypers: usize = 0;
@@ -250,11 +248,11 @@ fn put_helper(
     l: u32,
     k: u32,
 ) -> usize
-    requires { ⌜ Reads (now m) n first many (n * h) ⌝ }
-    requires { ⌜ (a < n) × (n * l + n ≤ 4096) × (n * k + n ≤ 4096) × (many < 65535) ⌝ }
-    requires { ⌜ at + length (hypersBytes (a + n * h) (helperList n a q l k h (transitionsFrom (now m) n first many))) ≤ length (now room) ⌝ }
-    ensures { λ r. ⌜ Laid (now (room .entry)) at (hypersBytes (a + n * h) (helperList n a q l k h (transitionsFrom (now (m .entry)) n first many)))
-        (now (room .exit)) r ⌝ }
+    requires reads { Reads m.now n first many (n * h) }
+    requires a_lt_n { (a < n) × (n * l + n ≤ 4096) × (n * k + n ≤ 4096) × (many < 65535) }
+    requires many_in_bounds { at + length (hypers_bytes (a + n * h) (helper_list n a q l k h (transitions_from m.now n first many))) ≤ length room.old }
+    ensures { Laid room.old at (hypers_bytes (a + n * h) (helper_list n a q l k h (transitions_from m.now n first many)))
+        room.new result }
 {
     let v = a + n * h;
     let left = a + n * l;
@@ -287,11 +285,11 @@ fn put_helper_states(
     l: u32,
     k: u32,
 ) -> usize
-    requires { ⌜ HoldsModel (now m) n p t ⌝ }
-    requires { ⌜ (n < length (now table)) × Starts (now m) n t (now table) ⌝ }
-    requires { ⌜ (n * h + n ≤ 4096) × (l < h) × (k < h) × Narrow (heldModel (now m) n p t) ⌝ }
-    requires { ⌜ at + length (helperBytes (heldModel (now m) n p t) h q l k) ≤ length (now room) ⌝ }
-    ensures { λ e. ⌜ Laid (now (room .entry)) at (helperBytes (heldModel (now (m .entry)) n p t) h q l k) (now (room .exit)) e ⌝ }
+    requires holds_model { HoldsModel m.now n p t }
+    requires n_in_bounds { (n < length table.now) × Starts m.now n t table.now }
+    requires n_bound { (n * h + n ≤ 4096) × (l < h) × (k < h) × Narrow (held_model m.now n p t) }
+    requires k_in_bounds { at + length (helper_bytes (held_model m.now n p t) h q l k) ≤ length room.old }
+    ensures { Laid room.old at (helper_bytes (held_model m.now n p t) h q l k) room.new result }
 {
     let mut next = at;
     let mut a: u32 = 0;
@@ -317,13 +315,13 @@ fn put_helpers(
     f: &[u8],
     k: u32,
 ) -> usize
-    requires { ⌜ HoldsModel (now m) n p t ⌝ }
-    requires { ⌜ (n < length (now table)) × Starts (now m) n t (now table) ⌝ }
-    requires { ⌜ HoldsRows (now f) k p ⌝ }
-    requires { ⌜ HelpersFit (heldModel (now m) n p t) k (built.untils (heldRows (now f) k)) ⌝ }
-    requires { ⌜ at + length (helpersBytes (heldModel (now m) n p t) k (built.untils (heldRows (now f) k))) ≤ length (now room) ⌝ }
-    ensures { λ e. ⌜ Laid (now (room .entry)) at (helpersBytes (heldModel (now (m .entry)) n p t) k (built.untils (heldRows (now (f .entry)) k)))
-        (now (room .exit)) e ⌝ }
+    requires holds_model { HoldsModel m.now n p t }
+    requires n_in_bounds { (n < length table.now) × Starts m.now n t table.now }
+    requires holds_rows { HoldsRows f.now k p }
+    requires helpers_fit { HelpersFit (held_model m.now n p t) k (built.untils (held_rows f.now k)) }
+    requires k_in_bounds { at + length (helpers_bytes (held_model m.now n p t) k (built.untils (held_rows f.now k))) ≤ length room.old }
+    ensures { Laid room.old at (helpers_bytes (held_model m.now n p t) k (built.untils (held_rows f.now k)))
+        room.new result }
 {
     let mut next = at;
     let mut row_at = syntax::HEADER;
@@ -343,8 +341,8 @@ fn put_helpers(
 
 // The header of a graph message.
 fn put_header(room: &mut [u8], long: u32, n: u32, h: u32, c: u32) -> usize
-    requires { ⌜ graphHeader ≤ length (now room) ⌝ }
-    ensures { λ e. ⌜ Laid (now (room .entry)) 0 (writeHeader long n h c) (now (room .exit)) e ⌝ }
+    requires { graph_header ≤ length room.old }
+    ensures { Laid room.old 0 (write_header long n h c) room.new result }
 {
     wire::store(room, 0, Width::Four, long);
     wire::store(room, wire::VERSION_AT, Width::One, graph::VERSION);
@@ -357,9 +355,9 @@ fn put_header(room: &mut [u8], long: u32, n: u32, h: u32, c: u32) -> usize
 
 // The cover edges of an until row's nodes, over all states.
 fn put_cover_states(room: &mut [u8], at: usize, n: u32, r: u32, h: u32, bound: Bound) -> usize
-    requires { ⌜ (n * h + n ≤ 4096) × (r < h) ⌝ }
-    requires { ⌜ at + length (coverBytes n r h bound) ≤ length (now room) ⌝ }
-    ensures { λ e. ⌜ Laid (now (room .entry)) at (coverBytes n r h bound) (now (room .exit)) e ⌝ }
+    requires n_bound { (n * h + n ≤ 4096) × (r < h) }
+    requires bound_in_bounds { at + length (cover_bytes n r h bound) ≤ length room.old }
+    ensures { Laid room.old at (cover_bytes n r h bound) room.new result }
 {
     let code = bound.code();
     let mut next = at;
@@ -376,10 +374,10 @@ fn put_cover_states(room: &mut [u8], at: usize, n: u32, r: u32, h: u32, bound: B
 
 // All cover edges: one for each state and until row, to its helper.
 fn put_covers(room: &mut [u8], at: usize, n: u32, p: u32, f: &[u8], k: u32) -> usize
-    requires { ⌜ HoldsRows (now f) k p ⌝ }
-    requires { ⌜ n * (k + length (built.untils (heldRows (now f) k))) ≤ 4096 ⌝ }
-    requires { ⌜ at + length (coversOf n (heldRows (now f) k)) ≤ length (now room) ⌝ }
-    ensures { λ e. ⌜ Laid (now (room .entry)) at (coversOf n (heldRows (now (f .entry)) k)) (now (room .exit)) e ⌝ }
+    requires holds_rows { HoldsRows f.now k p }
+    requires k_bound { n * (k + length (built.untils (held_rows f.now k))) ≤ 4096 }
+    requires k_in_bounds { at + length (covers_of n (held_rows f.now k)) ≤ length room.old }
+    ensures { Laid room.old at (covers_of n (held_rows f.now k)) room.new result }
 {
     let mut next = at;
     let mut row_at = syntax::HEADER;
@@ -411,13 +409,13 @@ pub fn write(
     untils: u32,
     room: &mut [u8],
 ) -> usize
-    requires { ⌜ HoldsModel (now m) n p t ⌝ }
-    requires { ⌜ (n < length (now table)) × Starts (now m) n t (now table) ⌝ }
-    requires { ⌜ HoldsRows (now f) k p ⌝ }
-    requires { ⌜ untils ≡ length (built.untils (heldRows (now f) k)) ⌝ }
-    requires { ⌜ Writable (built.graphOf (heldModel (now m) n p t) (heldRows (now f) k)) (now room) ⌝ }
-    ensures { λ e. ⌜ Laid (now (room .entry)) 0 (writeGraph (built.graphOf (heldModel (now (m .entry)) n p t) (heldRows (now (f .entry)) k)))
-        (now (room .exit)) e ⌝ }
+    requires holds_model { HoldsModel m.now n p t }
+    requires n_in_bounds { (n < length table.now) × Starts m.now n t table.now }
+    requires holds_rows { HoldsRows f.now k p }
+    requires untils_value { untils ≡ length (built.untils (held_rows f.now k)) }
+    requires writable { Writable (built.graph_of (held_model m.now n p t) (held_rows f.now k)) room.old }
+    ensures { Laid room.old 0 (write_graph (built.graph_of (held_model m.now n p t) (held_rows f.now k)))
+        room.new result }
 {
     let rows = put_rows(room, graph::HEADER, m, n, p, t, table, f, k);
     let covers = put_helpers(room, rows.next, m, n, p, t, table, f, k);

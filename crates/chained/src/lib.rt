@@ -1,15 +1,15 @@
 // Rounds on a graph that is small enough: a round takes in the records on the chains of the changed nodes.
-ghost use mathlib.Core.Path.{_≡_};
-ghost use mathlib.Core.List.{[]};
-ghost use Prim.Native.Nat.{_+_, _≤_};
-ghost use lib.ListN.{length};
-ghost use Rattle·wire.specs.Layout.{end};
-ghost use Rattle·graph.specs.Format.{graphHeader};
-ghost use Rattle·graph.specs.Layouts.{hyperLayout, decoded};
-ghost use Rattle·graph.specs.Ready.{Ready};
-ghost use Rattle·links.specs.Links.{Fits, Linked};
-ghost use Rattle·turns.specs.Turns.{AtRound};
-ghost use Rattle·turns.specs.Outcome.{outcomeCount, ended, filled};
+#![tactic(auto)]
+
+ghost use Rattle.std.specs.Prelude.{◌≡◌, [], ◌+◌, ◌≤◌, length};
+ghost use Rattle.wire.specs.Layout.{end};
+ghost use Rattle.graph.specs.Format.{graph_header};
+ghost use Rattle.graph.specs.Layouts.{hyper_layout, decoded};
+ghost use Rattle.graph.specs.Ready.{Ready};
+ghost use Rattle.links.specs.Links.{Fits, Linked};
+ghost use Rattle.turns.specs.Turns.{AtRound};
+ghost use Rattle.turns.specs.Outcome.{outcome_count, ended, filled};
+
 use turns::Outcome;
 
 // The rounds from 1 and 2 on, in lists in which nothing is linked yet; the nodes that change are listed in the two halves of a list, by turns.
@@ -26,15 +26,15 @@ fn run_in(
     changed: &mut [u16],
     room: &mut [u64],
 ) -> Outcome
-    requires { ⌜ Ready (now s) n h c ⌝ }
-    requires { ⌜ middle ≡ end (hyperLayout (now s) n) h graphHeader ⌝ }
-    requires { ⌜ Fits n h c middle most ⌝ }
-    requires { ⌜ Linked (now s) n middle 0 [] 0 0 (now heads) (now places) ⌝ }
-    requires { ⌜ (length (now places) ≡ most) × (most + most ≤ length (now changed)) ⌝ }
-    requires { ⌜ n + n ≤ length (now room) ⌝ }
-    requires { ⌜ AtRound (decoded (now s) n h c) budget 1 (now room) (now room) ⌝ }
-    ensures { λ r. ⌜ r ≡ ended (decoded (now (s .entry)) n h c) budget ⌝ }
-    ensures { λ r. ⌜ now (room .exit) ≡ filled (decoded (now (s .entry)) n h c) (outcomeCount r) (now (room .entry)) ⌝ }
+    requires ready { Ready s.now n h c }
+    requires middle_value { middle ≡ end (hyper_layout s.now n) h graph_header }
+    requires fits { Fits n h c middle most }
+    requires linked { Linked s.now n middle 0 [] 0 0 heads.old places.old }
+    requires places_len { (length places.old ≡ most) × (most + most ≤ length changed.old) }
+    requires n_in_bounds { n + n ≤ length room.old }
+    requires at_round { AtRound (decoded s.now n h c) budget 1 room.old room.old }
+    ensures value { result ≡ ended (decoded s.now n h c) budget }
+    ensures room_after { room.new ≡ filled (decoded s.now n h c) (outcome_count result) room.old }
 {
     links::link_all(s, n, h, c, middle, heads, places);
     let mut round: u32 = 1;
@@ -50,18 +50,7 @@ fn run_in(
         changes::raise_changed(n, from, many, changed, room);
         let to = most - from;
         many = chains::take_changed(
-            s,
-            n,
-            h,
-            c,
-            middle,
-            heads,
-            places,
-            from,
-            many,
-            to,
-            changed,
-            room,
+            s, n, h, c, middle, heads, places, from, many, to, changed, room,
         );
         from = to;
         round += 1;
@@ -78,13 +67,13 @@ fn run_small(
     budget: u32,
     room: &mut [u64],
 ) -> Outcome
-    requires { ⌜ Ready (now s) n h c ⌝ }
-    requires { ⌜ middle ≡ end (hyperLayout (now s) n) h graphHeader ⌝ }
-    requires { ⌜ Fits n h c middle 1024 ⌝ }
-    requires { ⌜ n + n ≤ length (now room) ⌝ }
-    requires { ⌜ AtRound (decoded (now s) n h c) budget 1 (now room) (now room) ⌝ }
-    ensures { λ r. ⌜ r ≡ ended (decoded (now (s .entry)) n h c) budget ⌝ }
-    ensures { λ r. ⌜ now (room .exit) ≡ filled (decoded (now (s .entry)) n h c) (outcomeCount r) (now (room .entry)) ⌝ }
+    requires ready { Ready s.now n h c }
+    requires middle_value { middle ≡ end (hyper_layout s.now n) h graph_header }
+    requires fits { Fits n h c middle 1024 }
+    requires n_in_bounds { n + n ≤ length room.old }
+    requires at_round { AtRound (decoded s.now n h c) budget 1 room.old room.old }
+    ensures value { result ≡ ended (decoded s.now n h c) budget }
+    ensures room_after { room.new ≡ filled (decoded s.now n h c) (outcome_count result) room.old }
 {
     let mut heads = [0u16; 1024];
     let mut places = [0u64; 1024];
@@ -114,13 +103,13 @@ fn run_tiny(
     budget: u32,
     room: &mut [u64],
 ) -> Outcome
-    requires { ⌜ Ready (now s) n h c ⌝ }
-    requires { ⌜ middle ≡ end (hyperLayout (now s) n) h graphHeader ⌝ }
-    requires { ⌜ Fits n h c middle 256 ⌝ }
-    requires { ⌜ n + n ≤ length (now room) ⌝ }
-    requires { ⌜ AtRound (decoded (now s) n h c) budget 1 (now room) (now room) ⌝ }
-    ensures { λ r. ⌜ r ≡ ended (decoded (now (s .entry)) n h c) budget ⌝ }
-    ensures { λ r. ⌜ now (room .exit) ≡ filled (decoded (now (s .entry)) n h c) (outcomeCount r) (now (room .entry)) ⌝ }
+    requires ready { Ready s.now n h c }
+    requires middle_value { middle ≡ end (hyper_layout s.now n) h graph_header }
+    requires fits { Fits n h c middle 256 }
+    requires n_in_bounds { n + n ≤ length room.old }
+    requires at_round { AtRound (decoded s.now n h c) budget 1 room.old room.old }
+    ensures value { result ≡ ended (decoded s.now n h c) budget }
+    ensures room_after { room.new ≡ filled (decoded s.now n h c) (outcome_count result) room.old }
 {
     let mut heads = [0u16; 256];
     let mut places = [0u64; 256];
@@ -151,13 +140,13 @@ pub fn run_linked(
     budget: u32,
     room: &mut [u64],
 ) -> Outcome
-    requires { ⌜ Ready (now s) n h c ⌝ }
-    requires { ⌜ middle ≡ end (hyperLayout (now s) n) h graphHeader ⌝ }
-    requires { ⌜ Fits n h c middle 4096 ⌝ }
-    requires { ⌜ n + n ≤ length (now room) ⌝ }
-    requires { ⌜ AtRound (decoded (now s) n h c) budget 1 (now room) (now room) ⌝ }
-    ensures { λ r. ⌜ r ≡ ended (decoded (now (s .entry)) n h c) budget ⌝ }
-    ensures { λ r. ⌜ now (room .exit) ≡ filled (decoded (now (s .entry)) n h c) (outcomeCount r) (now (room .entry)) ⌝ }
+    requires ready { Ready s.now n h c }
+    requires middle_value { middle ≡ end (hyper_layout s.now n) h graph_header }
+    requires fits { Fits n h c middle 4096 }
+    requires n_in_bounds { n + n ≤ length room.old }
+    requires at_round { AtRound (decoded s.now n h c) budget 1 room.old room.old }
+    ensures value { result ≡ ended (decoded s.now n h c) budget }
+    ensures room_after { room.new ≡ filled (decoded s.now n h c) (outcome_count result) room.old }
 {
     if links::fit(n, h, c, middle, 256) {
         return run_tiny(s, n, h, c, middle, budget, room);

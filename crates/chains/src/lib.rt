@@ -1,27 +1,26 @@
 // A round along the chains of the nodes that changed: the records that they lead to are taken in, and no others.
-ghost use mathlib.Core.Path.{_≡_};
-ghost use Prim.Native.Nat.{ℕ, _+_, _<_, _≤_};
-ghost use mathlib.Core.List.{List};
-ghost use lib.ListN.{length, getD};
-ghost use Rattle·wire.specs.Bytes.{number};
-ghost use Rattle·wire.specs.Layout.{end};
-ghost use Rattle·rules.specs.Graph.{Graph};
-ghost use Rattle·graph.specs.Format.{graphHeader};
-ghost use Rattle·graph.specs.Layouts.{hyperLayout, Scannable};
-ghost use Rattle·halves.specs.Room.{Same};
-ghost use Rattle·links.specs.Links.{linkOf, spotOf, Reached, RecordAt, Told, Index};
-ghost use Rattle·changes.specs.Listed.{Listed, Apart, Aside};
-ghost use Rattle·chains·specs.specs.Taken.{RecordOk, givenAt, RecordIn, Taken, Further, TakenAll};
-use value::Bound;
-use value::Value;
+#![tactic(auto)]
+
+ghost use Rattle.std.specs.Prelude.{◌≡◌, ℕ, ◌+◌, ◌<◌, ◌≤◌, List, length, get_or};
+ghost use Rattle.wire.specs.Bytes.{number};
+ghost use Rattle.wire.specs.Layout.{end};
+ghost use Rattle.rules.specs.Graph.{Graph};
+ghost use Rattle.graph.specs.Format.{graph_header};
+ghost use Rattle.graph.specs.Layouts.{hyper_layout, Scannable};
+ghost use Rattle.halves.specs.Room.{Same};
+ghost use Rattle.links.specs.Links.{link_of, spot_of, Reached, RecordAt, Told, Index};
+ghost use Rattle.changes.specs.Listed.{Listed, Apart, Aside};
+ghost use Rattle.chains.specs.Taken.{RecordOk, given_at, RecordIn, Taken, Further, TakenAll};
+
+use value::{Bound, Value};
 use wire::Width;
 
 // What the record at a position gives its source, by the numbers of a round: the cover edges stand from `middle` on. The number of the
 // target is read before the bound: behind it a compiler would take the bound's bytes apart.
 fn given(s: &[u8], n: usize, middle: usize, at: usize, x: &[u64]) -> Value
-    requires { ⌜ RecordOk (now s) n middle at ⌝ }
-    requires { ⌜ n ≤ length (now x) ⌝ }
-    ensures { λ r. ⌜ r .0 ≡ givenAt (now (s .entry)) n middle at (now (x .entry)) ⌝ }
+    requires record_ok { RecordOk s.now n middle at }
+    requires n_in_bounds { n ≤ length x.now }
+    ensures { result.0 ≡ given_at s.now n middle at x.now }
 {
     if at < middle {
         let count = wire::number_at(s, at + graph::TARGET_COUNT_AT, Width::Two);
@@ -49,14 +48,14 @@ fn take_source(
     changed: &mut [u16],
     room: &mut [u64],
 ) -> usize
-    requires { ⌜ RecordOk (now s) n middle at ⌝ }
-    requires { ⌜ n + n ≤ length (now room) ⌝ }
-    requires { ⌜ (source < n) × (source ≡ number 2 (now s) at) ⌝ }
-    requires { ⌜ n ≤ 65535 ⌝ }
-    requires { ⌜ Listed n n to many (now room) (now changed) ⌝ }
-    ensures { λ _. ⌜ RecordIn (now (s .entry)) n middle at (now (room .entry)) (now (room .exit)) ⌝ }
-    ensures { λ r. ⌜ Listed n n to r (now (room .exit)) (now (changed .exit)) ⌝ }
-    ensures { λ _. ⌜ Apart n to (now (changed .entry)) (now (changed .exit)) ⌝ }
+    requires record_ok { RecordOk s.now n middle at }
+    requires n_in_bounds { n + n ≤ length room.old }
+    requires source_lt_n { (source < n) × (source ≡ number 2 s.now at) }
+    requires n_bound { n ≤ 65535 }
+    requires listed { Listed n n to many room.old changed.old }
+    ensures record_in { RecordIn s.now n middle at room.old room.new }
+    ensures listed_2 { Listed n n to result room.new changed.new }
+    ensures apart { Apart n to changed.old changed.new }
 {
     let value = given(s, n, middle, at, &room[0..n]);
     let other = n + source;
@@ -87,18 +86,18 @@ fn take_linked(
     changed: &mut [u16],
     room: &mut [u64],
 ) -> usize
-    requires { ⌜ Scannable (now s) n h c ⌝ }
-    requires { ⌜ middle ≡ end (hyperLayout (now s) n) h graphHeader ⌝ }
-    requires { ⌜ n + n ≤ length (now room) ⌝ }
-    requires { ⌜ head ≤ length (now places) ⌝ }
-    requires { ⌜ ((q : ℕ) → linkOf (getD (now places) q 0) ≤ q) ⌝ }
-    requires { ⌜ ((q : ℕ) → Reached (now places) q head → RecordAt (now s) n h c middle (spotOf (getD (now places) q 0)) × Told (now s) (now places) q) ⌝ }
-    requires { ⌜ n ≤ 65535 ⌝ }
-    requires { ⌜ Listed n n to many (now room) (now changed) ⌝ }
-    ensures { λ r. ⌜ Listed n n to r (now (room .exit)) (now (changed .exit)) ⌝ }
-    ensures { λ _. ⌜ Apart n to (now (changed .entry)) (now (changed .exit)) ⌝ }
-    ensures { λ _. ⌜ ((b₀ : List ℕ) (p : Graph) → n + n ≤ length b₀ → Taken (now (s .entry)) n h c middle b₀ (now (room .entry)) p
-        → Further (now (s .entry)) n h c middle (now (places .entry)) head b₀ (now (room .exit)) p) ⌝ }
+    requires scannable { Scannable s.now n h c }
+    requires middle_value { middle ≡ end (hyper_layout s.now n) h graph_header }
+    requires n_in_bounds { n + n ≤ length room.old }
+    requires head_in_bounds { head ≤ length places.now }
+    requires by_index { (q : ℕ) → link_of (get_or places.now q 0) ≤ q }
+    requires by_index_2 { (q : ℕ) → Reached places.now q head → RecordAt s.now n h c middle (spot_of (get_or places.now q 0)) × Told s.now places.now q }
+    requires n_bound { n ≤ 65535 }
+    requires listed { Listed n n to many room.old changed.old }
+    ensures listed_2 { Listed n n to result room.new changed.new }
+    ensures apart { Apart n to changed.old changed.new }
+    ensures by_index_3 { (b₀ : List ℕ) (p : Graph) → n + n ≤ length b₀ → Taken s.now n h c middle b₀ room.old p
+        → Further s.now n h c middle places.now head b₀ room.new p }
 {
     let mut k = many;
     let mut place = head as usize;
@@ -128,16 +127,16 @@ pub fn take_changed(
     changed: &mut [u16],
     room: &mut [u64],
 ) -> usize
-    requires { ⌜ Scannable (now s) n h c ⌝ }
-    requires { ⌜ middle ≡ end (hyperLayout (now s) n) h graphHeader ⌝ }
-    requires { ⌜ n + n ≤ length (now room) ⌝ }
-    requires { ⌜ Index (now s) n h c middle (now heads) (now places) ⌝ }
-    requires { ⌜ (n ≤ 65535) × Aside n from to × (from + n ≤ length (now changed)) × (to + n ≤ length (now changed)) ⌝ }
-    requires { ⌜ (many ≤ n) × ((k : ℕ) → k < many → getD (now changed) (from + k) 0 < n) ⌝ }
-    requires { ⌜ Same n (now room) ⌝ }
-    ensures { λ r. ⌜ Listed n n to r (now (room .exit)) (now (changed .exit)) ⌝ }
-    ensures { λ _. ⌜ TakenAll (now (s .entry)) n h c middle from many (now (changed .entry)) (now (heads .entry)) (now (places .entry))
-        (now (room .entry)) (now (room .exit)) ⌝ }
+    requires scannable { Scannable s.now n h c }
+    requires middle_value { middle ≡ end (hyper_layout s.now n) h graph_header }
+    requires n_in_bounds { n + n ≤ length room.old }
+    requires index { Index s.now n h c middle heads.now places.now }
+    requires n_bound { (n ≤ 65535) × Aside n from to × (from + n ≤ length changed.old) × (to + n ≤ length changed.old) }
+    requires many_le_n { (many ≤ n) × ((k : ℕ) → k < many → get_or changed.old (from + k) 0 < n) }
+    requires same { Same n room.old }
+    ensures listed { Listed n n to result room.new changed.new }
+    ensures taken_all { TakenAll s.now n h c middle from many changed.old heads.now places.now
+        room.old room.new }
 {
     let mut k: usize = 0;
     let mut i: usize = 0;

@@ -1,275 +1,273 @@
 -- The nodes that changed, listed: one more of a pass, and a record that changes its source or does not. Assumes nothing.
-use Prim.Native.Nat.{ℕ, zero, suc, _+_, _-_, _<_, _≤_}
-use mathlib.Core.Bool.{cond}
+use Prim.Native.Nat.{ℕ, zero, suc, ◌+◌, ◌-◌, ◌<◌, ◌≤◌}
 use mathlib.Core.List.{List}
-use mathlib.Core.Logic.{_⊎_, inl, inr}
-use mathlib.Core.Path.{_≡_, refl, sym, ap, _∙_}
-use lib.Dec.{eqb}
-use lib.ListN.{length, getD, set, drop, length-set}
-use lib.Seq.{getD-set-same, getD-set-other, drop-set-lt}
-use borrow.Author.Tests.{eq-eqb, ne-eqb}
-use native.Mathlib.Decide.{ℕ-discrete}
+use mathlib.Core.Logic.{◌⊎◌, inl, inr}
+use mathlib.Core.Path.{◌≡◌, refl, sym, ◌∙◌}
+use lib.ListN.{length, get_or, set, drop, length-set}
+use lib.Seq.{get_or-set_same, get_or-set_other, drop-set-lt}
+use borrow.Author.Tests.{eq-eqb, ne_eqb}
+use native.Mathlib.Decide.{ℕ_discrete}
 use native.Mathlib.Omega.{arith}
 use native.Mathlib.Numerals.{add-one}
-use Rattle·halves.specs.Room.{Same, Raised}
-use Rattle·changes·specs.specs.Listed.{Fallen, changes, Listed, Apart, Aside, forth, back}
+use Rattle.halves.specs.Room.{Same, Raised}
+use Rattle.changes.specs.Listed.{Fallen, changes, Listed, Apart, Aside, forth, back}
 
 -- what a record does to the numbers of the nodes: that of its source may fall in the next round
-pub record Lowers (n source : ℕ) (b b′ : List ℕ) : Type 0 where
-  pub same-length : length b′ ≡ length b
-  pub this : (v : ℕ) → v < n → getD b′ v 0 ≡ getD b v 0
-  pub others : (v : ℕ) → v < n → ¬ (v ≡ source) → getD b′ (n + v) 0 ≡ getD b (n + v) 0
-  pub falls : getD b′ (n + source) 0 ≤ getD b (n + source) 0
+pub record Lowers (n source : ℕ) (b b' : List ℕ) : Type 0 where
+  pub same_length : length b' ≡ length b
+  pub this : (v : ℕ) → v < n → get_or b' v 0 ≡ get_or b v 0
+  pub others : (v : ℕ) → v < n → ¬ (v ≡ source) → get_or b' (n + v) 0 ≡ get_or b (n + v) 0
+  pub falls : get_or b' (n + source) 0 ≤ get_or b (n + source) 0
 
 -- a node changed, or it did not
-counts-same : (n i : ℕ) (b : List ℕ) → getD b i 0 ≡ getD b (n + i) 0 → changes n b (suc i) ≡ changes n b i
+counts_same : (n i : ℕ) (b : List ℕ) → get_or b i 0 ≡ get_or b (n + i) 0 → changes n b (suc i) ≡ changes n b i
 unfolding changes
-counts-same n i b e = rw (eq-eqb (getD b i 0) (getD b (n + i) 0) e) (omega arith)
+counts_same n i b e = rw (eq-eqb (get_or b i 0) (get_or b (n + i) 0) e) (omega arith)
 
-counts-other : (n i : ℕ) (b : List ℕ) → ¬ (getD b i 0 ≡ getD b (n + i) 0) → changes n b (suc i) ≡ 1 + changes n b i
+counts_other : (n i : ℕ) (b : List ℕ) → ¬ (get_or b i 0 ≡ get_or b (n + i) 0) → changes n b (suc i) ≡ 1 + changes n b i
 unfolding changes
-counts-other n i b e = rw (ne-eqb (getD b i 0) (getD b (n + i) 0) e) refl
+counts_other n i b e = rw (ne_eqb (get_or b i 0) (get_or b (n + i) 0) e) refl
 
 -- no more than there are nodes
-changes-le : (n : ℕ) (b : List ℕ) (i : ℕ) → changes n b i ≤ i
+changes_le : (n : ℕ) (b : List ℕ) (i : ℕ) → changes n b i ≤ i
 unfolding changes
-changes-le n b zero = omega arith
-changes-le n b (suc i) = go (ℕ-discrete (getD b i 0) (getD b (n + i) 0)) (changes-le n b i)
+changes_le n b zero = omega arith
+changes_le n b (suc i) = go (ℕ_discrete (get_or b i 0) (get_or b (n + i) 0)) (changes_le n b i)
   where
-    go : Dec (getD b i 0 ≡ getD b (n + i) 0) → changes n b i ≤ i → changes n b (suc i) ≤ suc i
-    go (yes e) h = omega (arith, counts-same n i b e)
-    go (no e) h = omega (arith, counts-other n i b e)
+    go : Dec (get_or b i 0 ≡ get_or b (n + i) 0) → changes n b i ≤ i → changes n b (suc i) ≤ suc i
+    go (yes e) h = omega (arith, counts_same n i b e)
+    go (no e) h = omega (arith, counts_other n i b e)
 
 -- none, where the halves are the same
-changes-none : (n : ℕ) (b : List ℕ) (i : ℕ) → ((v : ℕ) → v < i → getD b v 0 ≡ getD b (n + v) 0) → changes n b i ≡ 0
+changes_none : (n : ℕ) (b : List ℕ) (i : ℕ) → ((v : ℕ) → v < i → get_or b v 0 ≡ get_or b (n + v) 0) → changes n b i ≡ 0
 unfolding changes
-changes-none n b zero same = refl
-changes-none n b (suc i) same = counts-same n i b (same i (omega arith)) ∙ changes-none n b i (λ v l. same v (omega arith))
+changes_none n b zero same = refl
+changes_none n b (suc i) same = counts_same n i b (same i (omega arith)) ∙ changes_none n b i (λ v l. same v (omega arith))
 
-module _ (n : ℕ) (b b′ : List ℕ) where
+module _ (n : ℕ) (b b' : List ℕ) where
   -- no fewer, where each that changed did so here too
-  changes-mono : (i : ℕ) → ((v : ℕ) → v < i → ¬ (getD b v 0 ≡ getD b (n + v) 0) → ¬ (getD b′ v 0 ≡ getD b′ (n + v) 0)) → changes n b i ≤ changes n b′ i
+  changes_mono : (i : ℕ) → ((v : ℕ) → v < i → ¬ (get_or b v 0 ≡ get_or b (n + v) 0) → ¬ (get_or b' v 0 ≡ get_or b' (n + v) 0)) → changes n b i ≤ changes n b' i
   unfolding changes
-  changes-mono zero still = omega arith
-  changes-mono (suc i) still = go (ℕ-discrete (getD b i 0) (getD b (n + i) 0)) (ℕ-discrete (getD b′ i 0) (getD b′ (n + i) 0)) (changes-mono i (λ v l. still v (omega arith)))
+  changes_mono zero still = omega arith
+  changes_mono (suc i) still = go (ℕ_discrete (get_or b i 0) (get_or b (n + i) 0)) (ℕ_discrete (get_or b' i 0) (get_or b' (n + i) 0)) (changes_mono i (λ v l. still v (omega arith)))
     where
-      go : Dec (getD b i 0 ≡ getD b (n + i) 0) → Dec (getD b′ i 0 ≡ getD b′ (n + i) 0) → changes n b i ≤ changes n b′ i → changes n b (suc i) ≤ changes n b′ (suc i)
-      go (yes e) (yes e′) h = omega (arith, counts-same n i b e, counts-same n i b′ e′)
-      go (yes e) (no e′) h = omega (arith, counts-same n i b e, counts-other n i b′ e′)
-      go (no e) (yes e′) h = absurd (still i (omega arith) e e′)
-      go (no e) (no e′) h = omega (arith, counts-other n i b e, counts-other n i b′ e′)
+      go : Dec (get_or b i 0 ≡ get_or b (n + i) 0) → Dec (get_or b' i 0 ≡ get_or b' (n + i) 0) → changes n b i ≤ changes n b' i → changes n b (suc i) ≤ changes n b' (suc i)
+      go (yes e) (yes e') h = omega (arith, counts_same n i b e, counts_same n i b' e')
+      go (yes e) (no e') h = omega (arith, counts_same n i b e, counts_other n i b' e')
+      go (no e) (yes e') h = absurd (still i (omega arith) e e')
+      go (no e) (no e') h = omega (arith, counts_other n i b e, counts_other n i b' e')
 
   -- one more, where another one did
-  changes-more : (w i : ℕ) → w < i → getD b w 0 ≡ getD b (n + w) 0 → ¬ (getD b′ w 0 ≡ getD b′ (n + w) 0)
-      → ((v : ℕ) → v < i → ¬ (getD b v 0 ≡ getD b (n + v) 0) → ¬ (getD b′ v 0 ≡ getD b′ (n + v) 0)) → changes n b i < changes n b′ i
+  changes_more : (w i : ℕ) → w < i → get_or b w 0 ≡ get_or b (n + w) 0 → ¬ (get_or b' w 0 ≡ get_or b' (n + w) 0)
+      → ((v : ℕ) → v < i → ¬ (get_or b v 0 ≡ get_or b (n + v) 0) → ¬ (get_or b' v 0 ≡ get_or b' (n + v) 0)) → changes n b i < changes n b' i
   unfolding changes
-  changes-more w zero l same other still = absurd (omega arith)
-  changes-more w (suc i) l same other still = go (ℕ-discrete w i) (λ h. changes-more w i h same other (λ v l′. still v (omega arith)))
+  changes_more w zero l same other still = absurd (omega arith)
+  changes_more w (suc i) l same other still = go (ℕ_discrete w i) (λ h. changes_more w i h same other (λ v l'. still v (omega arith)))
     where
-      rest : Dec (getD b i 0 ≡ getD b (n + i) 0) → Dec (getD b′ i 0 ≡ getD b′ (n + i) 0) → changes n b i < changes n b′ i → changes n b (suc i) < changes n b′ (suc i)
-      rest (yes e) (yes e′) h = omega (arith, counts-same n i b e, counts-same n i b′ e′)
-      rest (yes e) (no e′) h = omega (arith, counts-same n i b e, counts-other n i b′ e′)
-      rest (no e) (yes e′) h = absurd (still i (omega arith) e e′)
-      rest (no e) (no e′) h = omega (arith, counts-other n i b e, counts-other n i b′ e′)
+      rest : Dec (get_or b i 0 ≡ get_or b (n + i) 0) → Dec (get_or b' i 0 ≡ get_or b' (n + i) 0) → changes n b i < changes n b' i → changes n b (suc i) < changes n b' (suc i)
+      rest (yes e) (yes e') h = omega (arith, counts_same n i b e, counts_same n i b' e')
+      rest (yes e) (no e') h = omega (arith, counts_same n i b e, counts_other n i b' e')
+      rest (no e) (yes e') h = absurd (still i (omega arith) e e')
+      rest (no e) (no e') h = omega (arith, counts_other n i b e, counts_other n i b' e')
 
-      go : Dec (w ≡ i) → (w < i → changes n b i < changes n b′ i) → changes n b (suc i) < changes n b′ (suc i)
+      go : Dec (w ≡ i) → (w < i → changes n b i < changes n b' i) → changes n b (suc i) < changes n b' (suc i)
       go (yes e) before =
-          let same′ : getD b i 0 ≡ getD b (n + i) 0 = rw e at same in
-          let other′ : ¬ (getD b′ i 0 ≡ getD b′ (n + i) 0) = rw e at other in
-          omega (arith, counts-same n i b same′, counts-other n i b′ other′, changes-mono i (λ v l′. still v (omega arith)))
-      go (no e) before = rest (ℕ-discrete (getD b i 0) (getD b (n + i) 0)) (ℕ-discrete (getD b′ i 0) (getD b′ (n + i) 0)) (before (omega arith))
+          let same' : get_or b i 0 ≡ get_or b (n + i) 0 = rw e at same in
+          let other' : ¬ (get_or b' i 0 ≡ get_or b' (n + i) 0) = rw e at other in
+          omega (arith, counts_same n i b same', counts_other n i b' other', changes_mono i (λ v l'. still v (omega arith)))
+      go (no e) before = rest (ℕ_discrete (get_or b i 0) (get_or b (n + i) 0)) (ℕ_discrete (get_or b' i 0) (get_or b' (n + i) 0)) (before (omega arith))
 
 -- nothing is listed yet: of no node, and where the halves are the same
-pub listed-none : {n from : ℕ} {b changed : List ℕ} → from + n ≤ length changed → Fallen n b → Listed n 0 from 0 b changed
-listed-none long fallen = record { long = long; fallen = fallen; few = omega arith; named = λ k l. absurd (omega arith); reach = λ v l. absurd (omega arith) }
+pub listed_none : {n from : ℕ} {b changed : List ℕ} → from + n ≤ length changed → Fallen n b → Listed n 0 from 0 b changed
+listed_none long fallen = record { long = long; fallen = fallen; few = omega arith; named = λ k l. absurd (omega arith); reach = λ v l. absurd (omega arith) }
 
-pub listed-level : {n from : ℕ} {b changed : List ℕ} → from + n ≤ length changed → Same n b → Listed n n from 0 b changed
-listed-level long same = record { long = long; fallen = λ v l. omega (arith, same v l); few = omega arith; named = λ k l. absurd (omega arith); reach = λ v l ne. absurd (ne (same v l)) }
+pub listed_level : {n from : ℕ} {b changed : List ℕ} → from + n ≤ length changed → Same n b → Listed n n from 0 b changed
+listed_level long same = record { long = long; fallen = λ v l. omega (arith, same v l); few = omega arith; named = λ k l. absurd (omega arith); reach = λ v l ne. absurd (ne (same v l)) }
 
 module _ {n i from many : ℕ} {b changed : List ℕ} (d : Listed n i from many b changed) where
   -- no more are listed than there are nodes
-  pub listed-few : many ≤ i
-  listed-few = omega (arith, d .few, changes-le n b i)
+  pub listed_few : many ≤ i
+  listed_few = omega (arith, d.few, changes_le n b i)
 
   -- a node that did not change, and one that did
-  pub listed-same : getD b i 0 ≡ getD b (n + i) 0 → Listed n (i + 1) from many b changed
-  listed-same e = rw (add-one i) (record { long = d .long; fallen = d .fallen; few = omega (arith, d .few, counts-same n i b e); named = d .named; reach = λ v l ne. go v l ne (ℕ-discrete v i) })
+  pub listed_same : get_or b i 0 ≡ get_or b (n + i) 0 → Listed n (i + 1) from many b changed
+  listed_same e = rw (add-one i) (record { long = d.long; fallen = d.fallen; few = omega (arith, d.few, counts_same n i b e); named = d.named; reach = λ v l ne. go v l ne (ℕ_discrete v i) })
     where
-      go : (v : ℕ) → v < suc i → ¬ (getD b v 0 ≡ getD b (n + v) 0) → Dec (v ≡ i) → (k : ℕ) × (k < many) × (getD changed (from + k) 0 ≡ v)
+      go : (v : ℕ) → v < suc i → ¬ (get_or b v 0 ≡ get_or b (n + v) 0) → Dec (v ≡ i) → (k : ℕ) × (k < many) × (get_or changed (from + k) 0 ≡ v)
       go v l ne (yes z) = absurd (ne (rw z e))
-      go v l ne (no z) = d .reach v (omega arith) ne
+      go v l ne (no z) = d.reach v (omega arith) ne
 
 -- nothing is listed exactly where the halves are the same
 module _ {n from many : ℕ} {b changed : List ℕ} (d : Listed n n from many b changed) where
-  pub listed-over : many ≡ 0 → Same n b
-  listed-over e v l = go (ℕ-discrete (getD b v 0) (getD b (n + v) 0))
+  pub listed_over : many ≡ 0 → Same n b
+  listed_over e v l = go (ℕ_discrete (get_or b v 0) (get_or b (n + v) 0))
     where
-      go : Dec (getD b v 0 ≡ getD b (n + v) 0) → getD b v 0 ≡ getD b (n + v) 0
+      go : Dec (get_or b v 0 ≡ get_or b (n + v) 0) → get_or b v 0 ≡ get_or b (n + v) 0
       go (yes q) = q
-      go (no q) = let r = d .reach v l q in absurd (omega (arith, r .1))
+      go (no q) = let r = d.reach v l q in absurd (omega (arith, r.1))
 
-  pub listed-some : ¬ (many ≡ 0) → ¬ Same n b
-  listed-some e same = e (omega (arith, d .few, changes-none n b n same))
+  pub listed_some : ¬ (many ≡ 0) → ¬ Same n b
+  listed_some e same = e (omega (arith, d.few, changes_none n b n same))
 
 -- a node more in the list
 module _ (from many : ℕ) (changed : List ℕ) (w : ℕ) (free : from + many < length changed) where
-  more-named : {n : ℕ} → w < n → ((k : ℕ) → k < many → getD changed (from + k) 0 < n) → (k : ℕ) → k < many + 1 → getD (set changed (from + many) w) (from + k) 0 < n
-  more-named {n} l named k h = go (ℕ-discrete k many)
+  more_named : {n : ℕ} → w < n → ((k : ℕ) → k < many → get_or changed (from + k) 0 < n) → (k : ℕ) → k < many + 1 → get_or (set changed (from + many) w) (from + k) 0 < n
+  more_named {n} l named k h = go (ℕ_discrete k many)
     where
-      go : Dec (k ≡ many) → getD (set changed (from + many) w) (from + k) 0 < n
-      go (yes e) = rw (e, getD-set-same changed (from + many) w 0 free) l
+      go : Dec (k ≡ many) → get_or (set changed (from + many) w) (from + k) 0 < n
+      go (yes e) = rw (e, get_or-set_same changed (from + many) w 0 free) l
       go (no e) =
           let apart : ¬ (from + k ≡ from + many) = λ q. e (omega arith) in
-          rw (getD-set-other changed (from + many) (from + k) w 0 apart) (named k (omega arith))
+          rw (get_or-set_other changed (from + many) (from + k) w 0 apart) (named k (omega arith))
 
-  more-here : (k : ℕ) × (k < many + 1) × (getD (set changed (from + many) w) (from + k) 0 ≡ w)
-  more-here = (many, omega arith, getD-set-same changed (from + many) w 0 free)
+  more_here : (k : ℕ) × (k < many + 1) × (get_or (set changed (from + many) w) (from + k) 0 ≡ w)
+  more_here = (many, omega arith, get_or-set_same changed (from + many) w 0 free)
 
-  more-there : {v : ℕ} → (k : ℕ) × (k < many) × (getD changed (from + k) 0 ≡ v) → (k : ℕ) × (k < many + 1) × (getD (set changed (from + many) w) (from + k) 0 ≡ v)
-  more-there r =
-      let apart : ¬ (from + r .0 ≡ from + many) = λ q. omega (arith, r .1) in
-      (r .0, omega (arith, r .1), getD-set-other changed (from + many) (from + r .0) w 0 apart ∙ r .2)
+  more_there : {v : ℕ} → (k : ℕ) × (k < many) × (get_or changed (from + k) 0 ≡ v) → (k : ℕ) × (k < many + 1) × (get_or (set changed (from + many) w) (from + k) 0 ≡ v)
+  more_there r =
+      let apart : ¬ (from + r.0 ≡ from + many) = λ q. omega (arith, r.1) in
+      (r.0, omega (arith, r.1), get_or-set_other changed (from + many) (from + r.0) w 0 apart ∙ r.2)
 
-pub listed-more : {n i from many : ℕ} {b changed : List ℕ} → Listed n i from many b changed → i < n → ¬ (getD b i 0 ≡ getD b (n + i) 0) → from + many < length changed
+pub listed_more : {n i from many : ℕ} {b changed : List ℕ} → Listed n i from many b changed → i < n → ¬ (get_or b i 0 ≡ get_or b (n + i) 0) → from + many < length changed
     → Listed n (i + 1) from (many + 1) b (set changed (from + many) i)
-listed-more {n} {i} {from} {many} {b} {changed} d inside ne free = rw (add-one i) (record {
-  long = omega (arith, length-set changed (from + many) i, d .long);
-  fallen = d .fallen;
-  few = omega (arith, d .few, counts-other n i b ne);
-  named = more-named from many changed i free inside (d .named);
-  reach = λ v l e. go v l e (ℕ-discrete v i);
+listed_more {n} {i} {from} {many} {b} {changed} d inside ne free = rw (add-one i) (record {
+  long = omega (arith, length-set changed (from + many) i, d.long);
+  fallen = d.fallen;
+  few = omega (arith, d.few, counts_other n i b ne);
+  named = more_named from many changed i free inside d.named;
+  reach = λ v l e. go v l e (ℕ_discrete v i);
 })
   where
-    go : (v : ℕ) → v < suc i → ¬ (getD b v 0 ≡ getD b (n + v) 0) → Dec (v ≡ i) → (k : ℕ) × (k < many + 1) × (getD (set changed (from + many) i) (from + k) 0 ≡ v)
-    go v l e (yes z) = rw z (more-here from many changed i free)
-    go v l e (no z) = more-there from many changed i free (d .reach v (omega arith) e)
+    go : (v : ℕ) → v < suc i → ¬ (get_or b v 0 ≡ get_or b (n + v) 0) → Dec (v ≡ i) → (k : ℕ) × (k < many + 1) × (get_or (set changed (from + many) i) (from + k) 0 ≡ v)
+    go v l e (yes z) = rw z (more_here from many changed i free)
+    go v l e (no z) = more_there from many changed i free (d.reach v (omega arith) e)
 
 -- a record is taken in
-module _ {n to many source : ℕ} {b b′ changed : List ℕ} (d : Listed n n to many b changed) (named : source < n) (r : Lowers n source b b′) where
-  still : (v : ℕ) → v < n → ¬ (getD b v 0 ≡ getD b (n + v) 0) → ¬ (getD b′ v 0 ≡ getD b′ (n + v) 0)
-  still v l ne = go (ℕ-discrete v source)
+module _ {n to many source : ℕ} {b b' changed : List ℕ} (d : Listed n n to many b changed) (named : source < n) (r : Lowers n source b b') where
+  still : (v : ℕ) → v < n → ¬ (get_or b v 0 ≡ get_or b (n + v) 0) → ¬ (get_or b' v 0 ≡ get_or b' (n + v) 0)
+  still v l ne = go (ℕ_discrete v source)
     where
-      go : Dec (v ≡ source) → ¬ (getD b′ v 0 ≡ getD b′ (n + v) 0)
-      go (no e) q = ne (sym (r .this v l) ∙ q ∙ r .others v l e)
+      go : Dec (v ≡ source) → ¬ (get_or b' v 0 ≡ get_or b' (n + v) 0)
+      go (no e) q = ne (sym (r.this v l) ∙ q ∙ r.others v l e)
       go (yes e) q =
-          let q′ : getD b′ source 0 ≡ getD b′ (n + source) 0 = rw e at q in
-          let ne′ : ¬ (getD b source 0 ≡ getD b (n + source) 0) = rw e at ne in
-          ne′ (omega (arith, d .fallen source named, r .falls, r .this source named))
+          let q' : get_or b' source 0 ≡ get_or b' (n + source) 0 = rw e at q in
+          let ne' : ¬ (get_or b source 0 ≡ get_or b (n + source) 0) = rw e at ne in
+          ne' (omega (arith, d.fallen source named, r.falls, r.this source named))
 
-  fallen-on : Fallen n b′
-  fallen-on v l = go (ℕ-discrete v source)
+  fallen_on : Fallen n b'
+  fallen_on v l = go (ℕ_discrete v source)
     where
-      go : Dec (v ≡ source) → getD b′ (n + v) 0 ≤ getD b′ v 0
-      go (no e) = rw (r .others v l e, r .this v l) (d .fallen v l)
-      go (yes e) = rw e (omega (arith, d .fallen source named, r .falls, r .this source named))
+      go : Dec (v ≡ source) → get_or b' (n + v) 0 ≤ get_or b' v 0
+      go (no e) = rw (r.others v l e, r.this v l) (d.fallen v l)
+      go (yes e) = rw e (omega (arith, d.fallen source named, r.falls, r.this source named))
 
   -- its source had changed already, or stays
-  pub listed-stays : (getD b source 0 ≡ getD b (n + source) 0 → getD b′ (n + source) 0 ≡ getD b (n + source) 0) → Listed n n to many b′ changed
-  listed-stays stays = record { long = d .long; fallen = fallen-on; few = omega (arith, d .few, changes-mono n b b′ n still); named = d .named; reach = λ v l ne. d .reach v l (before v l ne (ℕ-discrete v source)) }
+  pub listed_stays : (get_or b source 0 ≡ get_or b (n + source) 0 → get_or b' (n + source) 0 ≡ get_or b (n + source) 0) → Listed n n to many b' changed
+  listed_stays stays = record { long = d.long; fallen = fallen_on; few = omega (arith, d.few, changes_mono n b b' n still); named = d.named; reach = λ v l ne. d.reach v l (before v l ne (ℕ_discrete v source)) }
     where
-      before : (v : ℕ) → v < n → ¬ (getD b′ v 0 ≡ getD b′ (n + v) 0) → Dec (v ≡ source) → ¬ (getD b v 0 ≡ getD b (n + v) 0)
-      before v l ne (no e) q = ne (r .this v l ∙ q ∙ sym (r .others v l e))
+      before : (v : ℕ) → v < n → ¬ (get_or b' v 0 ≡ get_or b' (n + v) 0) → Dec (v ≡ source) → ¬ (get_or b v 0 ≡ get_or b (n + v) 0)
+      before v l ne (no e) q = ne (r.this v l ∙ q ∙ sym (r.others v l e))
       before v l ne (yes e) q =
-          let q′ : getD b source 0 ≡ getD b (n + source) 0 = rw e at q in
-          let ne′ : ¬ (getD b′ source 0 ≡ getD b′ (n + source) 0) = rw e at ne in
-          ne′ (r .this source named ∙ q′ ∙ sym (stays q′))
+          let q' : get_or b source 0 ≡ get_or b (n + source) 0 = rw e at q in
+          let ne' : ¬ (get_or b' source 0 ≡ get_or b' (n + source) 0) = rw e at ne in
+          ne' (r.this source named ∙ q' ∙ sym (stays q'))
 
-  module _ (same : getD b source 0 ≡ getD b (n + source) 0) (other : ¬ (getD b′ (n + source) 0 ≡ getD b (n + source) 0)) where
-    changed-now : ¬ (getD b′ source 0 ≡ getD b′ (n + source) 0)
-    changed-now q = other (sym q ∙ r .this source named ∙ same)
+  module _ (same : get_or b source 0 ≡ get_or b (n + source) 0) (other : ¬ (get_or b' (n + source) 0 ≡ get_or b (n + source) 0)) where
+    changed_now : ¬ (get_or b' source 0 ≡ get_or b' (n + source) 0)
+    changed_now q = other (sym q ∙ r.this source named ∙ same)
 
-    one-more : many + 1 ≤ changes n b′ n
-    one-more = omega (arith, d .few, changes-more n b b′ source n named same changed-now still)
+    one_more : many + 1 ≤ changes n b' n
+    one_more = omega (arith, d.few, changes_more n b b' source n named same changed_now still)
 
     -- there is room for it in the list
-    pub listed-room : many < n
-    listed-room = omega (arith, one-more, changes-le n b′ n)
+    pub listed_room : many < n
+    listed_room = omega (arith, one_more, changes_le n b' n)
 
     -- its source changes
-    pub listed-source : to + many < length changed → Listed n n to (many + 1) b′ (set changed (to + many) source)
-    listed-source free = record {
-      long = omega (arith, length-set changed (to + many) source, d .long);
-      fallen = fallen-on;
-      few = one-more;
-      named = more-named to many changed source free named (d .named);
-      reach = λ v l ne. go v l ne (ℕ-discrete v source);
+    pub listed_source : to + many < length changed → Listed n n to (many + 1) b' (set changed (to + many) source)
+    listed_source free = record {
+      long = omega (arith, length-set changed (to + many) source, d.long);
+      fallen = fallen_on;
+      few = one_more;
+      named = more_named to many changed source free named d.named;
+      reach = λ v l ne. go v l ne (ℕ_discrete v source);
     }
       where
-        go : (v : ℕ) → v < n → ¬ (getD b′ v 0 ≡ getD b′ (n + v) 0) → Dec (v ≡ source) → (k : ℕ) × (k < many + 1) × (getD (set changed (to + many) source) (to + k) 0 ≡ v)
-        go v l ne (yes e) = rw e (more-here to many changed source free)
-        go v l ne (no e) = more-there to many changed source free (d .reach v l (λ q. ne (r .this v l ∙ q ∙ sym (r .others v l e))))
+        go : (v : ℕ) → v < n → ¬ (get_or b' v 0 ≡ get_or b' (n + v) 0) → Dec (v ≡ source) → (k : ℕ) × (k < many + 1) × (get_or (set changed (to + many) source) (to + k) 0 ≡ v)
+        go v l ne (yes e) = rw e (more_here to many changed source free)
+        go v l ne (no e) = more_there to many changed source free (d.reach v l (λ q. ne (r.this v l ∙ q ∙ sym (r.others v l e))))
 
 -- the first half is brought up at the first i nodes that are listed
 pub record Raising (n from i : ℕ) (b₀ b changed : List ℕ) : Type 0 where
-  pub same-length : length b ≡ length b₀
-  pub each : (v : ℕ) → v < n → (getD b v 0 ≡ getD b₀ (n + v) 0) ⊎ ((getD b v 0 ≡ getD b₀ v 0) × ((k : ℕ) → k < i → ¬ (getD changed (from + k) 0 ≡ v)))
-  pub stays : (v : ℕ) → n ≤ v → getD b v 0 ≡ getD b₀ v 0
+  pub same_length : length b ≡ length b₀
+  pub each : (v : ℕ) → v < n → (get_or b v 0 ≡ get_or b₀ (n + v) 0) ⊎ ((get_or b v 0 ≡ get_or b₀ v 0) × ((k : ℕ) → k < i → ¬ (get_or changed (from + k) 0 ≡ v)))
+  pub stays : (v : ℕ) → n ≤ v → get_or b v 0 ≡ get_or b₀ v 0
   pub past : drop (n + n) b ≡ drop (n + n) b₀
 
-pub raising-none : {n from : ℕ} {b changed : List ℕ} → Raising n from 0 b b changed
-raising-none = record { same-length = refl; each = λ v l. inr (refl, λ k h. absurd (omega arith)); stays = λ v l. refl; past = refl }
+pub raising_none : {n from : ℕ} {b changed : List ℕ} → Raising n from 0 b b changed
+raising_none = record { same_length = refl; each = λ v l. inr (refl, λ k h. absurd (omega arith)); stays = λ v l. refl; past = refl }
 
 module _ {n from i : ℕ} {b₀ b changed : List ℕ} (d : Raising n from i b₀ b changed) where
-  pub raising-more : {w : ℕ} → w ≡ getD changed (from + i) 0 → w < n → n + n ≤ length b₀ → Raising n from (i + 1) b₀ (set b w (getD b (n + w) 0)) changed
-  raising-more {w} is named long = record {
-    same-length = length-set b w (getD b (n + w) 0) ∙ d .same-length;
-    each = λ v l. at v (ℕ-discrete v w) (d .each v l);
-    stays = λ v l. let apart : ¬ (v ≡ w) = λ q. omega arith in getD-set-other b w v (getD b (n + w) 0) 0 apart ∙ d .stays v l;
-    past = drop-set-lt (n + n) b w (getD b (n + w) 0) (omega arith) ∙ d .past;
+  pub raising_more : {w : ℕ} → w ≡ get_or changed (from + i) 0 → w < n → n + n ≤ length b₀ → Raising n from (i + 1) b₀ (set b w (get_or b (n + w) 0)) changed
+  raising_more {w} is named long = record {
+    same_length = length-set b w (get_or b (n + w) 0) ∙ d.same_length;
+    each = λ v l. at v (ℕ_discrete v w) (d.each v l);
+    stays = λ v l. let apart : ¬ (v ≡ w) = λ q. omega arith in get_or-set_other b w v (get_or b (n + w) 0) 0 apart ∙ d.stays v l;
+    past = drop-set-lt (n + n) b w (get_or b (n + w) 0) (omega arith) ∙ d.past;
   }
     where
-      at : (v : ℕ) → Dec (v ≡ w) → (getD b v 0 ≡ getD b₀ (n + v) 0) ⊎ ((getD b v 0 ≡ getD b₀ v 0) × ((k : ℕ) → k < i → ¬ (getD changed (from + k) 0 ≡ v)))
-          → (getD (set b w (getD b (n + w) 0)) v 0 ≡ getD b₀ (n + v) 0) ⊎ ((getD (set b w (getD b (n + w) 0)) v 0 ≡ getD b₀ v 0) × ((k : ℕ) → k < i + 1 → ¬ (getD changed (from + k) 0 ≡ v)))
-      at v (yes e) r = inl (rw e (getD-set-same b w (getD b (n + w) 0) 0 (omega (arith, d .same-length)) ∙ d .stays (n + w) (omega arith)))
-      at v (no e) (inl q) = inl (getD-set-other b w v (getD b (n + w) 0) 0 e ∙ q)
-      at v (no e) (inr (q, out)) = inr (getD-set-other b w v (getD b (n + w) 0) 0 e ∙ q, λ k l. away k l (ℕ-discrete k i))
+      at : (v : ℕ) → Dec (v ≡ w) → (get_or b v 0 ≡ get_or b₀ (n + v) 0) ⊎ ((get_or b v 0 ≡ get_or b₀ v 0) × ((k : ℕ) → k < i → ¬ (get_or changed (from + k) 0 ≡ v)))
+          → (get_or (set b w (get_or b (n + w) 0)) v 0 ≡ get_or b₀ (n + v) 0) ⊎ ((get_or (set b w (get_or b (n + w) 0)) v 0 ≡ get_or b₀ v 0) × ((k : ℕ) → k < i + 1 → ¬ (get_or changed (from + k) 0 ≡ v)))
+      at v (yes e) r = inl (rw e (get_or-set_same b w (get_or b (n + w) 0) 0 (omega (arith, d.same_length)) ∙ d.stays (n + w) (omega arith)))
+      at v (no e) (inl q) = inl (get_or-set_other b w v (get_or b (n + w) 0) 0 e ∙ q)
+      at v (no e) (inr (q, out)) = inr (get_or-set_other b w v (get_or b (n + w) 0) 0 e ∙ q, λ k l. away k l (ℕ_discrete k i))
         where
-          away : (k : ℕ) → k < i + 1 → Dec (k ≡ i) → ¬ (getD changed (from + k) 0 ≡ v)
+          away : (k : ℕ) → k < i + 1 → Dec (k ≡ i) → ¬ (get_or changed (from + k) 0 ≡ v)
           away k l (yes z) u = e (sym (is ∙ (rw z at u)))
           away k l (no z) u = out k (omega arith) u
 
   -- all of them: the halves differ nowhere else
-  pub raising-all : Listed n n from i b₀ changed → Raised n n b₀ b
-  raising-all listed = record { same-length = d .same-length; done = λ v l. up v l (d .each v l) (ℕ-discrete (getD b₀ v 0) (getD b₀ (n + v) 0)); stays = d .stays; past = d .past }
+  pub raising_all : Listed n n from i b₀ changed → Raised n n b₀ b
+  raising_all listed = record { same_length = d.same_length; done = λ v l. up v l (d.each v l) (ℕ_discrete (get_or b₀ v 0) (get_or b₀ (n + v) 0)); stays = d.stays; past = d.past }
     where
-      up : (v : ℕ) → v < n → (getD b v 0 ≡ getD b₀ (n + v) 0) ⊎ ((getD b v 0 ≡ getD b₀ v 0) × ((k : ℕ) → k < i → ¬ (getD changed (from + k) 0 ≡ v))) → Dec (getD b₀ v 0 ≡ getD b₀ (n + v) 0)
-          → getD b v 0 ≡ getD b₀ (n + v) 0
+      up : (v : ℕ) → v < n → (get_or b v 0 ≡ get_or b₀ (n + v) 0) ⊎ ((get_or b v 0 ≡ get_or b₀ v 0) × ((k : ℕ) → k < i → ¬ (get_or changed (from + k) 0 ≡ v))) → Dec (get_or b₀ v 0 ≡ get_or b₀ (n + v) 0)
+          → get_or b v 0 ≡ get_or b₀ (n + v) 0
       up v l (inl e) t = e
       up v l (inr (e, out)) (yes q) = e ∙ q
-      up v l (inr (e, out)) (no ne) = let r = listed .reach v l ne in absurd (out (r .0) (r .1) (r .2))
+      up v l (inr (e, out)) (no ne) = let r = listed.reach v l ne in absurd (out r.0 r.1 r.2)
 
 -- a half that is brought up is the same as the other
-pub raised-same : {n : ℕ} {b₀ b : List ℕ} → Raised n n b₀ b → Same n b
-raised-same {n} d v l = d .done v l ∙ sym (d .stays (n + v) (omega arith))
+pub raised_same : {n : ℕ} {b₀ b : List ℕ} → Raised n n b₀ b → Same n b
+raised_same {n} d v l = d.done v l ∙ sym (d.stays (n + v) (omega arith))
 
 -- a list stays, or changes from a place on
-pub apart-none : {n to : ℕ} {changed : List ℕ} → Apart n to changed changed
-apart-none = record { as-long = refl; stays = λ q out. refl }
+pub apart_none : {n to : ℕ} {changed : List ℕ} → Apart n to changed changed
+apart_none = record { as_long = refl; stays = λ q out. refl }
 
-pub apart-set : {n to : ℕ} {changed : List ℕ} (k w : ℕ) → k < n → Apart n to changed (set changed (to + k) w)
-apart-set {n} {to} {changed} k w l = record { as-long = length-set changed (to + k) w; stays = λ q out. getD-set-other changed (to + k) q w 0 (away q out) }
+pub apart_set : {n to : ℕ} {changed : List ℕ} (k w : ℕ) → k < n → Apart n to changed (set changed (to + k) w)
+apart_set {n} {to} {changed} k w l = record { as_long = length-set changed (to + k) w; stays = λ q out. get_or-set_other changed (to + k) q w 0 (away q out) }
   where
     away : (q : ℕ) → (q < to) ⊎ (to + n ≤ q) → ¬ (q ≡ to + k)
     away q (inl h) e = omega arith
     away q (inr h) e = omega arith
 
-pub apart-on : {n to : ℕ} {a b c : List ℕ} → Apart n to a b → Apart n to b c → Apart n to a c
-apart-on x y = record { as-long = y .as-long ∙ x .as-long; stays = λ q out. y .stays q out ∙ x .stays q out }
+pub apart_on : {n to : ℕ} {a b c : List ℕ} → Apart n to a b → Apart n to b c → Apart n to a c
+apart_on x y = record { as_long = y.as_long ∙ x.as_long; stays = λ q out. y.stays q out ∙ x.stays q out }
 
 -- what stands from the one place on stays
-pub aside-apart : {n from to k : ℕ} → Aside n from to → k < n → (from + k < to) ⊎ (to + n ≤ from + k)
-aside-apart (forth e) l = inl (omega arith)
-aside-apart (back e) l = inr (omega arith)
+pub aside_apart : {n from to k : ℕ} → Aside n from to → k < n → (from + k < to) ⊎ (to + n ≤ from + k)
+aside_apart (forth e) l = inl (omega arith)
+aside_apart (back e) l = inr (omega arith)
 
 -- the two halves of a list, by turns
-pub halves-aside : {n most : ℕ} (from : ℕ) → n ≤ most → (from ≡ 0) ⊎ (from ≡ most) → Aside n from (most - from)
-halves-aside from few (inl e) = forth (omega arith)
-halves-aside from few (inr e) = back (omega arith)
+pub halves_aside : {n most : ℕ} (from : ℕ) → n ≤ most → (from ≡ 0) ⊎ (from ≡ most) → Aside n from (most - from)
+halves_aside from few (inl e) = forth (omega arith)
+halves_aside from few (inr e) = back (omega arith)
 
-pub halves-turn : {most : ℕ} (from : ℕ) → (from ≡ 0) ⊎ (from ≡ most) → (most - from ≡ 0) ⊎ (most - from ≡ most)
-halves-turn from (inl e) = inr (omega arith)
-halves-turn from (inr e) = inl (omega arith)
+pub halves_turn : {most : ℕ} (from : ℕ) → (from ≡ 0) ⊎ (from ≡ most) → (most - from ≡ 0) ⊎ (most - from ≡ most)
+halves_turn from (inl e) = inr (omega arith)
+halves_turn from (inr e) = inl (omega arith)
 
-pub halves-near : {most from : ℕ} → (from ≡ 0) ⊎ (from ≡ most) → from ≤ most
-halves-near (inl e) = omega arith
-halves-near (inr e) = omega arith
+pub halves_near : {most from : ℕ} → (from ≡ 0) ⊎ (from ≡ most) → from ≤ most
+halves_near (inl e) = omega arith
+halves_near (inr e) = omega arith

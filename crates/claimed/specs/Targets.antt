@@ -1,24 +1,19 @@
 -- What is claimed of targets that are judged one by one, and of all nodes.
-use Prim.Native.Nat.{ℕ, _+_, _*_, _≤_, _<_}
-use mathlib.Core.Bool.{Bool, true, false}
-use mathlib.Core.List.{List}
-use mathlib.Core.Path.{_≡_}
-use lib.ListN.{length, getD}
-use Rattle·lists.specs.Lists.{_∈_}
-use Rattle·value.specs.Value.{finite}
-use Rattle·wire.specs.Layout.{Layout, Sound}
-use Rattle·rules.specs.Graph.{Target}
-use Rattle·rules.specs.Rounds.{Assignment}
-use Rattle·graph.specs.Format.{targetWidth}
-use Rattle·support.specs.Claims.{claimedRank}
-use Rattle·claimed·specs.specs.declared.Given.{Given}
-use Rattle·claimed·specs.specs.declared.Given.the-variants as Given
+use Rattle.std.specs.Prelude.{◌≡◌, ℕ, ◌+◌, ◌*◌, ◌<◌, ◌≤◌, Bool, true, false, List, length, slice_index}
+use Rattle.lists.specs.Lists.{◌∈◌}
+use Rattle.value.specs.Value.{finite}
+use Rattle.wire.specs.Layout.{Layout, Sound}
+use Rattle.rules.specs.Graph.{Target}
+use Rattle.rules.specs.Rounds.{Assignment}
+use Rattle.graph.specs.Format.{target_width}
+use Rattle.support.specs.Claims.{claimed_rank}
+use Rattle.claimed.specs.declared.Given.{Given}
 
 -- the bytes from a position to an end are those of some targets
 pub record Parted (s : List ℕ) (at end : ℕ) : Type 0 where
   pub inside : end ≤ length s
   pub count : ℕ
-  pub whole : at + count * targetWidth ≡ end
+  pub whole : at + count * target_width ≡ end
 
 -- what was found of k targets at a position that give so much: one is not sound, or all are
 abbrev pub Named : Layout Target → (k at gives end : ℕ) → Given → Type 0
@@ -28,15 +23,15 @@ Named L k at gives end (Given.Most given p) = Sound L k at × (given ≡ gives) 
 -- whether all targets have a rank below one
 abbrev pub LowerRanks : (claims : List ℕ) → List Target → (rank : ℕ) → Bool → Type 0
 LowerRanks claims ts rank r =
-    (r ≡ true → (t : Target) → t ∈ ts → claimedRank claims (t .node) < rank) × (r ≡ false → ¬ ((t : Target) → t ∈ ts → claimedRank claims (t .node) < rank))
+    (r ≡ true → (t : Target) → t ∈ ts → claimed_rank claims t.node < rank) × (r ≡ false → ¬ ((t : Target) → t ∈ ts → claimed_rank claims t.node < rank))
 
 -- the nodes from one to before another are marked; and those of them that are finite
 abbrev pub Marked : (from to : ℕ) → (marks : List ℕ) → Type 0
-Marked from to marks = (v : ℕ) → v < to → from ≤ v → getD marks v 0 ≡ 1
+Marked from to marks = (v : ℕ) → v < to → from ≤ v → slice_index marks v ≡ 1
 
 abbrev pub Backed : (from to : ℕ) → Assignment → (marks : List ℕ) → Type 0
-Backed from to x marks = (v : ℕ) → v < to → from ≤ v → finite (x v) ≡ true → getD marks v 0 ≡ 1
+Backed from to x marks = (v : ℕ) → v < to → from ≤ v → finite (x v) ≡ true → slice_index marks v ≡ 1
 
 -- every finite node is marked
 abbrev pub AllBacked : ℕ → Assignment → (marks : List ℕ) → Type 0
-AllBacked n x marks = (v : ℕ) → v < n → finite (x v) ≡ true → getD marks v 0 ≡ 1
+AllBacked n x marks = (v : ℕ) → v < n → finite (x v) ≡ true → slice_index marks v ≡ 1

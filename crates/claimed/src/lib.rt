@@ -1,17 +1,17 @@
 // What is claimed: of a node, of the targets of a hyperedge, and of all nodes.
-ghost use mathlib.Core.Path.{_≡_};
-ghost use mathlib.Core.Bool.{true, false};
-ghost use Prim.Native.Nat.{ℕ, _+_, _*_, _<_, _≤_, min};
-ghost use lib.ListN.{length};
-ghost use Rattle·value.specs.Stored.{stored, infinite};
-ghost use Rattle·wire.specs.Bytes.{number};
-ghost use Rattle·wire.specs.Field.{longWidth};
-ghost use Rattle·wire.specs.Layout.{items, Sound};
-ghost use Rattle·rules.specs.Rounds as rules;
-ghost use Rattle·graph.specs.Format.{targetWidth};
-ghost use Rattle·graph.specs.Layouts.{targetLayout};
-ghost use Rattle·support.specs.Claims.{claimWidth, claimedValue, claimedRank};
-ghost use Rattle·claimed·specs.specs.Targets.{Parted, Named, LowerRanks, Marked, Backed, AllBacked};
+#![tactic(auto)]
+
+ghost use Rattle.std.specs.Prelude.{◌≡◌, ℕ, ◌+◌, ◌*◌, ◌<◌, ◌≤◌, min, true, false, length};
+ghost use Rattle.value.specs.Stored.{stored, infinite};
+ghost use Rattle.wire.specs.Bytes.{number};
+ghost use Rattle.wire.specs.Field.{long_width};
+ghost use Rattle.wire.specs.Layout.{items, Sound};
+ghost use Rattle.rules.specs.Rounds as rules;
+ghost use Rattle.graph.specs.Format.{target_width};
+ghost use Rattle.graph.specs.Layouts.{target_layout};
+ghost use Rattle.support.specs.Claims.{claim_width, claimed_value, claimed_rank};
+ghost use Rattle.claimed.specs.Targets.{Parted, Named, LowerRanks, Marked, Backed, AllBacked};
+
 use value::Value;
 use wire::Width;
 
@@ -24,6 +24,7 @@ pub const CLAIM: usize = 16;
 const BLOCK: usize = 64;
 
 // What the targets of a hyperedge give, and where they end; or one of them names no node.
+#[derive(Clone, Copy)]
 pub enum Given {
     Odd,
     Most(u64, usize),
@@ -31,9 +32,9 @@ pub enum Given {
 
 // The stored value that is claimed of a node.
 pub fn value_of(n: usize, claims: &[u8], v: usize) -> u64
-    requires { ⌜ v < n ⌝ }
-    requires { ⌜ n * claimWidth ≤ length (now claims) ⌝ }
-    ensures { λ r. ⌜ r ≡ number longWidth (now (claims .entry)) (v * claimWidth) ⌝ }
+    requires v_lt_n { v < n }
+    requires claim_width_in_bounds { n * claim_width ≤ length claims.now }
+    ensures { result ≡ number long_width claims.now (v * claim_width) }
 {
     let at = v * CLAIM;
     wire::long_at(claims, at)
@@ -41,9 +42,9 @@ pub fn value_of(n: usize, claims: &[u8], v: usize) -> u64
 
 // The rank that is claimed of a node.
 pub fn rank_of(n: usize, claims: &[u8], v: usize) -> u64
-    requires { ⌜ v < n ⌝ }
-    requires { ⌜ n * claimWidth ≤ length (now claims) ⌝ }
-    ensures { λ r. ⌜ r ≡ claimedRank (now (claims .entry)) v ⌝ }
+    requires v_lt_n { v < n }
+    requires claim_width_in_bounds { n * claim_width ≤ length claims.now }
+    ensures { result ≡ claimed_rank claims.now v }
 {
     let at = v * CLAIM + RANK_AT;
     wire::long_at(claims, at)
@@ -51,8 +52,8 @@ pub fn rank_of(n: usize, claims: &[u8], v: usize) -> u64
 
 // Where one of the targets is infinite: whether each of those that are left names a node.
 fn rest_named(s: &[u8], n: u32, at: usize, end: usize) -> Given
-    requires { ⌜ Parted (now s) at end ⌝ }
-    ensures { λ r. ⌜ ((k : ℕ) → at + k * targetWidth ≡ end → Named (targetLayout (now (s .entry)) n) k at infinite end r) ⌝ }
+    requires { Parted s.now at end }
+    ensures { (k : ℕ) → at + k * target_width ≡ end → Named (target_layout s.now n) k at infinite end result }
 {
     let mut p = at;
     while p < end {
@@ -68,10 +69,10 @@ fn rest_named(s: &[u8], n: u32, at: usize, end: usize) -> Given
 // The greatest weight plus claimed value over the targets from a position to an end; 0 with none. A sum that wraps is infinite. The position
 // behind them is where the loop ended, not computed from their count, which has just been read.
 pub fn targets_give(s: &[u8], n: u32, claims: &[u8], at: usize, end: usize) -> Given
-    requires { ⌜ Parted (now s) at end ⌝ }
-    requires { ⌜ n * claimWidth ≤ length (now claims) ⌝ }
-    ensures { λ r. ⌜ ((k : ℕ) → at + k * targetWidth ≡ end → let L = targetLayout (now (s .entry)) n in
-        Named L k at (stored (rules.worst (claimedValue (now (claims .entry))) (items L k at))) end r) ⌝ }
+    requires parted { Parted s.now at end }
+    requires claim_width_in_bounds { n * claim_width ≤ length claims.now }
+    ensures { (k : ℕ) → at + k * target_width ≡ end → let L = target_layout s.now n in
+        Named L k at (stored (rules.worst (claimed_value claims.now) (items L k at))) end result }
 {
     let mut most: u64 = 0;
     let mut p = at;
@@ -96,9 +97,9 @@ pub fn targets_give(s: &[u8], n: u32, claims: &[u8], at: usize, end: usize) -> G
 
 // Whether all targets from a position to an end have a rank below one.
 pub fn ranks_below(s: &[u8], n: usize, claims: &[u8], rank: u64, at: usize, end: usize) -> bool
-    requires { ⌜ ((k : ℕ) × (at + k * targetWidth ≡ end) × Sound (targetLayout (now s) n) k at) ⌝ }
-    requires { ⌜ n * claimWidth ≤ length (now claims) ⌝ }
-    ensures { λ r. ⌜ ((k : ℕ) → at + k * targetWidth ≡ end → LowerRanks (now (claims .entry)) (items (targetLayout (now (s .entry)) n) k at) rank r) ⌝ }
+    requires by_index { (k : ℕ) × (at + k * target_width ≡ end) × Sound (target_layout s.now n) k at }
+    requires claim_width_in_bounds { n * claim_width ≤ length claims.now }
+    ensures { (k : ℕ) → at + k * target_width ≡ end → LowerRanks claims.now (items (target_layout s.now n) k at) rank result }
 {
     let mut p = at;
     while p < end {
@@ -114,8 +115,8 @@ pub fn ranks_below(s: &[u8], n: usize, claims: &[u8], rank: u64, at: usize, end:
 
 // Whether the nodes from one to before another are all marked. It never stops early, so that many are looked at at once.
 fn are_marked(marks: &[u8; 4096], from: usize, to: usize) -> bool
-    requires { ⌜ to ≤ 4096 ⌝ }
-    ensures { λ r. ⌜ (r ≡ true → Marked from to (now (marks .entry))) × (r ≡ false → ¬ Marked from to (now (marks .entry))) ⌝ }
+    requires { to ≤ 4096 }
+    ensures { (result ≡ true → Marked from to marks.now) × (result ≡ false → ¬ Marked from to marks.now) }
 {
     let mut unmarked: u8 = 0;
     let mut v = from;
@@ -128,10 +129,10 @@ fn are_marked(marks: &[u8; 4096], from: usize, to: usize) -> bool
 
 // Whether every node from one to before another that is claimed finite is marked.
 fn are_backed(n: usize, claims: &[u8], marks: &[u8; 4096], from: usize, to: usize) -> bool
-    requires { ⌜ n * claimWidth ≤ length (now claims) ⌝ }
-    requires { ⌜ (to ≤ n) × (n ≤ 4096) ⌝ }
-    ensures { λ r. ⌜ (r ≡ true → Backed from to (claimedValue (now (claims .entry))) (now (marks .entry)))
-        × (r ≡ false → ¬ Backed from to (claimedValue (now (claims .entry))) (now (marks .entry))) ⌝ }
+    requires claim_width_in_bounds { n * claim_width ≤ length claims.now }
+    requires to_le_n { (to ≤ n) × (n ≤ 4096) }
+    ensures { (result ≡ true → Backed from to (claimed_value claims.now) marks.now)
+        × (result ≡ false → ¬ Backed from to (claimed_value claims.now) marks.now) }
 {
     if are_marked(marks, from, to) {
         return true;
@@ -153,7 +154,7 @@ fn are_backed(n: usize, claims: &[u8], marks: &[u8; 4096], from: usize, to: usiz
 
 // How many of the nodes left are looked at together.
 fn block(left: usize) -> usize
-    ensures { λ r. ⌜ r ≡ min left 64 ⌝ }
+    ensures { result ≡ min left 64 }
 {
     if left < BLOCK {
         return left;
@@ -163,10 +164,10 @@ fn block(left: usize) -> usize
 
 // Whether every node that is claimed finite is marked. Mostly all are, and then a block is passed at once.
 pub fn all_backed(n: usize, claims: &[u8], marks: &[u8; 4096]) -> bool
-    requires { ⌜ n * claimWidth ≤ length (now claims) ⌝ }
-    requires { ⌜ (n ≤ 4096) × (length (now marks) ≡ 4096) ⌝ }
-    ensures { λ r. ⌜ (r ≡ true → AllBacked n (claimedValue (now (claims .entry))) (now (marks .entry)))
-        × (r ≡ false → ¬ AllBacked n (claimedValue (now (claims .entry))) (now (marks .entry))) ⌝ }
+    requires claim_width_in_bounds { n * claim_width ≤ length claims.now }
+    requires n_bound { (n ≤ 4096) × (length marks.now ≡ 4096) }
+    ensures { (result ≡ true → AllBacked n (claimed_value claims.now) marks.now)
+        × (result ≡ false → ¬ AllBacked n (claimed_value claims.now) marks.now) }
 {
     let mut v = 0;
     while v < n {

@@ -1,40 +1,35 @@
 -- What the checker of claims answers.
-use Prim.Native.Nat.{ℕ, _*_}
-use mathlib.Core.List.{List}
-use mathlib.Core.Path.{_≡_}
-use lib.ListN.{length}
-use lib.Dec.{eqb}
-use Rattle·refusal.specs.Number.{ok, numberOf, nowhere}
-use Rattle·refusal.specs.declared.Refusal.the-variants.{Length}
-use Rattle·wire.specs.Read.{Read, good, bad, _>>=_, _>>_, demand}
-use Rattle·rules.specs.Graph.{Graph}
-use Rattle·graph.specs.Stored.{StoredGraph, ruled}
-use Rattle·graph.specs.Message.{readGraph}
-use Rattle·support.specs.Claims.{claimWidth, AcceptsClaims}
-use Rattle·claims·specs.specs.declared.Judged.{Judged}
-use Rattle·claims·specs.specs.declared.Judged.the-variants as Judged
+use Rattle.std.specs.Prelude.{ℕ, ◌*◌, List, ◌≡◌, length, eqb}
+use Rattle.refusal.specs.Number.{ok, number_of, nowhere}
+use Rattle.refusal.specs.declared.Refusal.TheVariants.{Length}
+use Rattle.wire.specs.Read.{Read, good, bad, ◌>>=◌, ◌>>◌, demand}
+use Rattle.rules.specs.Graph.{Graph}
+use Rattle.graph.specs.Stored.{StoredGraph, ruled}
+use Rattle.graph.specs.Message.{read_graph}
+use Rattle.support.specs.Claims.{claim_width, AcceptsClaims}
+use Rattle.claims.specs.declared.Judged.{Judged}
 
 -- the paper's number of an answer: accepted or not, it is OK
-abbrev pub judgedNumber : Judged → ℕ
-judgedNumber Judged.Yes = ok
-judgedNumber Judged.No = ok
-judgedNumber (Judged.Refused e) = numberOf (e .refusal)
+abbrev pub judged_number : Judged → ℕ
+judged_number Judged.Yes = ok
+judged_number Judged.No = ok
+judged_number (Judged.Refused e) = number_of e.refusal
 
 -- where the field starts that was found wrong
-abbrev pub judgedOffset : Judged → ℕ
-judgedOffset Judged.Yes = nowhere
-judgedOffset Judged.No = nowhere
-judgedOffset (Judged.Refused e) = e .offset
+abbrev pub judged_offset : Judged → ℕ
+judged_offset Judged.Yes = nowhere
+judged_offset Judged.No = nowhere
+judged_offset (Judged.Refused e) = e.offset
 
 -- how long the claims of a graph are
-abbrev pub claimsLength : Graph → ℕ
-claimsLength g = g .nodes * claimWidth
+abbrev pub claims_length : Graph → ℕ
+claims_length g = g.nodes * claim_width
 
 -- the graph is checked first; claims of the wrong length are LENGTH
-unfoldable pub readClaims : (message claims : List ℕ) → Read StoredGraph
-readClaims message claims = do
-  g ← readGraph message
-  demand (eqb (length claims) (claimsLength (ruled g))) Length nowhere
+unfoldable pub read_claims : (message claims : List ℕ) → Read StoredGraph
+read_claims message claims = do
+  g ← read_graph message
+  demand (eqb (length claims) (claims_length (ruled g))) Length nowhere
   good g
 
 -- yes exactly when the claims are accepted; a fault is the answer
@@ -45,6 +40,6 @@ Judges (good g) claims (Judged.Refused e) = ⊥
 Judges (bad e) claims r = r ≡ Judged.Refused e
 
 -- a fault of the graph, or else another answer
-unfoldable pub refusedOr : Read StoredGraph → Judged → Judged
-refusedOr (good g) other = other
-refusedOr (bad e) other = Judged.Refused e
+unfoldable pub refused_or : Read StoredGraph → Judged → Judged
+refused_or (good g) other = other
+refused_or (bad e) other = Judged.Refused e

@@ -1,24 +1,25 @@
 // Claims about a graph: a value and a rank for each node. A checker of claims.
-ghost use mathlib.Core.Path.{_≡_};
-ghost use mathlib.Core.Bool.{true, false};
-ghost use Prim.Native.Nat.{_+_, _*_, _≤_};
-ghost use lib.ListN.{length};
-ghost use Rattle·wire.specs.Read.{good};
-ghost use Rattle·graph.specs.Format.{graphHeader, coverWidth};
-ghost use Rattle·graph.specs.Layouts.{hyperLayout, coverLayout, decoded};
-ghost use Rattle·graph.specs.Message.{readHeader, readGraph};
-ghost use Rattle·graph.specs.Message as m;
-ghost use Rattle·support.specs.Claims.{claimWidth, claimedValue, claimedRank, AcceptsClaims};
-ghost use Rattle·support.specs.Backing.{HyperFair, HyperBacks, CoverFair, CoverBacks};
-ghost use Rattle·claims·specs.specs.Answers.{judgedNumber, judgedOffset, readClaims, Judges, refusedOr};
-ghost use Rattle·claims·specs.specs.Promise.{JudgedPromise};
-ghost use Rattle·claims·specs.specs.Scans.{Scanned};
+#![tactic(auto)]
+
+ghost use Rattle.std.specs.Prelude.{◌≡◌, true, false, ◌+◌, ◌*◌, ◌≤◌, length};
+ghost use Rattle.wire.specs.Read.{good};
+ghost use Rattle.graph.specs.Format.{graph_header, cover_width};
+ghost use Rattle.graph.specs.Layouts.{hyper_layout, cover_layout, decoded};
+ghost use Rattle.graph.specs.Message.{read_header, read_graph};
+ghost use Rattle.graph.specs.Message as m;
+ghost use Rattle.support.specs.Claims.{claim_width, claimed_value, claimed_rank, AcceptsClaims};
+ghost use Rattle.support.specs.Backing.{HyperFair, HyperBacks, CoverFair, CoverBacks};
+ghost use Rattle.claims.specs.Answers.{judged_number, judged_offset, read_claims, Judges, refused_or};
+ghost use Rattle.claims.specs.Promise.{JudgedPromise};
+ghost use Rattle.claims.specs.Scans.{Scanned};
+
 use claimed::CLAIM;
 use edges::Edge;
 use graph::Checked;
 use refusal::Fault;
 
 // Accepted, not accepted, or refused.
+#[derive(Clone, Copy)]
 pub enum Judged {
     Yes,
     No,
@@ -28,7 +29,7 @@ pub enum Judged {
 impl Judged {
     // The number that the paper gives the answer.
     pub fn number(self) -> u8
-        ensures { λ r. ⌜ r ≡ judgedNumber self ⌝ }
+        ensures { result ≡ judged_number self }
     {
         match self {
             Judged::Yes => 0,
@@ -39,7 +40,7 @@ impl Judged {
 
     // Where the field starts that was found wrong, and 0 where none was.
     pub fn offset(self) -> usize
-        ensures { λ r. ⌜ r ≡ judgedOffset self ⌝ }
+        ensures { result ≡ judged_offset self }
     {
         match self {
             Judged::Yes => 0,
@@ -50,6 +51,7 @@ impl Judged {
 }
 
 // How a scan of edges ended: one is odd, or none is, and what stands behind them.
+#[derive(Clone, Copy)]
 enum Scan {
     Odd,
     Past(usize),
@@ -57,11 +59,11 @@ enum Scan {
 
 // Scans the hyperedges, and marks the sources of those that back them.
 fn scan_hypers(s: &[u8], n: u32, h: u32, claims: &[u8], marks: &mut [u8; 4096]) -> Scan
-    requires { ⌜ graphHeader ≤ length (now s) ⌝ }
-    requires { ⌜ n * claimWidth ≤ length (now claims) ⌝ }
-    requires { ⌜ (n ≤ 4096) × (length (now marks) ≡ 4096) ⌝ }
-    ensures { λ r. ⌜ Scanned (m.hypers (now (s .entry)) n) (hyperLayout (now (s .entry)) n) h graphHeader (λ e. e .source) (HyperFair (claimedValue (now (claims .entry))))
-        (HyperBacks (claimedValue (now (claims .entry))) (claimedRank (now (claims .entry)))) (now (marks .entry)) (now (marks .exit)) r ⌝ }
+    requires graph_header_in_bounds { graph_header ≤ length s.now }
+    requires claim_width_in_bounds { n * claim_width ≤ length claims.now }
+    requires n_bound { (n ≤ 4096) × (length marks.old ≡ 4096) }
+    ensures { Scanned (m.hypers s.now n) (hyper_layout s.now n) h graph_header (λ e. e.source) (HyperFair (claimed_value claims.now))
+        (HyperBacks (claimed_value claims.now) (claimed_rank claims.now)) marks.old marks.new result }
 {
     let mut i = h;
     let mut at = graph::HEADER;
@@ -91,11 +93,11 @@ fn scan_hypers(s: &[u8], n: u32, h: u32, claims: &[u8], marks: &mut [u8; 4096]) 
 
 // Scans the cover edges at a position, and marks the sources of those that back them.
 fn scan_covers(s: &[u8], n: u32, c: u32, from: usize, claims: &[u8], marks: &mut [u8; 4096]) -> Scan
-    requires { ⌜ from + c * coverWidth ≤ length (now s) ⌝ }
-    requires { ⌜ n * claimWidth ≤ length (now claims) ⌝ }
-    requires { ⌜ (n ≤ 4096) × (length (now marks) ≡ 4096) ⌝ }
-    ensures { λ r. ⌜ Scanned (m.covers (now (s .entry)) n) (coverLayout (now (s .entry)) n) c from (λ e. e .source) (CoverFair (claimedValue (now (claims .entry))))
-        (CoverBacks (claimedValue (now (claims .entry))) (claimedRank (now (claims .entry)))) (now (marks .entry)) (now (marks .exit)) r ⌝ }
+    requires cover_width_in_bounds { from + c * cover_width ≤ length s.now }
+    requires claim_width_in_bounds { n * claim_width ≤ length claims.now }
+    requires n_bound { (n ≤ 4096) × (length marks.old ≡ 4096) }
+    ensures { Scanned (m.covers s.now n) (cover_layout s.now n) c from (λ e. e.source) (CoverFair (claimed_value claims.now))
+        (CoverBacks (claimed_value claims.now) (claimed_rank claims.now)) marks.old marks.new result }
 {
     let mut i = c;
     let mut at = from;
@@ -123,10 +125,10 @@ fn scan_covers(s: &[u8], n: u32, c: u32, from: usize, claims: &[u8], marks: &mut
 // Whether the message is a graph's and the claims are accepted. A sum that 64 bits don't hold is infinity's number here. That takes nothing
 // for infinity: where every finite node has a support no claim is above (n - 1) w, and then no sum is so large.
 fn accepts(s: &[u8], n: u32, h: u32, c: u32, claims: &[u8]) -> bool
-    requires { ⌜ readHeader (now s) ≡ good (record { n = n; h = h; c = c }) ⌝ }
-    requires { ⌜ n * claimWidth ≤ length (now claims) ⌝ }
-    ensures { λ r. ⌜ (r ≡ true → (readGraph (now (s .entry)) ≡ good (decoded (now (s .entry)) n h c)) × AcceptsClaims (decoded (now (s .entry)) n h c) (now (claims .entry)))
-        × (r ≡ false → readGraph (now (s .entry)) ≡ good (decoded (now (s .entry)) n h c) → ¬ AcceptsClaims (decoded (now (s .entry)) n h c) (now (claims .entry))) ⌝ }
+    requires s_value { read_header s.now ≡ good (record { n = n; h = h; c = c }) }
+    requires claim_width_in_bounds { n * claim_width ≤ length claims.now }
+    ensures { (result ≡ true → (read_graph s.now ≡ good (decoded s.now n h c)) × AcceptsClaims (decoded s.now n h c) claims.now)
+        × (result ≡ false → read_graph s.now ≡ good (decoded s.now n h c) → ¬ AcceptsClaims (decoded s.now n h c) claims.now) }
 {
     let mut marks = [0u8; 4096];
     let Scan::Past(middle) = scan_hypers(s, n, h, claims, &mut marks) else {
@@ -143,7 +145,7 @@ fn accepts(s: &[u8], n: u32, h: u32, c: u32, claims: &[u8]) -> bool
 
 // A fault of the graph, or else another answer.
 fn refused_or(message: &[u8], other: Judged) -> Judged
-    ensures { λ r. ⌜ r ≡ refusedOr (readGraph (now (message .entry))) other ⌝ }
+    ensures { result ≡ refused_or (read_graph message.now) other }
 {
     match graph::check(message) {
         Checked::Refused(e) => Judged::Refused(e),
@@ -154,8 +156,8 @@ fn refused_or(message: &[u8], other: Judged) -> Judged
 // Checks claims about the graph of a message: first the graph, then the length of the claims. One pass reads both; where it finds anything
 // wrong, the graph is checked alone, since its faults come first.
 pub fn check(message: &[u8], claims: &[u8]) -> Judged
-    ensures answer { λ r. ⌜ Judges (readClaims (now (message .entry)) (now (claims .entry))) (now (claims .entry)) r ⌝ }
-    ensures promise { λ r. ⌜ JudgedPromise (now (message .entry)) (now (claims .entry)) r ⌝ }
+    ensures answer { Judges (read_claims message.now claims.now) claims.now result }
+    ensures promise { JudgedPromise message.now claims.now result }
 {
     match graph::header(message) {
         Checked::Refused(e) => Judged::Refused(e),

@@ -1,21 +1,21 @@
 // Whether some cycle of a graph passes through a cover edge, by depth labels that are written over.
-ghost use mathlib.Core.Path.{_≡_};
-ghost use mathlib.Core.Bool.{true, false};
-ghost use Prim.Native.Nat.{ℕ, _+_, _≤_};
-ghost use lib.ListN.{length};
-ghost use Rattle·wire.specs.Layout.{items, end, Sound};
-ghost use Rattle·rules.specs.Walks.{CoverCycle};
-ghost use Rattle·graph.specs.Format.{graphHeader};
-ghost use Rattle·graph.specs.Layouts.{targetLayout, hyperLayout, coverLayout, decoded, Scannable};
-ghost use Rattle·graph.specs.Ready.{Ready};
-ghost use Rattle·cycles·specs.specs.Labels.{label, Within, Deepest, HyperFalls, CoverFalls, Deeper, Pass};
+#![tactic(auto)]
+
+ghost use Rattle.std.specs.Prelude.{◌≡◌, true, false, ℕ, ◌+◌, ◌≤◌, length};
+ghost use Rattle.wire.specs.Layout.{items, end, Sound};
+ghost use Rattle.rules.specs.Walks.{CoverCycle};
+ghost use Rattle.graph.specs.Format.{graph_header};
+ghost use Rattle.graph.specs.Layouts.{target_layout, hyper_layout, cover_layout, decoded, Scannable};
+ghost use Rattle.graph.specs.Ready.{Ready};
+ghost use Rattle.cycles.specs.Labels.{label, Within, Deepest, HyperFalls, CoverFalls, Deeper, Pass};
+
 use wire::Width;
 
 // The largest label of k targets at a position; 0 with none.
 fn deepest(s: &[u8], n: usize, labels: &[u32; 4096], k: u32, at: usize) -> u32
-    requires { ⌜ Sound (targetLayout (now s) n) k at ⌝ }
-    requires { ⌜ (n ≤ 4096) × (length (now labels) ≡ 4096) ⌝ }
-    ensures { λ r. ⌜ Deepest (label (now (labels .entry))) (items (targetLayout (now (s .entry)) n) k at) r ⌝ }
+    requires sound { Sound (target_layout s.now n) k at }
+    requires n_bound { (n ≤ 4096) × (length labels.now ≡ 4096) }
+    ensures { Deepest (label labels.now) (items (target_layout s.now n) k at) result }
 {
     let mut most: u32 = 0;
     let mut i = k;
@@ -34,9 +34,9 @@ fn deepest(s: &[u8], n: usize, labels: &[u32; 4096], k: u32, at: usize) -> u32
 
 // Takes each hyperedge's source down to the depth of its targets; says whether any label rose.
 fn deepen_hypers(s: &[u8], n: usize, h: u32, labels: &mut [u32; 4096]) -> bool
-    requires { ⌜ Sound (hyperLayout (now s) n) h graphHeader ⌝ }
-    requires { ⌜ (n ≤ 4096) × (length (now labels) ≡ 4096) ⌝ }
-    ensures { λ r. ⌜ Deeper n (items (hyperLayout (now (s .entry)) n) h graphHeader) HyperFalls (now (labels .entry)) (now (labels .exit)) r ⌝ }
+    requires sound { Sound (hyper_layout s.now n) h graph_header }
+    requires n_bound { (n ≤ 4096) × (length labels.old ≡ 4096) }
+    ensures { Deeper n (items (hyper_layout s.now n) h graph_header) HyperFalls labels.old labels.new result }
 {
     let mut moved = false;
     let mut i = h;
@@ -58,12 +58,12 @@ fn deepen_hypers(s: &[u8], n: usize, h: u32, labels: &mut [u32; 4096]) -> bool
 
 // Takes each cover edge's source below its target; says whether any label rose.
 fn deepen_covers(s: &[u8], n: usize, c: u32, middle: usize, labels: &mut [u32; 4096]) -> bool
-    requires { ⌜ Sound (coverLayout (now s) n) c middle ⌝ }
-    requires { ⌜ (n ≤ 4096) × (length (now labels) ≡ 4096) ⌝ }
-    requires { ⌜ c ≤ 4096 ⌝ }
-    requires { ⌜ Within n (now labels) 4294901760 ⌝ }
-    ensures { λ r. ⌜ Deeper n (items (coverLayout (now (s .entry)) n) c middle) CoverFalls (now (labels .entry)) (now (labels .exit)) r ⌝ }
-    ensures { λ _. ⌜ ((m : ℕ) → Within n (now (labels .entry)) m → Within n (now (labels .exit)) (m + c)) ⌝ }
+    requires sound { Sound (cover_layout s.now n) c middle }
+    requires n_bound { (n ≤ 4096) × (length labels.old ≡ 4096) }
+    requires c_bound { c ≤ 4096 }
+    requires within { Within n labels.old 4294901760 }
+    ensures deeper { Deeper n (items (cover_layout s.now n) c middle) CoverFalls labels.old labels.new result }
+    ensures by_index { (m : ℕ) → Within n labels.old m → Within n labels.new (m + c) }
 {
     let mut moved = false;
     let mut i = c;
@@ -85,13 +85,13 @@ fn deepen_covers(s: &[u8], n: usize, c: u32, middle: usize, labels: &mut [u32; 4
 
 // A pass over all edges; says whether any label rose.
 fn deepen(s: &[u8], n: usize, h: u32, c: u32, middle: usize, labels: &mut [u32; 4096]) -> bool
-    requires { ⌜ Scannable (now s) n h c ⌝ }
-    requires { ⌜ middle ≡ end (hyperLayout (now s) n) h graphHeader ⌝ }
-    requires { ⌜ (n ≤ 4096) × (length (now labels) ≡ 4096) ⌝ }
-    requires { ⌜ c ≤ 4096 ⌝ }
-    requires { ⌜ Within n (now labels) 4294901760 ⌝ }
-    ensures { λ r. ⌜ Pass (decoded (now (s .entry)) n h c) (now (labels .entry)) (now (labels .exit)) r ⌝ }
-    ensures { λ _. ⌜ ((m : ℕ) → Within n (now (labels .entry)) m → Within n (now (labels .exit)) (m + c)) ⌝ }
+    requires scannable { Scannable s.now n h c }
+    requires middle_value { middle ≡ end (hyper_layout s.now n) h graph_header }
+    requires n_bound { (n ≤ 4096) × (length labels.old ≡ 4096) }
+    requires c_bound { c ≤ 4096 }
+    requires within { Within n labels.old 4294901760 }
+    ensures pass { Pass (decoded s.now n h c) labels.old labels.new result }
+    ensures by_index { (m : ℕ) → Within n labels.old m → Within n labels.new (m + c) }
 {
     let along = deepen_hypers(s, n, h, labels);
     let over = deepen_covers(s, n, c, middle, labels);
@@ -103,10 +103,10 @@ fn deepen(s: &[u8], n: usize, h: u32, c: u32, middle: usize, labels: &mut [u32; 
 
 // Whether some cycle passes through a cover edge: then, and only then, do the labels still rise in pass n.
 pub fn has_cycle(s: &[u8], n: usize, h: u32, c: u32, middle: usize) -> bool
-    requires { ⌜ Ready (now s) n h c ⌝ }
-    requires { ⌜ middle ≡ end (hyperLayout (now s) n) h graphHeader ⌝ }
-    requires { ⌜ (n ≤ 4096) × (c ≤ 4096) ⌝ }
-    ensures { λ r. ⌜ (r ≡ true → CoverCycle (decoded (now (s .entry)) n h c)) × (r ≡ false → ¬ CoverCycle (decoded (now (s .entry)) n h c)) ⌝ }
+    requires ready { Ready s.now n h c }
+    requires middle_value { middle ≡ end (hyper_layout s.now n) h graph_header }
+    requires n_bound { (n ≤ 4096) × (c ≤ 4096) }
+    ensures { (result ≡ true → CoverCycle (decoded s.now n h c)) × (result ≡ false → ¬ CoverCycle (decoded s.now n h c)) }
 {
     let mut labels = [0u32; 4096];
     let mut passes = 1;

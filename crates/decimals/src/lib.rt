@@ -1,15 +1,14 @@
 // Words and decimal numbers, written into a lent room.
-ghost use mathlib.Core.Path.{_≡_};
-ghost use Prim.Native.Nat.{_+_, _≤_};
-ghost use mathlib.Core.List.{_++_};
-ghost use lib.ListN.{length};
-ghost use Rattle·wire.specs.Laid.{Laid};
-ghost use Rattle·decimals·specs.specs.Decimal.{decimal, longDecimal};
+#![tactic(auto)]
+
+ghost use Rattle.std.specs.Prelude.{◌≡◌, ◌+◌, ◌≤◌, ◌++◌, length};
+ghost use Rattle.wire.specs.Laid.{Laid};
+ghost use Rattle.decimals.specs.Decimal.{decimal, long_decimal};
 
 // Stores a word at a position; returns the position past it.
 pub fn put_word(room: &mut [u8], at: usize, word: &[u8]) -> usize
-    requires { ⌜ at + length (now word) ≤ length (now room) ⌝ }
-    ensures { λ r. ⌜ Laid (now (room .entry)) at (now (word .entry)) (now (room .exit)) r ⌝ }
+    requires { at + length word.now ≤ length room.old }
+    ensures { Laid room.old at word.now room.new result }
 {
     let mut i = 0;
     while i < word.len() {
@@ -21,8 +20,8 @@ pub fn put_word(room: &mut [u8], at: usize, word: &[u8]) -> usize
 
 // Stores a number of 64 bits in decimal at a position; returns the position past it.
 pub fn put_long(room: &mut [u8], at: usize, n: u64) -> usize
-    requires { ⌜ at + length (longDecimal n) ≤ length (now room) ⌝ }
-    ensures { λ r. ⌜ Laid (now (room .entry)) at (longDecimal n) (now (room .exit)) r ⌝ }
+    requires { at + length (long_decimal n) ≤ length room.old }
+    ensures { Laid room.old at (long_decimal n) room.new result }
 {
     let last = if n < 10 {
         at
@@ -35,15 +34,15 @@ pub fn put_long(room: &mut [u8], at: usize, n: u64) -> usize
 
 // Stores a number in decimal at a position; returns the position past it.
 pub fn put_decimal(room: &mut [u8], at: usize, n: u32) -> usize
-    requires { ⌜ at + length (decimal n) ≤ length (now room) ⌝ }
-    ensures { λ r. ⌜ Laid (now (room .entry)) at (decimal n) (now (room .exit)) r ⌝ }
+    requires { at + length (decimal n) ≤ length room.old }
+    ensures { Laid room.old at (decimal n) room.new result }
 {
     put_long(room, at, n as u64)
 }
 
 // How many digits a number has in decimal.
 pub fn decimal_length(n: u32) -> usize
-    ensures { λ r. ⌜ r ≡ length (decimal n) ⌝ }
+    ensures { result ≡ length (decimal n) }
 {
     if n < 10 {
         1
@@ -54,8 +53,8 @@ pub fn decimal_length(n: u32) -> usize
 
 // Stores a word and a number after it.
 pub fn put_number(room: &mut [u8], at: usize, word: &[u8], n: u32) -> usize
-    requires { ⌜ at + length (now word) + length (decimal n) ≤ length (now room) ⌝ }
-    ensures { λ r. ⌜ Laid (now (room .entry)) at (now (word .entry) ++ decimal n) (now (room .exit)) r ⌝ }
+    requires { at + length word.now + length (decimal n) ≤ length room.old }
+    ensures { Laid room.old at (word.now ++ decimal n) room.new result }
 {
     let digits = put_word(room, at, word);
     put_decimal(room, digits, n)

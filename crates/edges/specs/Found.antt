@@ -1,11 +1,9 @@
 -- What was found of an edge: a fault, or what it is to the claims.
-use mathlib.Core.Path.{_≡_}
-use Rattle·wire.specs.Read.{Read, good}
-use Rattle·wire.specs.declared.State.{State}
-use Rattle·edges·specs.specs.declared.Weighed.{Weighed}
-use Rattle·edges·specs.specs.declared.Weighed.the-variants as Weighed
-use Rattle·edges·specs.specs.declared.Edge.{Edge}
-use Rattle·edges·specs.specs.declared.Edge.the-variants as Edge
+use Rattle.std.specs.Prelude.{◌≡◌}
+use Rattle.wire.specs.Read.{Read, good}
+use Rattle.wire.specs.declared.State.{State}
+use Rattle.edges.specs.declared.Weighed.{Weighed}
+use Rattle.edges.specs.declared.Edge.{Edge}
 
 -- what was found of an edge without fault; its source may have been marked before
 abbrev pub Found : (Fair Backing Had : Type 0) → Weighed → Type 0

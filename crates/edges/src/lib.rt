@@ -1,23 +1,24 @@
 // An edge read and judged by the claims at once: it has a fault, or it is fair to them and may back its source.
-ghost use mathlib.Core.Path.{_≡_};
-ghost use Prim.Native.Nat.{_+_, _*_, _≤_};
-ghost use lib.ListN.{length, getD};
-ghost use Rattle·value.specs.Stored.{stored};
-ghost use Rattle·wire.specs.Bytes.{number};
-ghost use Rattle·wire.specs.Reader.{one};
-ghost use Rattle·rules.specs.Rounds as rules;
-ghost use Rattle·graph.specs.Format.{mostTargets, coverTargetAt, coverWidth};
-ghost use Rattle·graph.specs.Layouts.{hyperLayout, coverLayout, HyperOk, CoverOk};
-ghost use Rattle·graph.specs.Message as m;
-ghost use Rattle·support.specs.Claims.{claimWidth, claimedValue, claimedRank};
-ghost use Rattle·support.specs.Backing.{HyperFair, HyperBacks, CoverFair, CoverBacks};
-ghost use Rattle·edges·specs.specs.Found.{Found, EdgeFound};
+#![tactic(auto)]
+
+ghost use Rattle.std.specs.Prelude.{◌≡◌, ◌+◌, ◌*◌, ◌≤◌, length, get_or};
+ghost use Rattle.value.specs.Stored.{stored};
+ghost use Rattle.wire.specs.Bytes.{number};
+ghost use Rattle.wire.specs.Reader.{one};
+ghost use Rattle.rules.specs.Rounds as rules;
+ghost use Rattle.graph.specs.Format.{most_targets, cover_target_at, cover_width};
+ghost use Rattle.graph.specs.Layouts.{hyper_layout, cover_layout, HyperOk, CoverOk};
+ghost use Rattle.graph.specs.Message as m;
+ghost use Rattle.support.specs.Claims.{claim_width, claimed_value, claimed_rank};
+ghost use Rattle.support.specs.Backing.{HyperFair, HyperBacks, CoverFair, CoverBacks};
+ghost use Rattle.edges.specs.Found.{Found, EdgeFound};
+
 use claimed::Given;
-use value::Bound;
-use value::Value;
+use value::{Bound, Value};
 use wire::Width;
 
 // What an edge without fault is to the claims: it gives less than its source claims; it backs its source's value; or neither.
+#[derive(Clone, Copy)]
 enum Weighed {
     Less,
     Backs,
@@ -26,6 +27,7 @@ enum Weighed {
 
 // What an edge is: it has a fault, or gives less than its source claims; it backs its source's value; or neither. With the source, the
 // targets so far, and where the next edge stands.
+#[derive(Clone, Copy)]
 pub enum Edge {
     Odd,
     Backs(u32, u32, usize),
@@ -43,13 +45,13 @@ fn hyper_judged(
     given: u64,
     next: usize,
 ) -> Weighed
-    requires { ⌜ HyperOk (now s) n at ⌝ }
-    requires { ⌜ source ≡ number 2 (now s) at ⌝ }
-    requires { ⌜ next ≡ hyperLayout (now s) n .next at ⌝ }
-    requires { ⌜ given ≡ stored (rules.worst (claimedValue (now claims)) (hyperLayout (now s) n .item at .targets)) ⌝ }
-    requires { ⌜ n * claimWidth ≤ length (now claims) ⌝ }
-    requires { ⌜ (n ≤ 4096) × (length (now marks) ≡ 4096) ⌝ }
-    ensures { λ r. ⌜ (let e = hyperLayout (now (s .entry)) n .item at in Found (HyperFair (claimedValue (now (claims .entry))) e) (HyperBacks (claimedValue (now (claims .entry))) (claimedRank (now (claims .entry))) e) (getD (now (marks .entry)) (e .source) 0 ≡ 1) r) ⌝ }
+    requires hyper_ok { HyperOk s.now n at }
+    requires source_value { source ≡ number 2 s.now at }
+    requires next_value { next ≡ (hyper_layout s.now n).next at }
+    requires given_value { given ≡ stored (rules.worst (claimed_value claims.now) ((hyper_layout s.now n).item at).targets) }
+    requires claim_width_in_bounds { n * claim_width ≤ length claims.now }
+    requires n_bound { (n ≤ 4096) × (length marks.now ≡ 4096) }
+    ensures { let e = (hyper_layout s.now n).item at in Found (HyperFair (claimed_value claims.now) e) (HyperBacks (claimed_value claims.now) (claimed_rank claims.now) e) (get_or marks.now e.source 0 ≡ 1) result }
 {
     let claimed = claimed::value_of(n, claims, source);
     if given < claimed {
@@ -81,11 +83,11 @@ pub fn hyper_edge(
     prev: u32,
     seen: u32,
 ) -> Edge
-    requires { ⌜ (at ≤ length (now s)) × (prev ≤ n) × (seen ≤ mostTargets) ⌝ }
-    requires { ⌜ n * claimWidth ≤ length (now claims) ⌝ }
-    requires { ⌜ (n ≤ 4096) × (length (now marks) ≡ 4096) ⌝ }
-    ensures { λ r. ⌜ (let e = hyperLayout (now (s .entry)) n .item at in EdgeFound (one (m.hypers (now (s .entry)) n) (record { at = at; prev = prev; seen = seen }))
-        (HyperFair (claimedValue (now (claims .entry))) e) (HyperBacks (claimedValue (now (claims .entry))) (claimedRank (now (claims .entry))) e) (getD (now (marks .entry)) (e .source) 0 ≡ 1) r) ⌝ }
+    requires at_in_bounds { (at ≤ length s.now) × (prev ≤ n) × (seen ≤ most_targets) }
+    requires claim_width_in_bounds { n * claim_width ≤ length claims.now }
+    requires n_bound { (n ≤ 4096) × (length marks.now ≡ 4096) }
+    ensures { let e = (hyper_layout s.now n).item at in EdgeFound (one (m.hypers s.now n) (record { at = at; prev = prev; seen = seen }))
+        (HyperFair (claimed_value claims.now) e) (HyperBacks (claimed_value claims.now) (claimed_rank claims.now) e) (get_or marks.now e.source 0 ≡ 1) result }
 {
     let first = at + graph::HYPER;
     if s.len() < first {
@@ -132,10 +134,10 @@ fn cover_judged(
     source: usize,
     target: usize,
 ) -> Weighed
-    requires { ⌜ CoverOk (now s) n at ⌝ }
-    requires { ⌜ (source ≡ number 2 (now s) at) × (target ≡ number 2 (now s) (at + coverTargetAt)) ⌝ }
-    requires { ⌜ n * claimWidth ≤ length (now claims) ⌝ }
-    ensures { λ r. ⌜ (let e = coverLayout (now (s .entry)) n .item at in Found (CoverFair (claimedValue (now (claims .entry))) e) (CoverBacks (claimedValue (now (claims .entry))) (claimedRank (now (claims .entry))) e) ⊥ r) ⌝ }
+    requires cover_ok { CoverOk s.now n at }
+    requires source_value { (source ≡ number 2 s.now at) × (target ≡ number 2 s.now (at + cover_target_at)) }
+    requires claim_width_in_bounds { n * claim_width ≤ length claims.now }
+    ensures { let e = (cover_layout s.now n).item at in Found (CoverFair (claimed_value claims.now) e) (CoverBacks (claimed_value claims.now) (claimed_rank claims.now) e) ⊥ result }
 {
     let bound = Bound::coded(wire::number_at(s, at + graph::COVER_BOUND_AT, Width::Four));
     let reached = claimed::value_of(n, claims, target);
@@ -156,10 +158,10 @@ fn cover_judged(
 
 // What the cover edge at a position, whose bytes fit, is: its source, its target, and whether it holds.
 pub fn cover_edge(s: &[u8], n: u32, claims: &[u8], at: usize, prev: u32) -> Edge
-    requires { ⌜ (at + coverWidth ≤ length (now s)) × (prev ≤ n) ⌝ }
-    requires { ⌜ n * claimWidth ≤ length (now claims) ⌝ }
-    ensures { λ r. ⌜ (let e = coverLayout (now (s .entry)) n .item at in EdgeFound (one (m.covers (now (s .entry)) n) (record { at = at; prev = prev; seen = 0 }))
-        (CoverFair (claimedValue (now (claims .entry))) e) (CoverBacks (claimedValue (now (claims .entry))) (claimedRank (now (claims .entry))) e) ⊥ r) ⌝ }
+    requires cover_width_in_bounds { (at + cover_width ≤ length s.now) × (prev ≤ n) }
+    requires claim_width_in_bounds { n * claim_width ≤ length claims.now }
+    ensures { let e = (cover_layout s.now n).item at in EdgeFound (one (m.covers s.now n) (record { at = at; prev = prev; seen = 0 }))
+        (CoverFair (claimed_value claims.now) e) (CoverBacks (claimed_value claims.now) (claimed_rank claims.now) e) ⊥ result }
 {
     let source = wire::number_at(s, at, Width::Two);
     if !wire::follows(source, n, prev) {

@@ -1,9 +1,12 @@
 // What is entered into the nightly sheet, and the entry of what a call of the library returned.
-ghost use mathlib.Core.Path.{_≡_};
-ghost use Rattle·entries·specs.specs.Entries.{isEntry, roundsOf, countPlace};
-ghost use Rattle·entries·specs.specs.Returned.{entryOf};
+#![tactic(auto)]
+
+ghost use Rattle.std.specs.Prelude.{◌≡◌};
+ghost use Rattle.entries.specs.Entries.{is_entry, rounds_of, count_place};
+ghost use Rattle.entries.specs.Returned.{entry_of};
 
 // What is entered: yes, no or a refusal's number, with the rounds that were reported.
+#[derive(Clone, Copy)]
 pub enum Entry {
     Yes(u32),
     No(u32),
@@ -14,7 +17,7 @@ impl Entry {
     // The entry of what a call returned: yes or no where it returned OK, else its refusal. What no call returns is an entry that the table
     // doesn't have.
     pub fn returned(number: u8, verdict: u8, rounds: u32) -> Self
-        ensures { λ r. ⌜ r ≡ entryOf number verdict rounds ⌝ }
+        ensures { result ≡ entry_of number verdict rounds }
     {
         if verdict == 0 {
             return Entry::Refused(number, rounds);
@@ -31,7 +34,7 @@ impl Entry {
 
     // Whether it is yes, no or a number of the table.
     pub fn is_entry(self) -> bool
-        ensures { λ r. ⌜ r ≡ isEntry self ⌝ }
+        ensures { result ≡ is_entry self }
     {
         match self {
             Entry::Yes(_) => true,
@@ -42,7 +45,7 @@ impl Entry {
 
     // Which of the counts it goes into.
     pub fn place(self) -> usize
-        ensures { λ r. ⌜ r ≡ countPlace self ⌝ }
+        ensures { result ≡ count_place self }
     {
         match self {
             Entry::Yes(_) => 0,
@@ -53,7 +56,7 @@ impl Entry {
 
     // The rounds that count: BUDGET is the one refusal that has any.
     pub fn rounds(self) -> u64
-        ensures { λ r. ⌜ r ≡ roundsOf self ⌝ }
+        ensures { result ≡ rounds_of self }
     {
         match self {
             Entry::Yes(rounds) => rounds as u64,

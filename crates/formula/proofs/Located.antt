@@ -1,28 +1,28 @@
 -- A fault of a formula message is of no field, or of a field that starts inside the message. Assumes nothing.
-use Prim.Native.Nat.{ℕ, zero, suc, _+_, _≤_}
+use Prim.Native.Nat.{ℕ, zero, suc, ◌+◌, ◌≤◌}
 use mathlib.Core.Bool.{Bool, true, false}
 use mathlib.Core.List.{List}
-use mathlib.Core.Path.{_≡_, refl, sym, ap, subst, _∙_}
+use mathlib.Core.Path.{◌≡◌, refl, sym, ap, subst, ◌∙◌}
 use native.Mathlib.Omega.{arith}
 use lib.ListN.{length}
-use Rattle·refusal.specs.declared.Fault.{Fault}
-use Rattle·wire.specs.declared.Field.{Field}
-use Rattle·wire.specs.declared.Field.the-variants.{Number, Refused}
-use Rattle·wire.specs.declared.State.{State}
-use Rattle·wire.specs.Field.{fieldAt}
-use Rattle·wire.specs.Read.{Read, good, bad, _>>=_, _>>_, unless, ofField, field, below, misnamed}
-use Rattle·wire.specs.Reader.{readAll}
-use Rattle·wire.specs.Start.{only, readStart, versionAt, kindAt}
-use Rattle·wire.specs.Counts.{readCount}
-use Rattle·wire.specs.Step.{start}
-use Rattle·wire.proofs.Fields.{refused-short, value-inside}
-use Rattle·wire.proofs.Reading.{never, bad-same, field-good}
-use Rattle·syntax.specs.Format.{formulaHeader, rowsCount, placeOf}
-use Rattle·syntax.specs.Rows.{usesLeft, usesRight, usesBound}
-use Rattle·syntax.specs.Message.{illFormed, spare, operand, fieldsFrom, rowFrom, rows, readHeader, readFormula}
-use Rattle·formula·specs.specs.Located as at-start
-use Rattle·formula·specs.specs.Located.{FieldStart, Located, of-no-field, of-field}
-use Rattle·formula·proofs.proofs.Good.{header-good}
+use Rattle.refusal.specs.declared.Fault.{Fault}
+use Rattle.wire.specs.declared.Field.{Field}
+use Rattle.wire.specs.declared.Field.TheVariants.{Number, Refused}
+use Rattle.wire.specs.declared.State.{State}
+use Rattle.wire.specs.Field.{field_at}
+use Rattle.wire.specs.Read.{Read, good, bad, ◌>>=◌, ◌>>◌, unless, read_of_field, field, below, misnamed}
+use Rattle.wire.specs.Reader.{read_all}
+use Rattle.wire.specs.Start.{only, read_start, version_at, kind_at}
+use Rattle.wire.specs.Counts.{read_count}
+use Rattle.wire.specs.Step.{start}
+use Rattle.wire.proofs.Fields.{refused_short, value_inside}
+use Rattle.wire.proofs.Reading.{never, bad_same, field_good}
+use Rattle.syntax.specs.Format.{formula_header, rows_count, place_of}
+use Rattle.syntax.specs.Rows.{uses_left, uses_right, uses_bound}
+use Rattle.syntax.specs.Message.{ill_formed, spare, operand, fields_from, row_from, rows, read_header, read_formula}
+use Rattle.formula.specs.Located as at-start
+use Rattle.formula.specs.Located.{FieldStart, Located, of_no_field, of_field}
+use Rattle.formula.proofs.Good.{header_good}
 
 -- ---- readings whose faults are all located
 
@@ -35,103 +35,103 @@ module _ {s : List ℕ} where
   none a = record { located = λ e. absurd (never (sym e)) }
 
   then : {A B : Type 0} (x : Read A) {k : A → Read B} → Faults s x → ((a : A) → x ≡ good a → Faults s (k a)) → Faults s (x >>= k)
-  unfolding _>>=_
+  unfolding ◌>>=◌
   then (good a) p q = q a refl
-  then (bad e) p q = record { located = λ h. p .located (ap bad (bad-same h)) }
+  then (bad e) p q = record { located = λ h. p.located (ap bad (bad_same h)) }
 
   and : {B : Type 0} (x : Read Unit) {r : Read B} → Faults s x → (x ≡ good tt → Faults s r) → Faults s (x >> r)
-  unfolding _>>_
+  unfolding ◌>>◌
   and (good a) p q = q refl
-  and (bad e) p q = record { located = λ h. p .located (ap bad (bad-same h)) }
+  and (bad e) p q = record { located = λ h. p.located (ap bad (bad_same h)) }
 
   -- a test's fault
   test : (t : Bool) {e : Fault} → Located s e → Faults s (unless t e)
   unfolding unless
   test true l = none tt
-  test false l = record { located = λ h. subst (Located s) (bad-same h) l }
+  test false l = record { located = λ h. subst (Located s) (bad_same h) l }
 
   -- a field that doesn't fit is no field's fault; one that is not below its limit is there
   there : (k at : ℕ) → Faults s (field k s at)
-  unfolding ofField
-  there k at = go (fieldAt k s at) refl
+  unfolding read_of_field
+  there k at = go (field_at k s at) refl
     where
-      go : (x : Field) → fieldAt k s at ≡ x → Faults s (ofField x)
+      go : (x : Field) → field_at k s at ≡ x → Faults s (read_of_field x)
       go (Number n) e = none n
-      go (Refused f) e = record { located = λ h. of-no-field (ap (λ (g : Fault). g .offset) (sym (bad-same h) ∙ refused-short k s at e)) }
+      go (Refused f) e = record { located = λ h. of_no_field (ap (λ (g : Fault). g.offset) (sym (bad_same h) ∙ refused_short k s at e)) }
 
   limited : (k at limit : ℕ) {e : Fault} → (at + k ≤ length s → Located s e) → Faults s (below k s at limit e)
   unfolding below
-  limited k at limit l = then _ (there k at) (λ n e. and _ (test _ (l (value-inside k s at (field-good k s at e)))) (λ h. none n))
+  limited k at limit l = then _ (there k at) (λ n e. and _ (test _ (l (value_inside k s at (field_good k s at e)))) (λ h. none n))
 
 -- ---- the header
 
 module _ (s : List ℕ) where
-  only-faults : (at allowed : ℕ) → (at + 1 ≤ length s → FieldStart s at) → Faults s (only s at allowed)
+  only_faults : (at allowed : ℕ) → (at + 1 ≤ length s → FieldStart s at) → Faults s (only s at allowed)
   unfolding only
-  only-faults at allowed starts =
-      then _ (there 1 at) (λ n e. let inside = value-inside 1 s at (field-good 1 s at e) in and _ (test _ (of-field (omega arith) (starts inside))) (λ h. none n))
+  only_faults at allowed starts =
+      then _ (there 1 at) (λ n e. let inside = value_inside 1 s at (field_good 1 s at e) in and _ (test _ (of_field (omega arith) (starts inside))) (λ h. none n))
 
-  header-faults : Faults s (readHeader s)
-  unfolding readHeader readStart readCount
-  header-faults =
+  header_faults : Faults s (read_header s)
+  unfolding read_header read_start read_count
+  header_faults =
       and _
-      (and _ (test _ (of-no-field refl)) (λ h.
+      (and _ (test _ (of_no_field refl)) (λ h.
       then _ (there 4 0) (λ total e.
-      and _ (test _ (of-no-field refl)) (λ h.
-      then _ (only-faults versionAt _ (λ h. at-start.version)) (λ v e.
-      then _ (only-faults kindAt _ (λ h. at-start.kind)) (λ k e. none tt))))))
+      and _ (test _ (of_no_field refl)) (λ h.
+      then _ (only_faults version_at _ (λ h. at-start.version)) (λ v e.
+      then _ (only_faults kind_at _ (λ h. at-start.kind)) (λ k e. none tt))))))
       (λ h.
       then _
-      (then _ (there 1 (rowsCount .at)) (λ n e.
-      let inside = value-inside 1 s (rowsCount .at) (field-good 1 s (rowsCount .at) e) in
-      and _ (test _ (of-field (omega arith) at-start.row-count)) (λ h.
-      and _ (test _ (of-field (omega arith) at-start.row-count)) (λ h. none n))))
-      (λ f e. and _ (test _ (of-no-field refl)) (λ h. none f)))
+      (then _ (there 1 rows_count.at) (λ n e.
+      let inside = value_inside 1 s rows_count.at (field_good 1 s rows_count.at e) in
+      and _ (test _ (of_field (omega arith) at-start.row_count)) (λ h.
+      and _ (test _ (of_field (omega arith) at-start.row_count)) (λ h. none n))))
+      (λ f e. and _ (test _ (of_no_field refl)) (λ h. none f)))
 
   -- ---- rows
 
-  spare-faults : (used : Bool) (k at offset : ℕ) → Located s (illFormed offset) → Faults s (spare used k s at offset)
+  spare_faults : (used : Bool) (k at offset : ℕ) → Located s (ill_formed offset) → Faults s (spare used k s at offset)
   unfolding spare
-  spare-faults true k at offset l = none 0
-  spare-faults false k at offset l = limited k at 1 (λ h. l)
+  spare_faults true k at offset l = none 0
+  spare_faults false k at offset l = limited k at 1 (λ h. l)
 
-  operand-faults : (used : Bool) (at limit offset : ℕ) → Located s (misnamed offset) → Faults s (operand used s at limit offset)
+  operand_faults : (used : Bool) (at limit offset : ℕ) → Located s (misnamed offset) → Faults s (operand used s at limit offset)
   unfolding operand
-  operand-faults true at limit offset l = limited 1 at limit (λ h. l)
-  operand-faults false at limit offset l = none 0
+  operand_faults true at limit offset l = limited 1 at limit (λ h. l)
+  operand_faults false at limit offset l = none 0
 
   -- row i, which is inside the message
-  row-faults : (p i : ℕ) → placeOf (suc i) ≤ length s → Faults s (rowFrom s (placeOf i) (placeOf i) p i)
-  unfolding rowFrom fieldsFrom
-  row-faults p i h =
-      then _ (there 1 (placeOf i)) (λ o e.
-      and _ (test _ (of-field (omega arith) (at-start.operator i h))) (λ known.
-      then _ (spare-faults (usesLeft o) 1 _ _ (of-field (omega arith) (at-start.left i h))) (λ l e.
-      then _ (spare-faults (usesRight o) 1 _ _ (of-field (omega arith) (at-start.right i h))) (λ r e.
-      then _ (spare-faults false 1 _ _ (of-field (omega arith) (at-start.zero i h))) (λ z e.
-      then _ (spare-faults (usesBound o) 4 _ _ (of-field (omega arith) (at-start.bound i h))) (λ b e.
-      then _ (operand-faults (usesLeft o) _ _ _ (of-field (omega arith) (at-start.left i h))) (λ left e.
-      then _ (operand-faults (usesRight o) _ _ _ (of-field (omega arith) (at-start.right i h))) (λ right e.
+  row_faults : (p i : ℕ) → place_of (suc i) ≤ length s → Faults s (row_from s (place_of i) (place_of i) p i)
+  unfolding row_from fields_from
+  row_faults p i h =
+      then _ (there 1 (place_of i)) (λ o e.
+      and _ (test _ (of_field (omega arith) (at-start.operator i h))) (λ known.
+      then _ (spare_faults (uses_left o) 1 _ _ (of_field (omega arith) (at-start.left i h))) (λ l e.
+      then _ (spare_faults (uses_right o) 1 _ _ (of_field (omega arith) (at-start.right i h))) (λ r e.
+      then _ (spare_faults false 1 _ _ (of_field (omega arith) (at-start.zero i h))) (λ z e.
+      then _ (spare_faults (uses_bound o) 4 _ _ (of_field (omega arith) (at-start.bound i h))) (λ b e.
+      then _ (operand_faults (uses_left o) _ _ _ (of_field (omega arith) (at-start.left i h))) (λ left e.
+      then _ (operand_faults (uses_right o) _ _ _ (of_field (omega arith) (at-start.right i h))) (λ right e.
       then _ (there 4 _) (λ bound e. none _)))))))))
 
-  rows-faults : (p k : ℕ) (st : State) → st .at ≡ placeOf (st .seen) → placeOf (st .seen + k) ≤ length s → Faults s (readAll (rows s p) k st)
-  unfolding readAll
-  rows-faults p zero st here inside = none _
-  rows-faults p (suc k) st here inside =
-      let row : Faults s (rowFrom s (st .at) (st .at) p (st .seen)) =
-      subst (λ (at : ℕ). Faults s (rowFrom s at at p (st .seen))) (sym here) (row-faults p (st .seen) (omega arith)) in
+  rows_faults : (p k : ℕ) (st : State) → st.at ≡ place_of st.seen → place_of (st.seen + k) ≤ length s → Faults s (read_all (rows s p) k st)
+  unfolding read_all
+  rows_faults p zero st here inside = none _
+  rows_faults p (suc k) st here inside =
+      let row : Faults s (row_from s st.at st.at p st.seen) =
+      subst (λ (at : ℕ). Faults s (row_from s at at p st.seen)) (sym here) (row_faults p st.seen (omega arith)) in
       then _ row (λ a e.
-      then _ (rows-faults p k (rows s p .next st a) (omega (arith, here)) (omega arith)) (λ xs e. none _))
+      then _ (rows_faults p k ((rows s p).next st a) (omega (arith, here)) (omega arith)) (λ xs e. none _))
 
 -- ---- the message
 
-formula-faults : (p : ℕ) (s : List ℕ) → Faults s (readFormula p s)
-unfolding readFormula
-formula-faults p s =
-    and _ (test _ (of-no-field refl)) (λ few.
-    then _ (header-faults s) (λ f e.
-    then _ (rows-faults s p f (start formulaHeader) refl (omega (arith, header-good s f e .long))) (λ rs e.
-    and _ (test _ (of-no-field refl)) (λ used. none rs))))
+formula_faults : (p : ℕ) (s : List ℕ) → Faults s (read_formula p s)
+unfolding read_formula
+formula_faults p s =
+    and _ (test _ (of_no_field refl)) (λ few.
+    then _ (header_faults s) (λ f e.
+    then _ (rows_faults s p f (start formula_header) refl (omega (arith, (header_good s f e).long))) (λ rs e.
+    and _ (test _ (of_no_field refl)) (λ used. none rs))))
 
-pub fault-located : (p : ℕ) (s : List ℕ) {f : Fault} → readFormula p s ≡ bad f → Located s f
-fault-located p s e = formula-faults p s .located e
+pub fault_located : (p : ℕ) (s : List ℕ) {f : Fault} → read_formula p s ≡ bad f → Located s f
+fault_located p s e = (formula_faults p s).located e

@@ -1,21 +1,21 @@
 -- One answer: two calls with the same arguments that satisfy the contract of a public function agree.
 -- Here a are the arguments, r is the result, and s is what stands in each argument at the end. Assumes nothing.
-use mathlib.Core.Path.{_≡_, sym, _∙_}
-use Rattle·formula·proofs.proofs.check.Reads as check
-use Rattle·formula·proofs.proofs.Checked.number.Reads as Checked-number
-use Rattle·formula·proofs.proofs.Checked.offset.Reads as Checked-offset
+use mathlib.Core.Path.{◌≡◌, sym, ◌∙◌}
+use Rattle.formula.proofs.check.Reads as check
+use Rattle.formula.proofs.Checked.number.Reads as Checked-number
+use Rattle.formula.proofs.Checked.offset.Reads as Checked-offset
 
 -- `formula::check`
-pub one-check : (κs : _) (a : _) (r r′ : _) (s s′ : _) → check.Post κs a r s → check.Post κs a r′ s′
-    → r ≡ r′
-one-check κs a r r′ s s′ p q = p ∙ sym q
+pub one_check : (κs : _) (a : _) (r r' : _) (s s' : _) → check.Post κs a r s → check.Post κs a r' s'
+    → r ≡ r'
+one_check κs a r r' s s' p q = p ∙ sym q
 
 -- `formula::Checked::number`
-pub one-number : (κs : _) (a : _) (r r′ : _) (s s′ : _) → Checked-number.Post κs a r s → Checked-number.Post κs a r′ s′
-    → r ≡ r′
-one-number κs a r r′ s s′ p q = p ∙ sym q
+pub one_number : (κs : _) (a : _) (r r' : _) (s s' : _) → Checked-number.Post κs a r s → Checked-number.Post κs a r' s'
+    → r ≡ r'
+one_number κs a r r' s s' p q = p ∙ sym q
 
 -- `formula::Checked::offset`
-pub one-offset : (κs : _) (a : _) (r r′ : _) (s s′ : _) → Checked-offset.Post κs a r s → Checked-offset.Post κs a r′ s′
-    → r ≡ r′
-one-offset κs a r r′ s s′ p q = p ∙ sym q
+pub one_offset : (κs : _) (a : _) (r r' : _) (s s' : _) → Checked-offset.Post κs a r s → Checked-offset.Post κs a r' s'
+    → r ≡ r'
+one_offset κs a r r' s s' p q = p ∙ sym q

@@ -2,59 +2,59 @@
 use Prim.Native.Nat.{ℕ}
 use mathlib.Core.Bool.{Bool, true, false}
 use mathlib.Core.List.{List}
-use mathlib.Core.Path.{_≡_, refl, sym, ap, _∙_}
+use mathlib.Core.Path.{◌≡◌, refl, sym, ap, ◌∙◌}
 use native.Mathlib.Omega.{arith}
 use lib.Dec.{eqb}
 use borrow.Author.Tests.{lt-ltb, ltb-true, eq-eqb, eqb-true}
-use Rattle·wire.specs.declared.Field.the-variants.{Number}
-use Rattle·wire.specs.Field.{fieldAt}
-use Rattle·wire.specs.Read.{good, field}
-use Rattle·wire.proofs.Reading.{below-good, good-below, good-same, field-good}
-use Rattle·syntax.specs.Message.{illFormed, spare, operand}
-use Rattle·formula·proofs.proofs.Judging.{idle, named}
+use Rattle.wire.specs.declared.Field.TheVariants.{Number}
+use Rattle.wire.specs.Field.{field_at}
+use Rattle.wire.specs.Read.{good, field}
+use Rattle.wire.proofs.Reading.{below_good, good_below, good_same, field_good}
+use Rattle.syntax.specs.Message.{ill_formed, spare, operand}
+use Rattle.formula.proofs.Judging.{idle, named}
 
 -- a field that is spare where it isn't used, and what it is then
 module _ (k : ℕ) (s : List ℕ) (at offset : ℕ) where
-  pub spare-good : (used : Bool) {u v : ℕ} → spare used k s at offset ≡ good u → field k s at ≡ good v → idle used v ≡ true
+  pub spare_good : (used : Bool) {u v : ℕ} → spare used k s at offset ≡ good u → field k s at ≡ good v → idle used v ≡ true
   unfolding spare
-  spare-good true e there = refl
-  spare-good false {u} {v} e there =
-      let b = below-good k s at 1 _ e in
-      let same : Number v ≡ Number u = sym (field-good k s at there) ∙ b .0 in
+  spare_good true e there = refl
+  spare_good false {u} {v} e there =
+      let b = below_good k s at 1 _ e in
+      let same : Number v ≡ Number u = sym (field_good k s at there) ∙ b.0 in
       let zero : v ≡ u = cc in
-      eq-eqb v 0 (omega (arith, b .1))
+      eq-eqb v 0 (omega (arith, b.1))
 
-  pub good-spare : (used : Bool) {v : ℕ} → field k s at ≡ good v → idle used v ≡ true → spare used k s at offset ≡ good 0
+  pub good_spare : (used : Bool) {v : ℕ} → field k s at ≡ good v → idle used v ≡ true → spare used k s at offset ≡ good 0
   unfolding spare
-  good-spare true there e = refl
-  good-spare false {v} there e =
+  good_spare true there e = refl
+  good_spare false {v} there e =
       let zero : v ≡ 0 = eqb-true v 0 e in
-      good-below k s at 1 (illFormed offset) there (omega arith) ∙ ap good zero
+      good_below k s at 1 (ill_formed offset) there (omega arith) ∙ ap good zero
 
 -- left or right: first spare where it isn't used, then a name where it is
 pub record OperandAt (used : Bool) (s : List ℕ) (at limit v : ℕ) : Type 0 where
-  pub there : fieldAt 1 s at ≡ Number v
-  pub is-idle : idle used v ≡ true
-  pub is-named : named used v limit ≡ true
+  pub there : field_at 1 s at ≡ Number v
+  pub is_idle : idle used v ≡ true
+  pub is_named : named used v limit ≡ true
 
 module _ (s : List ℕ) (at limit offset : ℕ) where
-  pub operand-good : (used : Bool) {u v : ℕ} → spare used 1 s at offset ≡ good u → operand used s at limit offset ≡ good v → OperandAt used s at limit v
+  pub operand_good : (used : Bool) {u v : ℕ} → spare used 1 s at offset ≡ good u → operand used s at limit offset ≡ good v → OperandAt used s at limit v
   unfolding spare operand
-  operand-good true {u} {v} e n =
-      let b = below-good 1 s at limit _ n in
-      record { there = b .0; is-idle = refl; is-named = lt-ltb v limit (b .1) }
-  operand-good false {u} {v} e n =
-      let b = below-good 1 s at 1 _ e in
-      let none : 0 ≡ v = good-same n in
-      let same : u ≡ v = omega (arith, b .1) in
-      record { there = b .0 ∙ ap Number same; is-idle = eq-eqb v 0 (omega arith); is-named = refl }
+  operand_good true {u} {v} e n =
+      let b = below_good 1 s at limit _ n in
+      record { there = b.0; is_idle = refl; is_named = lt-ltb v limit b.1 }
+  operand_good false {u} {v} e n =
+      let b = below_good 1 s at 1 _ e in
+      let none : 0 ≡ v = good_same n in
+      let same : u ≡ v = omega (arith, b.1) in
+      record { there = b.0 ∙ ap Number same; is_idle = eq-eqb v 0 (omega arith); is_named = refl }
 
-  pub good-operand : (used : Bool) {v : ℕ} → field 1 s at ≡ good v → idle used v ≡ true → named used v limit ≡ true → operand used s at limit offset ≡ good v
+  pub good_operand : (used : Bool) {v : ℕ} → field 1 s at ≡ good v → idle used v ≡ true → named used v limit ≡ true → operand used s at limit offset ≡ good v
   unfolding operand
-  good-operand true {v} there e n = good-below 1 s at limit _ there (ltb-true v limit n)
-  good-operand false {v} there e n = ap good (sym (eqb-true v 0 e))
+  good_operand true {v} there e n = good_below 1 s at limit _ there (ltb-true v limit n)
+  good_operand false {v} there e n = ap good (sym (eqb-true v 0 e))
 
 -- the field zero is never used
-pub zero-good : (s : List ℕ) (at offset : ℕ) {z : ℕ} → spare false 1 s at offset ≡ good z → (fieldAt 1 s at ≡ Number z) × (eqb z 0 ≡ true)
+pub zero_good : (s : List ℕ) (at offset : ℕ) {z : ℕ} → spare false 1 s at offset ≡ good z → (field_at 1 s at ≡ Number z) × (eqb z 0 ≡ true)
 unfolding spare
-zero-good s at offset {z} e = let b = below-good 1 s at 1 _ e in (b .0, eq-eqb z 0 (omega (arith, b .1)))
+zero_good s at offset {z} e = let b = below_good 1 s at 1 _ e in (b.0, eq-eqb z 0 (omega (arith, b.1)))

@@ -1,12 +1,9 @@
 -- What the check answers, from what the reading gives.
-use Prim.Native.Nat.{ℕ}
-use mathlib.Core.List.{List}
-use lib.ListN.{length}
-use Rattle·refusal.specs.Number.{ok, numberOf, nowhere}
-use Rattle·wire.specs.Read.{Read, good, bad}
-use Rattle·syntax.specs.declared.Row.{Row}
-use Rattle·formula·specs.specs.declared.Checked.{Checked}
-use Rattle·formula·specs.specs.declared.Checked.the-variants as Checked
+use Rattle.std.specs.Prelude.{ℕ, List, length}
+use Rattle.refusal.specs.Number.{ok, number_of, nowhere}
+use Rattle.wire.specs.Read.{Read, good, bad}
+use Rattle.syntax.specs.declared.Row.{Row}
+use Rattle.formula.specs.declared.Checked.{Checked}
 
 -- the counts of a good header, or its fault
 unfoldable pub counted : Read ℕ → Checked
@@ -19,11 +16,11 @@ checked (good rows) = Checked.Formula (length rows)
 checked (bad e) = Checked.Refused e
 
 -- the paper's number of an answer
-abbrev pub checkedNumber : Checked → ℕ
-checkedNumber (Checked.Formula f) = ok
-checkedNumber (Checked.Refused e) = numberOf (e .refusal)
+abbrev pub checked_number : Checked → ℕ
+checked_number (Checked.Formula f) = ok
+checked_number (Checked.Refused e) = number_of e.refusal
 
 -- its offset
-abbrev pub checkedOffset : Checked → ℕ
-checkedOffset (Checked.Formula f) = nowhere
-checkedOffset (Checked.Refused e) = e .offset
+abbrev pub checked_offset : Checked → ℕ
+checked_offset (Checked.Formula f) = nowhere
+checked_offset (Checked.Refused e) = e.offset

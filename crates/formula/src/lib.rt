@@ -1,25 +1,18 @@
 // The check of a formula message against a number of propositions: the first fault in the paper's order, or how many rows it has.
-ghost use mathlib.Core.Path.{_≡_};
-ghost use Prim.Native.Nat.{ℕ, _+_, _≤_, _<_};
-ghost use mathlib.Core.List.{List, [], _∷_, _++_};
-ghost use lib.ListN.{length};
-ghost use Rattle·lists.specs.Lists.{_∈_};
-ghost use Rattle·syntax.specs.Format.{formulaLength};
-ghost use Rattle·syntax.specs.Message as m;
-ghost use Rattle·kinds.specs.Kept.{listed};
-ghost use Rattle·formula·specs.specs.Marked.{Marked};
-ghost use Rattle·formula·specs.specs.Answers as answers;
-use kinds::Judged;
-use kinds::Operands;
-use refusal::Fault;
-use refusal::Refusal;
-use syntax::HEADER;
-use syntax::ROW;
-use wire::Count;
-use wire::Field;
-use wire::Head;
-use wire::Opened;
-use wire::Width;
+#![tactic(auto)]
+
+ghost use Rattle.std.specs.Prelude.{◌≡◌, ℕ, ◌+◌, ◌≤◌, ◌<◌, List, [], ◌∷◌, ◌++◌, length};
+ghost use Rattle.lists.specs.Lists.{◌∈◌};
+ghost use Rattle.syntax.specs.Format.{formula_length};
+ghost use Rattle.syntax.specs.Message as m;
+ghost use Rattle.kinds.specs.Kept.{listed};
+ghost use Rattle.formula.specs.Marked.{Marked};
+ghost use Rattle.formula.specs.Answers as answers;
+
+use kinds::{Judged, Operands};
+use refusal::{Fault, Refusal};
+use syntax::{HEADER, ROW};
+use wire::{Count, Field, Head, Opened, Width};
 
 // The start of a formula message, and its count.
 const HEAD: Head = Head {
@@ -47,6 +40,7 @@ const MISUSED: Fault = Fault {
 };
 
 // How many rows an accepted message has, or its first fault.
+#[derive(Clone, Copy)]
 pub enum Checked {
     Formula(u32),
     Refused(Fault),
@@ -55,7 +49,7 @@ pub enum Checked {
 impl Checked {
     // The number that the paper gives the answer.
     pub fn number(self) -> u8
-        ensures { λ r. ⌜ r ≡ answers.checkedNumber self ⌝ }
+        ensures { result ≡ answers.checked_number self }
     {
         match self {
             Checked::Formula(_) => 0,
@@ -65,7 +59,7 @@ impl Checked {
 
     // Where in the message the field starts that was found wrong, and 0 where none was.
     pub fn offset(self) -> usize
-        ensures { λ r. ⌜ r ≡ answers.checkedOffset self ⌝ }
+        ensures { result ≡ answers.checked_offset self }
     {
         match self {
             Checked::Formula(_) => 0,
@@ -76,7 +70,7 @@ impl Checked {
 
 // The header, and that the message is as long as its count says.
 fn header(s: &[u8]) -> Checked
-    ensures { λ r. ⌜ r ≡ answers.counted (m.readHeader (now (s .entry))) ⌝ }
+    ensures { result ≡ answers.counted (m.read_header s.now) }
 {
     if let Opened::Refused(e) = wire::open(s, HEAD) {
         return Checked::Refused(e);
@@ -92,6 +86,7 @@ fn header(s: &[u8]) -> Checked
 }
 
 // How many uses rows make of others, and which rows were used: row i is bit i of one number, which stays in a register.
+#[derive(Clone, Copy)]
 struct Uses {
     total: u32,
     rows: u64,
@@ -99,9 +94,9 @@ struct Uses {
 
 // One use more of a row, whose bit is set.
 fn count_use(row: u32, uses: Uses) -> Uses
-    requires { ⌜ (row < 64) × (uses .total < 256) ⌝ }
-    ensures { λ r. ⌜ r .total ≡ uses .total + 1 ⌝ }
-    ensures { λ r. ⌜ ((ls : List ℕ) → Marked uses ls → Marked r (ls ++ (row ∷ []))) ⌝ }
+    requires { (row < 64) × (uses.total < 256) }
+    ensures total_value { result.total ≡ uses.total + 1 }
+    ensures by_index { (ls : List ℕ) → Marked uses ls → Marked result (ls ++ (row ∷ [])) }
 {
     Uses {
         total: uses.total + 1,
@@ -111,8 +106,8 @@ fn count_use(row: u32, uses: Uses) -> Uses
 
 // The uses that a row makes of others.
 fn count_row(row: Operands, uses: Uses) -> Uses
-    requires { ⌜ ((l : ℕ) → l ∈ listed row → l < 64) × (uses .total < 255) ⌝ }
-    ensures { λ r. ⌜ ((ls : List ℕ) → Marked uses ls → Marked r (ls ++ listed row)) ⌝ }
+    requires { ((l : ℕ) → l ∈ listed row → l < 64) × (uses.total < 255) }
+    ensures { (ls : List ℕ) → Marked uses ls → Marked result (ls ++ listed row) }
 {
     match row {
         Operands::None => uses,
@@ -127,8 +122,8 @@ fn count_row(row: Operands, uses: Uses) -> Uses
 // The f rows, and how often each is an operand: every one but the last exactly once, so that f - 1 uses are made and these rows are all used.
 // The header has fixed the length, so each row is a part of the message.
 fn all_rows(s: &[u8], p: u32, f: u32) -> Checked
-    requires { ⌜ (length (now s) ≡ formulaLength f) × (1 ≤ f) × (f ≤ 64) ⌝ }
-    ensures { λ r. ⌜ r ≡ answers.checked (m.readRows (now (s .entry)) p f) ⌝ }
+    requires { (length s.now ≡ formula_length f) × (1 ≤ f) × (f ≤ 64) }
+    ensures { result ≡ answers.checked (m.read_rows s.now p f) }
 {
     let mut at = HEADER;
     let mut place = 0;
@@ -155,7 +150,7 @@ fn all_rows(s: &[u8], p: u32, f: u32) -> Checked
 // A whole formula message, with the number of propositions it may name: how many rows it has, or its first fault. The message is named
 // anew at the start, all of it: where a slice is used in every call a compiler hands its place and length over in registers, else in memory.
 pub fn check(s: &[u8], p: u32) -> Checked
-    ensures { λ r. ⌜ r ≡ answers.checked (m.readFormula p (now (s .entry))) ⌝ }
+    ensures { result ≡ answers.checked (m.read_formula p s.now) }
 {
     let whole = &s[0..s.len()];
     if 32 < p {

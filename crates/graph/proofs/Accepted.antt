@@ -1,64 +1,64 @@
 -- What the bytes of an accepted graph message hold, by position. Assumes nothing.
-use Prim.Native.Nat.{ℕ, _+_, _*_}
+use Prim.Native.Nat.{ℕ, ◌+◌, ◌*◌}
 use mathlib.Core.List.{List}
-use mathlib.Core.Path.{_≡_, refl, sym, ap, subst, _∙_}
+use mathlib.Core.Path.{◌≡◌, refl, sym, ap, subst, ◌∙◌}
 use lib.ListN.{length}
 use native.Mathlib.Omega.{arith}
-use Rattle·wire.specs.Bytes.{number}
-use Rattle·wire.specs.Read.{good}
-use Rattle·wire.specs.Layout.{items, Sound}
-use Rattle·wire.proofs.Fields.{value-inside, value-is}
-use Rattle·wire.proofs.Layouts.{Reads, reads-all}
-use Rattle·rules.specs.Graph.{Graph, Hyper, Cover, Target}
-use Rattle·wire.specs.declared.State.{State}
-use Rattle·value.specs.Coded.{boundOf}
-use Rattle·wire.specs.Step.{start}
-use Rattle·graph·specs.specs.Format.{graphHeader, targetCountAt, hyperWidth, nodeAt, targetWidth, coverBoundAt, coverTargetAt}
-use Rattle·graph·specs.specs.Message.{readTarget, readHyper, readCover, readGraph, targets, hypers, covers, firstTarget}
-use Rattle·graph·specs.specs.Layouts.{targetLayout, hyperLayout, coverLayout, decoded, Scannable}
-use Rattle·graph·proofs.proofs.Good.{target-good, hyper-good, cover-good, graph-good}
+use Rattle.wire.specs.Bytes.{number}
+use Rattle.wire.specs.Read.{good}
+use Rattle.wire.specs.Layout.{items, Sound}
+use Rattle.wire.proofs.Fields.{value_inside, value_is}
+use Rattle.wire.proofs.Layouts.{Reads, reads_all}
+use Rattle.rules.specs.Graph.{Graph, Hyper, Cover, Target}
+use Rattle.wire.specs.declared.State.{State}
+use Rattle.value.specs.Coded.{bound_of}
+use Rattle.wire.specs.Step.{start}
+use Rattle.graph.specs.Format.{graph_header, target_count_at, hyper_width, node_at, target_width, cover_bound_at, cover_target_at}
+use Rattle.graph.specs.Message.{read_target, read_hyper, read_cover, read_graph, targets, hypers, covers, first_target}
+use Rattle.graph.specs.Layouts.{target_layout, hyper_layout, cover_layout, decoded, Scannable}
+use Rattle.graph.proofs.Good.{target_good, hyper_good, cover_good, graph_good}
 
 module _ (s : List ℕ) (n : ℕ) where
-  targets-read : (st : State) (t : Target) → readTarget s n st ≡ good t → Reads (targetLayout s n) (targets s n) st t
-  targets-read st t e =
-      let g = target-good s n st t e in
-      let w : number 4 s (st .at) ≡ t .weight = value-is 4 s _ (g .weight-there) in
-      let v : number 2 s (st .at + nodeAt) ≡ t .node = value-is 2 s _ (g .node-there) in
+  targets_read : (st : State) (t : Target) → read_target s n st ≡ good t → Reads (target_layout s n) (targets s n) st t
+  targets_read st t e =
+      let g = target_good s n st t e in
+      let w : number 4 s st.at ≡ t.weight = value_is 4 s _ g.weight_there in
+      let v : number 2 s (st.at + node_at) ≡ t.node = value_is 2 s _ g.node_there in
       record {
-        item-is = λ i. record { weight = sym w i; node = sym v i };
-        next-is = refl;
-        ok = record { inside = omega (arith, value-inside 2 s (st .at + nodeAt) (g .node-there)); named = rw v (g .named) };
+        item_is = λ i. record { weight = sym w i; node = sym v i };
+        next_is = refl;
+        ok = record { inside = omega (arith, value_inside 2 s (st.at + node_at) g.node_there); named = rw v g.named };
       }
 
-  pub hypers-read : (st : State) (h : Hyper) → readHyper s n st ≡ good h → Reads (hyperLayout s n) (hypers s n) st h
-  hypers-read st h e =
-      let g = hyper-good s n st h e in
-      let source : number 2 s (st .at) ≡ h .source = value-is 2 s _ (g .source-there) in
-      let count : number 2 s (st .at + targetCountAt) ≡ length (h .targets) = value-is 2 s _ (g .count-there) in
-      let ts = reads-all (targetLayout s n) (targets s n) targets-read _ (firstTarget st) _ (g .targets-there) in
+  pub hypers_read : (st : State) (h : Hyper) → read_hyper s n st ≡ good h → Reads (hyper_layout s n) (hypers s n) st h
+  hypers_read st h e =
+      let g = hyper_good s n st h e in
+      let source : number 2 s st.at ≡ h.source = value_is 2 s _ g.source_there in
+      let count : number 2 s (st.at + target_count_at) ≡ length h.targets = value_is 2 s _ g.count_there in
+      let ts = reads_all (target_layout s n) (targets s n) targets_read _ (first_target st) _ g.targets_there in
       record {
-        item-is = λ i. record { source = sym source i; targets = (ts .items-are ∙ ap (λ (k : ℕ). items (targetLayout s n) k (st .at + hyperWidth)) (sym count)) i };
-        next-is = ap (λ (k : ℕ). st .at + hyperWidth + k * targetWidth) (sym count);
+        item_is = λ i. record { source = sym source i; targets = (ts.items_are ∙ ap (λ (k : ℕ). items (target_layout s n) k (st.at + hyper_width)) (sym count)) i };
+        next_is = ap (λ (k : ℕ). st.at + hyper_width + k * target_width) (sym count);
         ok = record {
-          inside = omega (arith, g .inside);
-          named = rw source (g .named);
-          sound = rw count (ts .sound);
+          inside = omega (arith, g.inside);
+          named = rw source g.named;
+          sound = rw count ts.sound;
         };
       }
 
-  pub covers-read : (st : State) (c : Cover) → readCover s n st ≡ good c → Reads (coverLayout s n) (covers s n) st c
-  covers-read st c e =
-      let g = cover-good s n st c e in
-      let source : number 2 s (st .at) ≡ c .source = value-is 2 s _ (g .source-there) in
-      let code : number 4 s (st .at + coverBoundAt) ≡ g .code = value-is 4 s _ (g .bound-there) in
-      let target : number 2 s (st .at + coverTargetAt) ≡ c .target = value-is 2 s _ (g .target-there) in
+  pub covers_read : (st : State) (c : Cover) → read_cover s n st ≡ good c → Reads (cover_layout s n) (covers s n) st c
+  covers_read st c e =
+      let g = cover_good s n st c e in
+      let source : number 2 s st.at ≡ c.source = value_is 2 s _ g.source_there in
+      let code : number 4 s (st.at + cover_bound_at) ≡ g.code = value_is 4 s _ g.bound_there in
+      let target : number 2 s (st.at + cover_target_at) ≡ c.target = value_is 2 s _ g.target_there in
       record {
-        item-is = λ i. record { source = sym source i; bound = (g .bound-is ∙ ap boundOf (sym code)) i; target = sym target i };
-        next-is = refl;
+        item_is = λ i. record { source = sym source i; bound = (g.bound_is ∙ ap bound_of (sym code)) i; target = sym target i };
+        next_is = refl;
         ok = record {
-          inside = omega (arith, value-inside 2 s (st .at + coverTargetAt) (g .target-there));
-          named = rw source (g .named);
-          target-named = rw target (g .target-named);
+          inside = omega (arith, value_inside 2 s (st.at + cover_target_at) g.target_there);
+          named = rw source g.named;
+          target_named = rw target g.target_named;
         };
       }
 
@@ -67,22 +67,22 @@ pub record Holds (s : List ℕ) (g : Graph) (n h c : ℕ) : Type 0 where
   pub is : g ≡ decoded s n h c
   pub sound : Scannable s n h c
 
-pub accepted-holds : (s : List ℕ) (g : Graph) → readGraph s ≡ good g → Holds s g (g .nodes) (length (g .hypers)) (length (g .covers))
+pub accepted_holds : (s : List ℕ) (g : Graph) → read_graph s ≡ good g → Holds s g g.nodes (length g.hypers) (length g.covers)
 unfolding decoded
-accepted-holds s g e =
-    let p = graph-good {s = s} {g = g} e in
-    let n = g .nodes in
-    let hypers-hold = reads-all (hyperLayout s n) (hypers s n) (hypers-read s n) _ (start graphHeader) _ (p .hypers-there) in
-    let covers-hold = reads-all (coverLayout s n) (covers s n) (covers-read s n) _ _ _ (p .covers-there) in
-    let middle = hypers-hold .end-is in
+accepted_holds s g e =
+    let p = graph_good {s = s} {g = g} e in
+    let n = g.nodes in
+    let hypers-hold = reads_all (hyper_layout s n) (hypers s n) (hypers_read s n) _ (start graph_header) _ p.hypers_there in
+    let covers-hold = reads_all (cover_layout s n) (covers s n) (covers_read s n) _ _ _ p.covers_there in
+    let middle = hypers-hold.end_is in
     record {
       is = λ i. record {
         nodes = n;
-        hypers = hypers-hold .items-are i;
-        covers = (covers-hold .items-are ∙ ap (items (coverLayout s n) (length (g .covers))) middle) i;
+        hypers = hypers-hold.items_are i;
+        covers = (covers-hold.items_are ∙ ap (items (cover_layout s n) (length g.covers)) middle) i;
       };
       sound = record {
-        hypers = hypers-hold .sound;
-        covers = subst (Sound (coverLayout s n) (length (g .covers))) middle (covers-hold .sound);
+        hypers = hypers-hold.sound;
+        covers = subst (Sound (cover_layout s n) (length g.covers)) middle covers-hold.sound;
       };
     }

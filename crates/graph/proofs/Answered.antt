@@ -1,28 +1,28 @@
 -- The reading from the answer. Assumes nothing.
 use Prim.Native.Nat.{ℕ}
-use mathlib.Core.Path.{_≡_}
-use Rattle·refusal.specs.declared.Fault.{Fault}
-use Rattle·wire.specs.Read.{Read, good, bad}
-use Rattle·rules.specs.Graph.{Graph}
-use Rattle·graph·specs.specs.Message.{Counts}
-use Rattle·graph·specs.specs.Answers.{counted, checked}
-use Rattle·graph·specs.specs.declared.Checked.the-variants as Checked
+use mathlib.Core.Path.{◌≡◌}
+use Rattle.refusal.specs.declared.Fault.{Fault}
+use Rattle.wire.specs.Read.{Read, good, bad}
+use Rattle.rules.specs.Graph.{Graph}
+use Rattle.graph.specs.Message.{Counts}
+use Rattle.graph.specs.Answers.{counted, checked}
+use Rattle.graph.specs.declared.Checked.TheVariants as Checked
 
-pub counted-graph : (x : Read Counts) {n h c t : ℕ} → counted x ≡ Checked.Graph n h c t → x ≡ good (record { n = n; h = h; c = c })
+pub counted_graph : (x : Read Counts) {n h c t : ℕ} → counted x ≡ Checked.Graph n h c t → x ≡ good (record { n = n; h = h; c = c })
 unfolding counted
-counted-graph (good a) {n} {h} {c} e =
-    let pn : a .n ≡ n = cc in
-    let ph : a .h ≡ h = cc in
-    let pc : a .c ≡ c = cc in
+counted_graph (good a) {n} {h} {c} e =
+    let pn : a.n ≡ n = cc in
+    let ph : a.h ≡ h = cc in
+    let pc : a.c ≡ c = cc in
     λ i. good (record { n = pn i; h = ph i; c = pc i })
-counted-graph (bad a) e = cc
+counted_graph (bad a) e = cc
 
-pub counted-refused : (x : Read Counts) {f : Fault} → counted x ≡ Checked.Refused f → x ≡ bad f
+pub counted_refused : (x : Read Counts) {f : Fault} → counted x ≡ Checked.Refused f → x ≡ bad f
 unfolding counted
-counted-refused (good a) e = cc
-counted-refused (bad a) e = cc
+counted_refused (good a) e = cc
+counted_refused (bad a) e = cc
 
-pub checked-refused : (x : Read Graph) {f : Fault} → checked x ≡ Checked.Refused f → x ≡ bad f
+pub checked_refused : (x : Read Graph) {f : Fault} → checked x ≡ Checked.Refused f → x ≡ bad f
 unfolding checked
-checked-refused (good g) e = cc
-checked-refused (bad a) e = cc
+checked_refused (good g) e = cc
+checked_refused (bad a) e = cc

@@ -1,88 +1,88 @@
 -- The header, the hyperedges, the cover edges and nothing behind them are the whole reading of a graph message, and the other way round.
 -- Assumes nothing.
-use Prim.Native.Nat.{ℕ, _+_, _*_, _≤_}
+use Prim.Native.Nat.{ℕ, ◌+◌, ◌*◌, ◌≤◌}
 use mathlib.Core.List.{List}
-use mathlib.Core.Path.{_≡_, refl, sym, ap, ap₂, subst, _∙_}
+use mathlib.Core.Path.{◌≡◌, refl, sym, ap, ap₂, subst, ◌∙◌}
 use lib.ListN.{length}
 use borrow.Author.Tests.{eq-eqb}
 use native.Mathlib.Omega.{arith}
-use Rattle·wire.specs.Read.{good}
-use Rattle·wire.specs.Reader.{readAll, past, run}
-use Rattle·wire.specs.Step.{start}
-use Rattle·wire.specs.Layout.{items, end}
-use Rattle·wire.specs.declared.State.{State}
-use Rattle·wire.proofs.Fields.{value-inside}
-use Rattle·wire.proofs.Readers.{run-good, run-keeps, all-length, past-wide}
-use Rattle·wire.proofs.Layouts.{reads-all, items-length}
-use Rattle·wire.proofs.Exact.{good-bind, good-demand}
-use Rattle·graph·specs.specs.Format.{graphHeader, coverWidth}
-use Rattle·graph·specs.specs.Layouts.{hyperLayout, coverLayout, decoded}
-use Rattle·graph·specs.specs.Message.{hypers, covers, readHeader, readGraph}
-use Rattle·graph·proofs.proofs.Good.{header-good, hypers-stay, graph-good}
-use Rattle·graph·proofs.proofs.Accepted.{hypers-read, accepted-holds}
+use Rattle.wire.specs.Read.{good}
+use Rattle.wire.specs.Reader.{read_all, past, run}
+use Rattle.wire.specs.Step.{start}
+use Rattle.wire.specs.Layout.{items, end}
+use Rattle.wire.specs.declared.State.{State}
+use Rattle.wire.proofs.Fields.{value_inside}
+use Rattle.wire.proofs.Readers.{run_good, run_keeps, all_length, past_wide}
+use Rattle.wire.proofs.Layouts.{reads_all, items_length}
+use Rattle.wire.proofs.Exact.{good_bind, good_demand}
+use Rattle.graph.specs.Format.{graph_header, cover_width}
+use Rattle.graph.specs.Layouts.{hyper_layout, cover_layout, decoded}
+use Rattle.graph.specs.Message.{hypers, covers, read_header, read_graph}
+use Rattle.graph.proofs.Good.{header_good, hypers_stay, graph_good}
+use Rattle.graph.proofs.Accepted.{hypers_read, accepted_holds}
 
-module _ (s : List ℕ) {n h c : ℕ} (head : readHeader s ≡ good (record { n = n; h = h; c = c })) where
-  pub header-inside : graphHeader ≤ length s
-  header-inside = omega (arith, value-inside 2 s 12 (header-good s _ head .c-counted .there))
+module _ (s : List ℕ) {n h c : ℕ} (head : read_header s ≡ good (record { n = n; h = h; c = c })) where
+  pub header_inside : graph_header ≤ length s
+  header_inside = omega (arith, value_inside 2 s 12 (header_good s _ head).c_counted.there)
 
-  pub few-nodes : n ≤ 4096
-  few-nodes = header-good s _ head .n-counted .no-more
+  pub few_nodes : n ≤ 4096
+  few_nodes = (header_good s _ head).n_counted.no_more
 
 module _ (s : List ℕ) (n h c : ℕ) where
   -- where the hyperedges end
-  pub middle-is : {past₁ : State} → run (hypers s n) h (start graphHeader) ≡ good past₁ → past₁ .at ≡ end (hyperLayout s n) h graphHeader
-  middle-is e =
-      let r = run-good _ _ _ _ e in
-      ap (λ (st : State). st .at) (sym (r .ends)) ∙ reads-all (hyperLayout s n) (hypers s n) (hypers-read s n) h (start graphHeader) (r .got) (r .there) .end-is
+  pub middle_is : {past₁ : State} → run (hypers s n) h (start graph_header) ≡ good past₁ → past₁.at ≡ end (hyper_layout s n) h graph_header
+  middle_is e =
+      let r = run_good _ _ _ _ e in
+      ap (λ (st : State). st.at) (sym r.ends) ∙ (reads_all (hyper_layout s n) (hypers s n) (hypers_read s n) h (start graph_header) r.got r.there).end_is
 
-  pub middle-inside : graphHeader ≤ length s → {past₁ : State} → run (hypers s n) h (start graphHeader) ≡ good past₁ → past₁ .at ≤ length s
-  middle-inside l e = run-keeps (hypers s n) (λ (st : State). st .at ≤ length s) (λ st next e. hypers-stay s n st next e .0) h (start graphHeader) _ l e
+  pub middle_inside : graph_header ≤ length s → {past₁ : State} → run (hypers s n) h (start graph_header) ≡ good past₁ → past₁.at ≤ length s
+  middle_inside l e = run_keeps (hypers s n) (λ (st : State). st.at ≤ length s) (λ st next e. (hypers_stay s n st next e).0) h (start graph_header) _ l e
 
   -- of a message that is read
-  module _ (read : readGraph s ≡ good (decoded s n h c)) where
-    hypers-there : readAll (hypers s n) h (start graphHeader) ≡ good (items (hyperLayout s n) h graphHeader)
+  module _ (read : read_graph s ≡ good (decoded s n h c)) where
+    hypers_there : read_all (hypers s n) h (start graph_header) ≡ good (items (hyper_layout s n) h graph_header)
     unfolding decoded
-    hypers-there = subst (λ (k : ℕ). readAll (hypers s n) k (start graphHeader) ≡ good (items (hyperLayout s n) h graphHeader)) (items-length (hyperLayout s n) h graphHeader)
-        (graph-good {s = s} {g = decoded s n h c} read .hypers-there)
+    hypers_there = subst (λ (k : ℕ). read_all (hypers s n) k (start graph_header) ≡ good (items (hyper_layout s n) h graph_header)) (items_length (hyper_layout s n) h graph_header)
+        (graph_good {s = s} {g = decoded s n h c} read).hypers_there
 
-    pub hypers-run : run (hypers s n) h (start graphHeader) ≡ good (past (hypers s n) (start graphHeader) (items (hyperLayout s n) h graphHeader))
+    pub hypers_run : run (hypers s n) h (start graph_header) ≡ good (past (hypers s n) (start graph_header) (items (hyper_layout s n) h graph_header))
     unfolding run
-    hypers-run = good-bind _ hypers-there refl
+    hypers_run = good_bind _ hypers_there refl
 
-    covers-there : readAll (covers s n) c (start (end (hyperLayout s n) h graphHeader)) ≡ good (items (coverLayout s n) c (end (hyperLayout s n) h graphHeader))
+    covers_there : read_all (covers s n) c (start (end (hyper_layout s n) h graph_header)) ≡ good (items (cover_layout s n) c (end (hyper_layout s n) h graph_header))
     unfolding decoded
-    covers-there =
-        let middle = end (hyperLayout s n) h graphHeader in
-        let cs = items (coverLayout s n) c middle in
-        subst (λ (k : ℕ). readAll (covers s n) k (start middle) ≡ good cs) (items-length (coverLayout s n) c middle)
-        (subst (λ (m : ℕ). readAll (covers s n) (length cs) (start m) ≡ good cs) (middle-is hypers-run) (graph-good {s = s} {g = decoded s n h c} read .covers-there))
+    covers_there =
+        let middle = end (hyper_layout s n) h graph_header in
+        let cs = items (cover_layout s n) c middle in
+        subst (λ (k : ℕ). read_all (covers s n) k (start middle) ≡ good cs) (items_length (cover_layout s n) c middle)
+        (subst (λ (m : ℕ). read_all (covers s n) (length cs) (start m) ≡ good cs) (middle_is hypers_run) (graph_good {s = s} {g = decoded s n h c} read).covers_there)
 
-    pub covers-run : run (covers s n) c (start (end (hyperLayout s n) h graphHeader))
-        ≡ good (past (covers s n) (start (end (hyperLayout s n) h graphHeader)) (items (coverLayout s n) c (end (hyperLayout s n) h graphHeader)))
+    pub covers_run : run (covers s n) c (start (end (hyper_layout s n) h graph_header))
+        ≡ good (past (covers s n) (start (end (hyper_layout s n) h graph_header)) (items (cover_layout s n) c (end (hyper_layout s n) h graph_header)))
     unfolding run
-    covers-run = good-bind _ covers-there refl
+    covers_run = good_bind _ covers_there refl
 
-    pub whole-length : end (hyperLayout s n) h graphHeader + c * coverWidth ≡ length s
+    pub whole_length : end (hyper_layout s n) h graph_header + c * cover_width ≡ length s
     unfolding decoded
-    whole-length =
-        let st = start (past (hypers s n) (start graphHeader) (items (hyperLayout s n) h graphHeader) .at) in
-        let cs = items (coverLayout s n) c (end (hyperLayout s n) h graphHeader) in
-        let wide = past-wide (covers s n) coverWidth (λ u a. refl) st cs in
-        let ends = graph-good {s = s} {g = decoded s n h c} read .ends in
-        omega (arith, wide, ends, middle-is hypers-run, items-length (coverLayout s n) c (end (hyperLayout s n) h graphHeader))
+    whole_length =
+        let st = start (past (hypers s n) (start graph_header) (items (hyper_layout s n) h graph_header)).at in
+        let cs = items (cover_layout s n) c (end (hyper_layout s n) h graph_header) in
+        let wide = past_wide (covers s n) cover_width (λ u a. refl) st cs in
+        let ends = (graph_good {s = s} {g = decoded s n h c} read).ends in
+        omega (arith, wide, ends, middle_is hypers_run, items_length (cover_layout s n) c (end (hyper_layout s n) h graph_header))
 
   -- a message is read
-  pub whole-reads : readHeader s ≡ good (record { n = n; h = h; c = c }) → {past₁ past₂ : State} {middle : ℕ} → run (hypers s n) h (start graphHeader) ≡ good past₁ → past₁ .at ≡ middle
-      → middle + c * coverWidth ≡ length s → run (covers s n) c (start middle) ≡ good past₂ → readGraph s ≡ good (decoded s n h c)
-  unfolding readGraph
-  whole-reads head {middle = middle} hs at fits cs =
-      let H = run-good _ _ _ _ hs in
-      let C = run-good _ _ _ _ cs in
-      let st = start (past (hypers s n) (start graphHeader) (H .got) .at) in
-      let led : past (hypers s n) (start graphHeader) (H .got) .at ≡ middle = ap (λ (u : State). u .at) (H .ends) ∙ at in
-      let there : readAll (covers s n) c st ≡ good (C .got) = subst (λ (m : ℕ). readAll (covers s n) c (start m) ≡ good (C .got)) (sym led) (C .there) in
-      let count : length (C .got) ≡ c = all-length _ _ _ _ (C .there) in
-      let last : past (covers s n) st (C .got) .at ≡ length s = omega (arith, past-wide (covers s n) coverWidth (λ u a. refl) st (C .got)) in
-      let r : readGraph s ≡ good (record { nodes = n; hypers = H .got; covers = C .got }) =
-      good-bind _ head (good-bind _ (H .there) (good-bind _ there (good-demand _ (eq-eqb _ _ last) refl))) in
-      r ∙ ap good (accepted-holds s _ r .is ∙ ap₂ (decoded s n) (all-length _ _ _ _ (H .there)) count)
+  pub whole_reads : read_header s ≡ good (record { n = n; h = h; c = c }) → {past₁ past₂ : State} {middle : ℕ} → run (hypers s n) h (start graph_header) ≡ good past₁ → past₁.at ≡ middle
+      → middle + c * cover_width ≡ length s → run (covers s n) c (start middle) ≡ good past₂ → read_graph s ≡ good (decoded s n h c)
+  unfolding read_graph
+  whole_reads head {middle = middle} hs at fits cs =
+      let H = run_good _ _ _ _ hs in
+      let C = run_good _ _ _ _ cs in
+      let st = start (past (hypers s n) (start graph_header) H.got).at in
+      let led : (past (hypers s n) (start graph_header) H.got).at ≡ middle = ap (λ (u : State). u.at) H.ends ∙ at in
+      let there : read_all (covers s n) c st ≡ good C.got = subst (λ (m : ℕ). read_all (covers s n) c (start m) ≡ good C.got) (sym led) C.there in
+      let count : length C.got ≡ c = all_length _ _ _ _ C.there in
+      let last : (past (covers s n) st C.got).at ≡ length s = omega (arith, past_wide (covers s n) cover_width (λ u a. refl) st C.got) in
+      let r : read_graph s ≡ good (record { nodes = n; hypers = H.got; covers = C.got }) =
+      good_bind _ head (good_bind _ H.there (good_bind _ there (good_demand _ (eq-eqb _ _ last) refl))) in
+      r ∙ ap good ((accepted_holds s _ r).is ∙ ap₂ (decoded s n) (all_length _ _ _ _ H.there) count)

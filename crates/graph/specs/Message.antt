@@ -1,89 +1,86 @@
 -- The reading of a graph message s: its first fault in the paper's order, with the offset of the field at fault, or the graph.
 -- A state's `at` is a position in s, `prev` the source before, and `seen` the targets so far.
-use Prim.Native.Nat.{ℕ, _+_, _*_}
-use mathlib.Core.List.{List}
-use lib.ListN.{length}
-use lib.Dec.{leb, eqb}
-use Rattle·refusal.specs.declared.Refusal.the-variants.{Length, Limit}
-use Rattle·refusal.specs.Number.{nowhere}
-use Rattle·wire.specs.Read.{Read, good, _>>=_, _>>_, demand, field, named, source}
-use Rattle·wire.specs.Reader.{Reader, readAll, past}
-use Rattle·wire.specs.Start.{readStart}
-use Rattle·wire.specs.Counts.{readCount}
-use Rattle·wire.specs.Step.{start}
-use Rattle·rules.specs.Graph.{Hyper, Cover, Target}
-use Rattle·value.specs.Coded.{boundOf}
-use Rattle·wire.specs.declared.State.{State}
-use Rattle·graph·specs.specs.Format.{graphHeader, graphHead, nodesCount, hypersCount, coversCount, mostTargets, targetCountAt, hyperWidth, nodeAt, targetWidth, coverBoundAt, coverTargetAt, coverWidth}
-use Rattle·graph·specs.specs.Stored.{StoredGraph}
+use Rattle.std.specs.Prelude.{ℕ, ◌+◌, ◌*◌, List, length, leb, eqb}
+use Rattle.refusal.specs.declared.Refusal.TheVariants.{Length, Limit}
+use Rattle.refusal.specs.Number.{nowhere}
+use Rattle.wire.specs.Read.{Read, good, ◌>>=◌, ◌>>◌, demand, field, named, source}
+use Rattle.wire.specs.Reader.{Reader, read_all, past}
+use Rattle.wire.specs.Start.{read_start}
+use Rattle.wire.specs.Counts.{read_count}
+use Rattle.wire.specs.Step.{start}
+use Rattle.rules.specs.Graph.{Hyper, Cover, Target}
+use Rattle.value.specs.Coded.{bound_of}
+use Rattle.wire.specs.declared.State.{State}
+use Rattle.graph.specs.Format.{graph_header, graph_head, nodes_count, hypers_count, covers_count, most_targets, target_count_at, hyper_width, node_at, target_width, cover_bound_at, cover_target_at, cover_width}
+use Rattle.graph.specs.Stored.{StoredGraph}
 
 -- where a hyperedge's targets start
-abbrev pub firstTarget : State → State
-firstTarget st = record { at = st .at + hyperWidth; prev = st .prev; seen = st .seen }
+abbrev pub first_target : State → State
+first_target st = record { at = st.at + hyper_width; prev = st.prev; seen = st.seen }
 
 -- the state past a hyperedge
-abbrev pub afterHyper : State → ℕ → ℕ → State
-afterHyper st source count = record { at = st .at + hyperWidth + count * targetWidth; prev = source; seen = st .seen + count }
+abbrev pub after_hyper : State → ℕ → ℕ → State
+after_hyper st source count = record { at = st.at + hyper_width + count * target_width; prev = source; seen = st.seen + count }
 
 module _ (s : List ℕ) (n : ℕ) where
   -- a target: weight (4) and node (2)
-  unfoldable pub readTarget : State → Read Target
-  readTarget st = do
-    weight ← field 4 s (st .at)
-    node ← named 2 s (st .at + nodeAt) n
+  unfoldable pub read_target : State → Read Target
+  read_target st = do
+    weight ← field 4 s st.at
+    node ← named 2 s (st.at + node_at) n
     good (record { weight = weight; node = node })
 
   -- the targets of a hyperedge, one behind another
   abbrev pub targets : Reader State Target
   targets = record {
-    position = λ st. st .at;
-    read = readTarget;
-    next = λ st t. record { at = st .at + targetWidth; prev = st .prev; seen = st .seen };
+    position = λ st. st.at;
+    read = read_target;
+    next = λ st t. record { at = st.at + target_width; prev = st.prev; seen = st.seen };
   }
 
   -- the targets of a hyperedge: the running total's limit, at the target count, then their bytes fit, then each
-  unfoldable pub readTargets : State → ℕ → ℕ → Read Hyper
-  readTargets st source count = do
-    demand (leb (st .seen + count) mostTargets) Limit (st .at + targetCountAt)
-    demand (leb (st .at + hyperWidth + count * targetWidth) (length s)) Length nowhere
-    ts ← readAll targets count (firstTarget st)
+  unfoldable pub read_targets : State → ℕ → ℕ → Read Hyper
+  read_targets st source count = do
+    demand (leb (st.seen + count) most_targets) Limit (st.at + target_count_at)
+    demand (leb (st.at + hyper_width + count * target_width) (length s)) Length nowhere
+    ts ← read_all targets count (first_target st)
     good (record { source = source; targets = ts })
 
   -- a hyperedge: its fixed bytes fit; source (2), target count (2), and its targets
-  unfoldable pub readHyper : State → Read Hyper
-  readHyper st = do
-    demand (leb (st .at + hyperWidth) (length s)) Length nowhere
-    v ← source s (st .at) n (st .prev)
-    count ← field 2 s (st .at + targetCountAt)
-    readTargets st v count
+  unfoldable pub read_hyper : State → Read Hyper
+  read_hyper st = do
+    demand (leb (st.at + hyper_width) (length s)) Length nowhere
+    v ← source s st.at n st.prev
+    count ← field 2 s (st.at + target_count_at)
+    read_targets st v count
 
   -- the hyperedges; each moves on by its targets, which are added to the total
   abbrev pub hypers : Reader State Hyper
   hypers = record {
-    position = λ st. st .at;
-    read = readHyper;
-    next = λ st h. afterHyper st (h .source) (length (h .targets));
+    position = λ st. st.at;
+    read = read_hyper;
+    next = λ st h. after_hyper st h.source (length h.targets);
   }
 
   -- the state past the targets of a hyperedge
-  abbrev pub afterTargets : State → ℕ → ℕ → Read State
-  afterTargets st source count = readTargets st source count >>= λ h. good (hypers .next st h)
+  abbrev pub after_targets : State → ℕ → ℕ → Read State
+  after_targets st source count = read_targets st source count >>= λ h. good (hypers.next st h)
 
   -- a cover edge: its bytes fit; source (2), bound (4), target (2)
-  unfoldable pub readCover : State → Read Cover
-  readCover st = do
-    demand (leb (st .at + coverWidth) (length s)) Length nowhere
-    v ← source s (st .at) n (st .prev)
-    bound ← field 4 s (st .at + coverBoundAt)
-    target ← named 2 s (st .at + coverTargetAt) n
-    good (record { source = v; bound = boundOf bound; target = target })
+  unfoldable pub read_cover : State → Read Cover
+  read_cover st = do
+    demand (leb (st.at + cover_width) (length s)) Length nowhere
+    v ← source s st.at n st.prev
+    bound ← field 4 s (st.at + cover_bound_at)
+    target ← named 2 s (st.at + cover_target_at) n
+    good (record { source = v; bound = bound_of bound; target = target })
 
   -- the cover edges, one behind another
   abbrev pub covers : Reader State Cover
   covers = record {
-    position = λ st. st .at;
-    read = readCover;
-    next = λ st c. record { at = st .at + coverWidth; prev = c .source; seen = st .seen };
+    position = λ st. st.at;
+    read = read_cover;
+    next = λ st c. record { at = st.at + cover_width; prev = c.source; seen = st.seen };
   }
 
 -- the counts of a header
@@ -93,21 +90,21 @@ pub record Counts : Type 0 where
   pub c : ℕ
 
 -- the header: its start, then n, h, c
-unfoldable pub readHeader : List ℕ → Read Counts
-readHeader s = do
-  readStart s graphHead
-  n ← readCount s nodesCount
-  h ← readCount s hypersCount
-  c ← readCount s coversCount
+unfoldable pub read_header : List ℕ → Read Counts
+read_header s = do
+  read_start s graph_head
+  n ← read_count s nodes_count
+  h ← read_count s hypers_count
+  c ← read_count s covers_count
   good (record { n = n; h = h; c = c })
 
 -- a whole message: the header, the hyperedges, the cover edges, and nothing left over
-unfoldable pub readGraph : List ℕ → Read StoredGraph
-readGraph s = do
-  counts ← readHeader s
-  hs ← readAll (hypers s (counts .n)) (counts .h) (start graphHeader)
-  let middle = past (hypers s (counts .n)) (start graphHeader) hs .at
-  cs ← readAll (covers s (counts .n)) (counts .c) (start middle)
-  let end = past (covers s (counts .n)) (start middle) cs .at
+unfoldable pub read_graph : List ℕ → Read StoredGraph
+read_graph s = do
+  counts ← read_header s
+  hs ← read_all (hypers s counts.n) counts.h (start graph_header)
+  let middle = (past (hypers s counts.n) (start graph_header) hs).at
+  cs ← read_all (covers s counts.n) counts.c (start middle)
+  let end = (past (covers s counts.n) (start middle) cs).at
   demand (eqb end (length s)) Length nowhere
-  good (record { nodes = counts .n; hypers = hs; covers = cs })
+  good (record { nodes = counts.n; hypers = hs; covers = cs })

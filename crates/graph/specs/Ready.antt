@@ -1,19 +1,17 @@
 -- What work on an accepted message relies on: the bytes can be scanned, and no value of any round reaches the number that stores infinity.
-use Prim.Native.Nat.{ℕ, _<_, _≤_}
-use mathlib.Core.List.{List}
-use mathlib.Core.Path.{_≡_}
-use Rattle·value.specs.Value.{fin}
-use Rattle·value.specs.Stored.{infinite}
-use Rattle·rules.specs.Graph.{Graph, Closed}
-use Rattle·rules.specs.Rounds.{rounds}
-use Rattle·wire.specs.Bytes.{number}
-use Rattle·wire.specs.Layout.{Layout, end}
-use Rattle·graph·specs.specs.Format.{graphHeader}
-use Rattle·graph·specs.specs.Layouts.{hyperLayout, coverLayout, decoded, Scannable}
+use Rattle.std.specs.Prelude.{ℕ, ◌<◌, ◌≤◌, List, ◌≡◌}
+use Rattle.value.specs.Value.{fin}
+use Rattle.value.specs.Stored.{infinite}
+use Rattle.rules.specs.Graph.{Graph, Closed}
+use Rattle.rules.specs.Rounds.{rounds}
+use Rattle.wire.specs.Bytes.{number}
+use Rattle.wire.specs.Layout.{Layout, end}
+use Rattle.graph.specs.Format.{graph_header}
+use Rattle.graph.specs.Layouts.{hyper_layout, cover_layout, decoded, Scannable}
 
 -- every finite value of every round has a number of its own
 abbrev pub Storable : Graph → Type 0
-Storable g = (i v k : ℕ) → v < g .nodes → rounds g i v ≡ fin k → k < infinite
+Storable g = (i v k : ℕ) → v < g.nodes → rounds g i v ≡ fin k → k < infinite
 
 -- records whose sources never fall, by number
 abbrev pub Climbs : {A : Type 0} → List ℕ → Layout A → (h at : ℕ) → Type 0
@@ -24,5 +22,5 @@ pub record Ready (s : List ℕ) (n h c : ℕ) : Type 0 where
   pub sound : Scannable s n h c
   pub closed : Closed (decoded s n h c)
   pub storable : Storable (decoded s n h c)
-  pub hypers-climb : Climbs s (hyperLayout s n) h graphHeader
-  pub covers-climb : Climbs s (coverLayout s n) c (end (hyperLayout s n) h graphHeader)
+  pub hypers_climb : Climbs s (hyper_layout s n) h graph_header
+  pub covers_climb : Climbs s (cover_layout s n) c (end (hyper_layout s n) h graph_header)

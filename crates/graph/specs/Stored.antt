@@ -1,6 +1,6 @@
 -- What a graph message holds, and the graph of the rules that is taken from it: today the two are the same. Reading, writing and being
 -- well-formed speak of the first; rounds, values, counts and all that is promised of them speak of the second.
-use Rattle·rules.specs.Graph.{Graph}
+use Rattle.rules.specs.Graph.{Graph}
 
 -- what a graph message holds
 abbrev pub StoredGraph : Type 0

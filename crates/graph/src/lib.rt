@@ -1,23 +1,17 @@
 // The check of a graph message: the first fault in the paper's order, or the counts of its header.
-ghost use mathlib.Core.Path.{_≡_};
-ghost use Prim.Native.Nat.{_+_, _*_, _≤_};
-ghost use lib.ListN.{length};
-ghost use Rattle·wire.specs.Reader.{one, run};
-ghost use Rattle·wire.specs.Step.{step};
-ghost use Rattle·wire.specs.Start.{openedOf};
-ghost use Rattle·graph·specs.specs.Message as m;
-ghost use Rattle·graph·specs.specs.Answers as answers;
-ghost use Rattle·graph·specs.specs.Names.{targetNamed, allNamed, pastFours, fourWidth, coversInOrder, coversToEnd};
-ghost use Rattle·graph·specs.specs.Format.{nodesCount, mostTargets, hyperWidth, nodeAt, targetWidth};
-use refusal::Fault;
-use refusal::Refusal;
-use wire::Count;
-use wire::Field;
-use wire::Head;
-use wire::Opened;
-use wire::State;
-use wire::Step;
-use wire::Width;
+#![tactic(auto)]
+
+ghost use Rattle.std.specs.Prelude.{◌≡◌, ◌+◌, ◌*◌, ◌≤◌, length};
+ghost use Rattle.wire.specs.Reader.{one, run};
+ghost use Rattle.wire.specs.Step.{step};
+ghost use Rattle.wire.specs.Start.{opened_of};
+ghost use Rattle.graph.specs.Message as m;
+ghost use Rattle.graph.specs.Answers as answers;
+ghost use Rattle.graph.specs.Names.{target_named, all_named, past_fours, four_width, covers_in_order, covers_to_end};
+ghost use Rattle.graph.specs.Format.{nodes_count, most_targets, hyper_width, node_at, target_width};
+
+use refusal::{Fault, Refusal};
+use wire::{Count, Field, Head, Opened, State, Step, Width};
 
 // The header of a graph message: how long it is, its version and kind, and where its counts stand.
 pub const HEADER: usize = 14;
@@ -82,6 +76,7 @@ pub const COVER_TARGET_AT: usize = COVER_BOUND_AT + 4;
 pub const COVER: usize = COVER_TARGET_AT + 2;
 
 // How many nodes, hyperedges, cover edges and targets of all hyperedges an accepted message has, or its first fault.
+#[derive(Clone, Copy)]
 pub enum Checked {
     Graph(u32, u32, u32, u32),
     Refused(Fault),
@@ -90,7 +85,7 @@ pub enum Checked {
 impl Checked {
     // The number that the paper gives the answer.
     pub fn number(self) -> u8
-        ensures { λ r. ⌜ r ≡ answers.checkedNumber self ⌝ }
+        ensures { result ≡ answers.checked_number self }
     {
         match self {
             Checked::Graph(_, _, _, _) => 0,
@@ -100,7 +95,7 @@ impl Checked {
 
     // Where the field starts that was found wrong, and 0 where none was.
     pub fn offset(self) -> usize
-        ensures { λ r. ⌜ r ≡ answers.checkedOffset self ⌝ }
+        ensures { result ≡ answers.checked_offset self }
     {
         match self {
             Checked::Graph(_, _, _, _) => 0,
@@ -111,8 +106,8 @@ impl Checked {
 
 // One target, whose bytes fit.
 fn target(s: &[u8], n: u32, st: State) -> Step
-    requires { ⌜ st .at + targetWidth ≤ length (now s) ⌝ }
-    ensures { λ r. ⌜ r ≡ step (one (m.targets (now (s .entry)) n) st) ⌝ }
+    requires { st.at + target_width ≤ length s.now }
+    ensures { result ≡ step (one (m.targets s.now n) st) }
 {
     let at = st.at;
     let end = at + TARGET;
@@ -135,8 +130,8 @@ fn target(s: &[u8], n: u32, st: State) -> Step
 // Whether the target here names a node. It is read with the two bytes behind it, for the same reason as in `ordered::next_source`. Here and
 // below no caller sees which fault is told.
 fn named(s: &[u8], n: u32, at: usize) -> bool
-    requires { ⌜ (n ≤ nodesCount .most) × (at + nodeAt + 4 ≤ length (now s)) ⌝ }
-    ensures { λ r. ⌜ r ≡ targetNamed (now (s .entry)) n at ⌝ }
+    requires { (n ≤ nodes_count.most) × (at + node_at + 4 ≤ length s.now) }
+    ensures { result ≡ target_named s.now n at }
 {
     let end = at + NODE_AT + 4;
     let limit = (n as u64) * (wire::TWO_MORE as u64);
@@ -149,8 +144,8 @@ fn named(s: &[u8], n: u32, at: usize) -> bool
 
 // Whether four targets do. The last is read alone, since nothing need stand behind it.
 fn four_named(s: &[u8], n: u32, at: usize) -> bool
-    requires { ⌜ (n ≤ nodesCount .most) × (at + fourWidth ≤ length (now s)) ⌝ }
-    ensures { λ r. ⌜ r ≡ allNamed (now (s .entry)) n 4 at ⌝ }
+    requires { (n ≤ nodes_count.most) × (at + four_width ≤ length s.now) }
+    ensures { result ≡ all_named s.now n 4 at }
 {
     let second = at + TARGET;
     let third = second + TARGET;
@@ -175,8 +170,8 @@ fn four_named(s: &[u8], n: u32, at: usize) -> bool
 // The position behind all fours of targets that fit, if all of these name nodes, and else the first. The place that was reached is not given
 // back: to have it, the compiler would take a read apart.
 fn past_fours(s: &[u8], n: u32, first: usize, end: usize) -> usize
-    requires { ⌜ (n ≤ nodesCount .most) × (first ≤ end) × (end ≤ length (now s)) ⌝ }
-    ensures { λ r. ⌜ r ≡ pastFours (now (s .entry)) n first end ⌝ }
+    requires { (n ≤ nodes_count.most) × (first ≤ end) × (end ≤ length s.now) }
+    ensures { result ≡ past_fours s.now n first end }
 {
     let mut at = first;
     while at + FOUR <= end {
@@ -191,8 +186,8 @@ fn past_fours(s: &[u8], n: u32, first: usize, end: usize) -> usize
 // k targets, whose bytes fit: fours that name nodes are passed, and the rest is taken one by one, which finds the first fault. The loops move
 // the position, so what stands behind them need not wait for their count.
 fn targets(s: &[u8], n: u32, k: u32, first: State) -> Step
-    requires { ⌜ (first .at + k * targetWidth ≤ length (now s)) × (n ≤ nodesCount .most) ⌝ }
-    ensures { λ r. ⌜ r ≡ step (run (m.targets (now (s .entry)) n) k first) ⌝ }
+    requires { (first.at + k * target_width ≤ length s.now) × (n ≤ nodes_count.most) }
+    ensures { result ≡ step (run (m.targets s.now n) k first) }
 {
     let end = first.at + (k as usize) * TARGET;
     let at = past_fours(s, n, first.at, end);
@@ -213,8 +208,8 @@ fn targets(s: &[u8], n: u32, k: u32, first: State) -> Step
 
 // One hyperedge: its fixed bytes fit, then its source, then its count, which has what is left of the limit of all targets.
 fn hyper(s: &[u8], n: u32, st: State) -> Step
-    requires { ⌜ (st .at ≤ length (now s)) × (st .seen ≤ mostTargets) × (st .prev ≤ n) × (n ≤ nodesCount .most) ⌝ }
-    ensures { λ r. ⌜ r ≡ step (one (m.hypers (now (s .entry)) n) st) ⌝ }
+    requires { (st.at ≤ length s.now) × (st.seen ≤ most_targets) × (st.prev ≤ n) × (n ≤ nodes_count.most) }
+    ensures { result ≡ step (one (m.hypers s.now n) st) }
 {
     let at = st.at;
     let end = at + HYPER;
@@ -240,8 +235,8 @@ fn hyper(s: &[u8], n: u32, st: State) -> Step
 
 // The targets of a hyperedge of this source and so many targets, which are not too many.
 fn hyper_targets(s: &[u8], n: u32, st: State, source: u32, count: u32) -> Step
-    requires { ⌜ (st .at + hyperWidth ≤ length (now s)) × (st .seen + count ≤ mostTargets) × (n ≤ nodesCount .most) ⌝ }
-    ensures { λ r. ⌜ r ≡ step (m.afterTargets (now (s .entry)) n st source count) ⌝ }
+    requires { (st.at + hyper_width ≤ length s.now) × (st.seen + count ≤ most_targets) × (n ≤ nodes_count.most) }
+    ensures { result ≡ step (m.after_targets s.now n st source count) }
 {
     let seen = st.seen;
     let first = st.at + HYPER;
@@ -272,8 +267,8 @@ fn hyper_targets(s: &[u8], n: u32, st: State, source: u32, count: u32) -> Step
 
 // k hyperedges.
 fn hypers(s: &[u8], n: u32, k: u32, first: State) -> Step
-    requires { ⌜ (first .at ≤ length (now s)) × (first .seen ≤ mostTargets) × (first .prev ≤ n) × (n ≤ nodesCount .most) ⌝ }
-    ensures { λ r. ⌜ r ≡ step (run (m.hypers (now (s .entry)) n) k first) ⌝ }
+    requires { (first.at ≤ length s.now) × (first.seen ≤ most_targets) × (first.prev ≤ n) × (n ≤ nodes_count.most) }
+    ensures { result ≡ step (run (m.hypers s.now n) k first) }
 {
     let mut st = first;
     let mut i = k;
@@ -290,8 +285,8 @@ fn hypers(s: &[u8], n: u32, k: u32, first: State) -> Step
 
 // One cover edge: its bytes fit, then its source and its target.
 fn cover(s: &[u8], n: u32, st: State) -> Step
-    requires { ⌜ (st .at ≤ length (now s)) × (st .prev ≤ n) ⌝ }
-    ensures { λ r. ⌜ r ≡ step (one (m.covers (now (s .entry)) n) st) ⌝ }
+    requires { (st.at ≤ length s.now) × (st.prev ≤ n) }
+    ensures { result ≡ step (one (m.covers s.now n) st) }
 {
     let at = st.at;
     let end = at + COVER;
@@ -320,8 +315,8 @@ fn cover(s: &[u8], n: u32, st: State) -> Step
 
 // k cover edges.
 fn covers(s: &[u8], n: u32, k: u32, first: State) -> Step
-    requires { ⌜ (first .at ≤ length (now s)) × (first .prev ≤ n) ⌝ }
-    ensures { λ r. ⌜ r ≡ step (run (m.covers (now (s .entry)) n) k first) ⌝ }
+    requires { (first.at ≤ length s.now) × (first.prev ≤ n) }
+    ensures { result ≡ step (run (m.covers s.now n) k first) }
 {
     let mut st = first;
     let mut i = k;
@@ -338,8 +333,8 @@ fn covers(s: &[u8], n: u32, k: u32, first: State) -> Step
 
 // Whether the message ends behind c cover edges that are in order.
 fn covers_in_order(s: &[u8], n: u32, c: u32, first: usize) -> bool
-    requires { ⌜ (n ≤ nodesCount .most) × (first ≤ length (now s)) ⌝ }
-    ensures { λ r. ⌜ r ≡ coversInOrder (now (s .entry)) n c first ⌝ }
+    requires { (n ≤ nodes_count.most) × (first ≤ length s.now) }
+    ensures { result ≡ covers_in_order s.now n c first }
 {
     let end = first + (c as usize) * COVER;
     if s.len() != end {
@@ -350,8 +345,8 @@ fn covers_in_order(s: &[u8], n: u32, c: u32, first: usize) -> bool
 
 // The c cover edges, and nothing left over. They are read one by one only where they are not in order, which finds the first fault.
 fn covers_to_end(s: &[u8], n: u32, c: u32, first: usize) -> Opened
-    requires { ⌜ (n ≤ nodesCount .most) × (first ≤ length (now s)) ⌝ }
-    ensures { λ r. ⌜ r ≡ openedOf (coversToEnd (now (s .entry)) n c first) ⌝ }
+    requires { (n ≤ nodes_count.most) × (first ≤ length s.now) }
+    ensures { result ≡ opened_of (covers_to_end s.now n c first) }
 {
     if covers_in_order(s, n, c, first) {
         return Opened::Open;
@@ -377,7 +372,7 @@ fn covers_to_end(s: &[u8], n: u32, c: u32, first: usize) -> Opened
 
 // The header: its counts, and no target yet.
 pub fn header(s: &[u8]) -> Checked
-    ensures { λ r. ⌜ r ≡ answers.counted (m.readHeader (now (s .entry))) ⌝ }
+    ensures { result ≡ answers.counted (m.read_header s.now) }
 {
     if let Opened::Refused(e) = wire::open(s, HEAD) {
         return Checked::Refused(e);
@@ -399,7 +394,7 @@ pub fn header(s: &[u8]) -> Checked
 
 // A whole graph message: the counts of its header and its targets, or its first fault.
 pub fn check(s: &[u8]) -> Checked
-    ensures { λ r. ⌜ r ≡ answers.checked (m.readGraph (now (s .entry))) ⌝ }
+    ensures { result ≡ answers.checked (m.read_graph s.now) }
 {
     let head = header(s);
     let Checked::Graph(n, h, c, _) = head else {

@@ -1,10 +1,8 @@
 -- What the stored numbers of a room mean.
-use Prim.Native.Nat.{ℕ}
-use mathlib.Core.List.{List}
-use lib.ListN.{getD}
-use Rattle·value.specs.Stored.{meaning}
-use Rattle·rules.specs.Rounds.{Assignment}
+use Rattle.std.specs.Prelude.{ℕ, List, get_or}
+use Rattle.value.specs.Stored.{meaning}
+use Rattle.rules.specs.Rounds.{Assignment}
 
 -- the assignment that stored numbers mean
 abbrev pub held : List ℕ → Assignment
-held room v = meaning (getD room v 0)
+held room v = meaning (get_or room v 0)

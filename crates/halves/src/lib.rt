@@ -1,15 +1,15 @@
 // The lent room of values in two halves: a round in the first n numbers, the next in the n behind them.
-ghost use mathlib.Core.Path.{_≡_};
-ghost use mathlib.Core.Bool.{true, false};
-ghost use Prim.Native.Nat.{ℕ, _+_, _≤_, min};
-ghost use lib.ListN.{length};
-ghost use Rattle·halves·specs.specs.Room.{Cleared, Raised, Alike, Level, Same, Beside};
+#![tactic(auto)]
+
+ghost use Rattle.std.specs.Prelude.{◌≡◌, true, false, ℕ, ◌+◌, ◌≤◌, min, length};
+ghost use Rattle.halves.specs.Room.{Cleared, Raised, Alike, Level, Same, Beside};
+
 use value::Value;
 
 // Sets the first k values to infinity.
 pub fn clear(k: usize, room: &mut [u64])
-    requires { ⌜ k ≤ length (now room) ⌝ }
-    ensures { λ _. ⌜ Cleared k (now (room .entry)) (now (room .exit)) ⌝ }
+    requires { k ≤ length room.old }
+    ensures { Cleared k room.old room.new }
 {
     let mut i = 0;
     while i < k {
@@ -20,8 +20,8 @@ pub fn clear(k: usize, room: &mut [u64])
 
 // Brings the first half up to the second.
 pub fn raise(n: usize, room: &mut [u64])
-    requires { ⌜ n + n ≤ length (now room) ⌝ }
-    ensures { λ _. ⌜ Raised n n (now (room .entry)) (now (room .exit)) ⌝ }
+    requires { n + n ≤ length room.old }
+    ensures { Raised n n room.old room.new }
 {
     let mut i = 0;
     while i < n {
@@ -34,7 +34,7 @@ pub fn raise(n: usize, room: &mut [u64])
 
 // How many of the values left are compared without a stop.
 pub fn block(left: usize) -> usize
-    ensures { λ r. ⌜ r ≡ min left 128 ⌝ }
+    ensures { result ≡ min left 128 }
 {
     if left < 128 {
         return left;
@@ -45,9 +45,9 @@ pub fn block(left: usize) -> usize
 // Whether the k values at a position are the same in both halves; it never stops early, so that several are compared at once, and gathers
 // the bits in which they differ, which a processor does in fewer steps than to gather whether they do.
 pub fn alike(n: usize, at: usize, k: usize, room: &[u64]) -> bool
-    requires { ⌜ at + k ≤ n ⌝ }
-    requires { ⌜ n + n ≤ length (now room) ⌝ }
-    ensures { λ r. ⌜ (r ≡ true → Alike n at k (now (room .entry))) × (r ≡ false → ¬ Alike n at k (now (room .entry))) ⌝ }
+    requires k_bound { at + k ≤ n }
+    requires n_in_bounds { n + n ≤ length room.now }
+    ensures { (result ≡ true → Alike n at k room.now) × (result ≡ false → ¬ Alike n at k room.now) }
 {
     let mut apart: u64 = 0;
     let mut i = 0;
@@ -64,9 +64,9 @@ pub fn alike(n: usize, at: usize, k: usize, room: &[u64]) -> bool
 
 // Whether both halves are the same from a node to before another.
 pub fn between(n: usize, from: usize, to: usize, room: &[u64]) -> bool
-    requires { ⌜ n + n ≤ length (now room) ⌝ }
-    requires { ⌜ to ≤ n ⌝ }
-    ensures { λ r. ⌜ (r ≡ true → Level n from to (now (room .entry))) × (r ≡ false → ¬ Level n from to (now (room .entry))) ⌝ }
+    requires n_in_bounds { n + n ≤ length room.now }
+    requires to_le_n { to ≤ n }
+    ensures { (result ≡ true → Level n from to room.now) × (result ≡ false → ¬ Level n from to room.now) }
 {
     let mut i = from;
     while i < to {
@@ -81,10 +81,10 @@ pub fn between(n: usize, from: usize, to: usize, room: &[u64]) -> bool
 
 // Whether both halves are the same, where they are but for the nodes from lo to before hi.
 pub fn same(n: usize, lo: usize, hi: usize, room: &[u64]) -> bool
-    requires { ⌜ n + n ≤ length (now room) ⌝ }
-    requires { ⌜ hi ≤ n ⌝ }
-    requires { ⌜ Beside n lo hi (now room) ⌝ }
-    ensures { λ r. ⌜ (r ≡ true → Same n (now (room .entry))) × (r ≡ false → ¬ Same n (now (room .entry))) ⌝ }
+    requires n_in_bounds { n + n ≤ length room.now }
+    requires hi_le_n { hi ≤ n }
+    requires beside { Beside n lo hi room.now }
+    ensures { (result ≡ true → Same n room.now) × (result ≡ false → ¬ Same n room.now) }
 {
     between(n, lo, hi, room)
 }

@@ -1,24 +1,22 @@
 -- What is kept of a row that was read: its operands, or its first fault.
-use Prim.Native.Nat.{ℕ}
-use mathlib.Core.List.{List, [], _∷_}
-use Rattle·wire.specs.Read.{Read, good, bad, _>>=_}
-use Rattle·syntax.specs.declared.Row.{Row}
-use Rattle·syntax.specs.declared.Row.the-variants.{True, False, Proposition, Negation, And, Or, Next, Until}
-use Rattle·kinds·specs.specs.declared.Operands.{Operands}
-use Rattle·kinds·specs.specs.declared.Operands.the-variants.{None, One, Both}
-use Rattle·kinds·specs.specs.declared.Judged.{Judged}
-use Rattle·kinds·specs.specs.declared.Judged.the-variants as Judged
+use Rattle.std.specs.Prelude.{ℕ, List, [], ◌∷◌}
+use Rattle.wire.specs.Read.{Read, good, bad, ◌>>=◌}
+use Rattle.syntax.specs.declared.Row.{Row}
+use Rattle.syntax.specs.declared.Row.TheVariants.{True, False, Proposition, Negation, And, Or, Next, Until}
+use Rattle.kinds.specs.declared.Operands.{Operands}
+use Rattle.kinds.specs.declared.Operands.TheVariants.{None, One, Both}
+use Rattle.kinds.specs.declared.Judged.{Judged}
 
 -- the operands of a row, as the check keeps them
-unfoldable pub operandsOf : Row → Operands
-operandsOf True = None
-operandsOf False = None
-operandsOf (Proposition i) = None
-operandsOf (Negation i) = None
-operandsOf (And l r) = Both l r
-operandsOf (Or l r) = Both l r
-operandsOf (Next q k l b) = One l
-operandsOf (Until q l r b) = Both l r
+unfoldable pub operands_of : Row → Operands
+operands_of True = None
+operands_of False = None
+operands_of (Proposition i) = None
+operands_of (Negation i) = None
+operands_of (And l r) = Both l r
+operands_of (Or l r) = Both l r
+operands_of (Next q k l b) = One l
+operands_of (Until q l r b) = Both l r
 
 -- the same as a list
 abbrev pub listed : Operands → List ℕ
@@ -33,4 +31,4 @@ kept (bad e) = Judged.Refused e
 
 -- the operands of a row without fault, or its first fault
 abbrev pub judged : Read Row → Judged
-judged x = kept (x >>= λ row. good (operandsOf row))
+judged x = kept (x >>= λ row. good (operands_of row))

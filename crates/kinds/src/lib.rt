@@ -1,22 +1,19 @@
 // The operands of a row by the kind of its operator, or the first fault of its fields in the paper's order.
-ghost use mathlib.Core.Path.{_≡_};
-ghost use Prim.Native.Nat.{ℕ, _+_, _^_, _<_};
-ghost use mathlib.Core.Bool.{false};
-ghost use Rattle·wire.specs.Read.{bad, below, found, misnamed};
-ghost use Rattle·syntax.specs.Format.{rowWidth};
-ghost use Rattle·syntax.specs.Message as m;
-ghost use Rattle·kinds·specs.specs.Told as spare;
-ghost use Rattle·kinds·specs.specs.Kept.{kept};
-use refusal::Fault;
-use refusal::Refusal;
-use syntax::BOUND_AT;
-use syntax::LEFT_AT;
-use syntax::RIGHT_AT;
-use syntax::ZERO_AT;
-use wire::Field;
-use wire::Width;
+#![tactic(auto)]
+
+ghost use Rattle.std.specs.Prelude.{◌≡◌, ℕ, ◌+◌, ◌^◌, ◌<◌, false};
+ghost use Rattle.wire.specs.Read.{bad, below, found, misnamed};
+ghost use Rattle.syntax.specs.Format.{row_width};
+ghost use Rattle.syntax.specs.Message as m;
+ghost use Rattle.kinds.specs.Told as spare;
+ghost use Rattle.kinds.specs.Kept.{kept};
+
+use refusal::{Fault, Refusal};
+use syntax::{BOUND_AT, LEFT_AT, RIGHT_AT, ZERO_AT};
+use wire::{Field, Width};
 
 // The fields of a row behind its operator.
+#[derive(Clone, Copy)]
 pub struct Fields {
     pub left: u32,
     pub right: u32,
@@ -25,6 +22,7 @@ pub struct Fields {
 }
 
 // The rows that a row has for operands.
+#[derive(Clone, Copy)]
 pub enum Operands {
     None,
     One(u32),
@@ -32,6 +30,7 @@ pub enum Operands {
 }
 
 // The operands of a row without fault, or its first fault.
+#[derive(Clone, Copy)]
 pub enum Judged {
     Fine(Operands),
     Refused(Fault),
@@ -39,7 +38,7 @@ pub enum Judged {
 
 // The fields behind left that an operator doesn't use, and 0 for those that it uses, as it does left.
 pub fn idle(right: u32, zero: u32, bound: u32) -> Fields
-    ensures { λ r. ⌜ r ≡ spare.idle right zero bound ⌝ }
+    ensures { result ≡ spare.idle right zero bound }
 {
     Fields {
         left: 0,
@@ -52,7 +51,7 @@ pub fn idle(right: u32, zero: u32, bound: u32) -> Fields
 // Whether fields are all zero: their bits are gathered, for one test. Of a test for each the compiler made two jumps, and how long a row took
 // hung on where these came to lie.
 fn all_zero(fields: Fields) -> bool
-    ensures { λ r. ⌜ r ≡ spare.allZero fields ⌝ }
+    ensures { result ≡ spare.all_zero fields }
 {
     let front = fields.left | fields.right;
     let back = fields.zero | fields.bound;
@@ -61,7 +60,7 @@ fn all_zero(fields: Fields) -> bool
 
 // Of fields that aren't all zero, where the first stands that isn't.
 fn first_not_zero(fields: Fields) -> usize
-    ensures { λ r. ⌜ (r < rowWidth) × ((offset : ℕ) → spare.allZero fields ≡ false → spare.unused offset fields ≡ bad (m.illFormed (offset + r))) ⌝ }
+    ensures { (result < row_width) × ((offset : ℕ) → spare.all_zero fields ≡ false → spare.unused offset fields ≡ bad (m.ill_formed (offset + result))) }
 {
     if fields.left != 0 {
         return LEFT_AT;
@@ -78,8 +77,8 @@ fn first_not_zero(fields: Fields) -> usize
 // The fields that an operator doesn't use, and 0 for those that it uses, of a row that stands here in its message: they must be zero,
 // or the first that isn't is FORM. They are looked at together first, and one by one only where that shows a fault.
 fn unused(offset: usize, fields: Fields) -> Field
-    requires { ⌜ offset + rowWidth < 2 ^ 64 ⌝ }
-    ensures { λ r. ⌜ r ≡ found (spare.unused offset fields) ⌝ }
+    requires { offset + row_width < 2 ^ 64 }
+    ensures { result ≡ found (spare.unused offset fields) }
 {
     if all_zero(fields) {
         return Field::Number(0);
@@ -93,8 +92,8 @@ fn unused(offset: usize, fields: Fields) -> Field
 
 // A field that names one of so many propositions or earlier rows, or it is NAME.
 fn named(row: &[u8], offset: usize, field: usize, limit: u32) -> Field
-    requires { ⌜ (offset + rowWidth < 2 ^ 64) × (field < rowWidth) ⌝ }
-    ensures { λ r. ⌜ r ≡ found (below 1 (now (row .entry)) field limit (misnamed (offset + field))) ⌝ }
+    requires { (offset + row_width < 2 ^ 64) × (field < row_width) }
+    ensures { result ≡ found (below 1 row.now field limit (misnamed (offset + field))) }
 {
     let name = Fault {
         refusal: Refusal::Name,
@@ -108,8 +107,8 @@ fn named(row: &[u8], offset: usize, field: usize, limit: u32) -> Field
 
 // Left, once the unused fields are zero.
 fn left_name(row: &[u8], offset: usize, limit: u32, idle: Fields) -> Field
-    requires { ⌜ offset + rowWidth < 2 ^ 64 ⌝ }
-    ensures { λ r. ⌜ r ≡ found (spare.leftName (now (row .entry)) offset limit idle) ⌝ }
+    requires { offset + row_width < 2 ^ 64 }
+    ensures { result ≡ found (spare.left_name row.now offset limit idle) }
 {
     let zero = unused(offset, idle);
     let Field::Number(_) = zero else {
@@ -120,8 +119,8 @@ fn left_name(row: &[u8], offset: usize, limit: u32, idle: Fields) -> Field
 
 // True and false name nothing.
 pub fn constant(offset: usize, idle: Fields) -> Judged
-    requires { ⌜ offset + rowWidth < 2 ^ 64 ⌝ }
-    ensures { λ r. ⌜ r ≡ kept (spare.constant offset idle) ⌝ }
+    requires { offset + row_width < 2 ^ 64 }
+    ensures { result ≡ kept (spare.constant offset idle) }
 {
     let zero = unused(offset, idle);
     let Field::Number(_) = zero else {
@@ -132,8 +131,8 @@ pub fn constant(offset: usize, idle: Fields) -> Judged
 
 // A proposition and its negation name it in left.
 pub fn proposition(row: &[u8], offset: usize, p: u32, idle: Fields) -> Judged
-    requires { ⌜ offset + rowWidth < 2 ^ 64 ⌝ }
-    ensures { λ r. ⌜ r ≡ kept (spare.proposition (now (row .entry)) offset p idle) ⌝ }
+    requires { offset + row_width < 2 ^ 64 }
+    ensures { result ≡ kept (spare.proposition row.now offset p idle) }
 {
     let first = left_name(row, offset, p, idle);
     let Field::Number(_) = first else {
@@ -144,8 +143,8 @@ pub fn proposition(row: &[u8], offset: usize, p: u32, idle: Fields) -> Judged
 
 // EX and AX have an operand in left.
 pub fn one_operand(row: &[u8], offset: usize, place: u32, idle: Fields) -> Judged
-    requires { ⌜ offset + rowWidth < 2 ^ 64 ⌝ }
-    ensures { λ r. ⌜ r ≡ kept (spare.oneOperand (now (row .entry)) offset place idle) ⌝ }
+    requires { offset + row_width < 2 ^ 64 }
+    ensures { result ≡ kept (spare.one_operand row.now offset place idle) }
 {
     let first = left_name(row, offset, place, idle);
     let Field::Number(left) = first else {
@@ -156,8 +155,8 @@ pub fn one_operand(row: &[u8], offset: usize, place: u32, idle: Fields) -> Judge
 
 // And, or and the untils have one in right too.
 pub fn both_operands(row: &[u8], offset: usize, place: u32, idle: Fields) -> Judged
-    requires { ⌜ offset + rowWidth < 2 ^ 64 ⌝ }
-    ensures { λ r. ⌜ r ≡ kept (spare.bothOperands (now (row .entry)) offset place idle) ⌝ }
+    requires { offset + row_width < 2 ^ 64 }
+    ensures { result ≡ kept (spare.both_operands row.now offset place idle) }
 {
     let first = left_name(row, offset, place, idle);
     let Field::Number(left) = first else {

@@ -1,30 +1,30 @@
 -- The messages of model M and of the formulas of T13 to T15 read back as themselves, by computation. Assumes nothing.
-use mathlib.Core.List.{List, [], _∷_, map}
-use mathlib.Core.Path.{_≡_, refl}
-use Rattle·lists.specs.Lists.{all, upTo}
-use Rattle·value.specs.Coded.{boundOf}
-use Rattle·wire.specs.Bytes.{number, bytes}
-use Rattle·wire.specs.Field.{fieldAt}
-use Rattle·wire.specs.Read.{good, _>>=_, _>>_, unless, ofField, below, sourceFrom}
-use Rattle·wire.specs.Reader.{readAll}
-use Rattle·wire.specs.Start.{readStart, only}
-use Rattle·wire.specs.Counts.{readCount}
-use Rattle·wire.specs.Write.{writeAll, message}
-use Rattle·model.specs.Message as model
-use Rattle·model.specs.Write.{writeModel, writeBody, writeTransition}
-use Rattle·syntax.specs.declared.Row.{Row}
-use Rattle·syntax.specs.Rows.{rowOf, times, uses, usedOnce}
-use Rattle·syntax.specs.Message as formula
-use Rattle·syntax.specs.Write.{writeFormula, writeRow}
-use Rattle·known·specs.specs.Questions.{M, T13, T14, T15}
+use mathlib.Core.List.{List, [], ◌∷◌, map}
+use mathlib.Core.Path.{◌≡◌, refl}
+use Rattle.lists.specs.Lists.{all, up_to}
+use Rattle.value.specs.Coded.{bound_of}
+use Rattle.wire.specs.Bytes.{number, bytes}
+use Rattle.wire.specs.Field.{field_at}
+use Rattle.wire.specs.Read.{good, ◌>>=◌, ◌>>◌, unless, read_of_field, below, source_from}
+use Rattle.wire.specs.Reader.{read_all}
+use Rattle.wire.specs.Start.{read_start, only}
+use Rattle.wire.specs.Counts.{read_count}
+use Rattle.wire.specs.Write.{write_all, message}
+use Rattle.model.specs.Message as model
+use Rattle.model.specs.Write.{write_model, write_body, write_transition}
+use Rattle.syntax.specs.declared.Row.{Row}
+use Rattle.syntax.specs.Rows.{row_of, times, uses, used_once}
+use Rattle.syntax.specs.Message as formula
+use Rattle.syntax.specs.Write.{write_formula, write_row}
+use Rattle.known.specs.Questions.{M, T13, T14, T15}
 
-pub model-read : model.readModel (writeModel M) ≡ good M
-unfolding number bytes fieldAt _>>=_ _>>_ unless ofField below sourceFrom readAll only readStart readCount writeAll message writeModel writeBody writeTransition model.readModel model.readHeader model.readLabel model.readTransition
-model-read = refl
+pub model_read : model.read_model (write_model M) ≡ good M
+unfolding number bytes field_at ◌>>=◌ ◌>>◌ unless read_of_field below source_from read_all only read_start read_count write_all message write_model write_body write_transition model.read_model model.read_header model.read_label model.read_transition
+model_read = refl
 
 abbrev formulas : List (List Row)
-formulas = T13 .rows ∷ T14 .rows ∷ T15 .rows ∷ []
+formulas = T13.rows ∷ T14.rows ∷ T15.rows ∷ []
 
-pub formulas-read : map (λ (rows : List Row). formula.readFormula 2 (writeFormula rows)) formulas ≡ map (λ (rows : List Row). good rows) formulas
-unfolding number bytes fieldAt _>>=_ _>>_ unless ofField below readAll only readStart readCount writeAll message writeFormula writeRow formula.readFormula formula.readHeader formula.spare formula.operand formula.fieldsFrom formula.rowFrom rowOf times uses usedOnce all upTo boundOf
-formulas-read = refl
+pub formulas_read : map (λ (rows : List Row). formula.read_formula 2 (write_formula rows)) formulas ≡ map (λ (rows : List Row). good rows) formulas
+unfolding number bytes field_at ◌>>=◌ ◌>>◌ unless read_of_field below read_all only read_start read_count write_all message write_formula write_row formula.read_formula formula.read_header formula.spare formula.operand formula.fields_from formula.row_from row_of times uses used_once all up_to bound_of
+formulas_read = refl

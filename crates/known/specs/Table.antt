@@ -1,21 +1,20 @@
 -- The known graphs T1 to T15, those of T13 to T15 built of model M: with a budget, the paper's number, the reported count, the values of
 -- that round, and for a question the verdict on each state.
-use Prim.Native.Nat.{ℕ, suc, zero}
-use mathlib.Core.List.{List, [], _∷_, _++_}
-use Rattle·value.specs.Value.{Value, fin, inf}
-use Rattle·value.specs.declared.Bound.{Bound}
-use Rattle·value.specs.declared.Bound.the-variants.{Within, Unbounded}
-use Rattle·wire.specs.Read.{good}
-use Rattle·rules.specs.Graph.{Hyper, Cover}
-use Rattle·rules.specs.Rounds.{rounds}
-use Rattle·graph.specs.Stored.{StoredGraph, ruled}
-use Rattle·turns.specs.Outcome.{outcomeNumber, outcomeCount, ended}
-use Rattle·reduction.specs.Built.{to, hyper}
-use Rattle·settling.specs.declared.Verdict.{Verdict}
-use Rattle·settling.specs.declared.Verdict.the-variants.{Yes, No}
-use Rattle·questions.specs.Question.{Question, graphFor}
-use Rattle·settling.specs.Answer.{answerVerdict, answerOf}
-use Rattle·known·specs.specs.Questions.{T13, T14, T15}
+use Rattle.std.specs.Prelude.{ℕ, suc, zero, List, [], ◌∷◌, ◌++◌}
+use Rattle.value.specs.Value.{Value, fin, inf}
+use Rattle.value.specs.declared.Bound.{Bound}
+use Rattle.value.specs.declared.Bound.TheVariants.{Within, Unbounded}
+use Rattle.wire.specs.Read.{good}
+use Rattle.rules.specs.Graph.{Hyper, Cover}
+use Rattle.rules.specs.Rounds.{rounds}
+use Rattle.graph.specs.Stored.{StoredGraph, ruled}
+use Rattle.turns.specs.Outcome.{outcome_number, outcome_count, ended}
+use Rattle.reduction.specs.Built.{to, hyper}
+use Rattle.settling.specs.declared.Verdict.{Verdict}
+use Rattle.settling.specs.declared.Verdict.TheVariants.{Yes, No}
+use Rattle.questions.specs.Question.{Question, graph_for}
+use Rattle.settling.specs.Answer.{answer_verdict, answer_of}
+use Rattle.known.specs.Questions.{T13, T14, T15}
 
 -- a cover edge, and a graph
 abbrev pub cover : ℕ → Bound → ℕ → Cover
@@ -25,23 +24,23 @@ abbrev pub graph : ℕ → List Hyper → List Cover → StoredGraph
 graph n hs cs = record { nodes = n; hypers = hs; covers = cs }
 
 -- f of so many numbers, from v on
-abbrev pub eachFrom : {A : Type 0} → ℕ → ℕ → (ℕ → A) → List A
-eachFrom v zero f = []
-eachFrom v (suc left) f = f v ∷ eachFrom (suc v) left f
+abbrev pub each_from : {A : Type 0} → ℕ → ℕ → (ℕ → A) → List A
+each_from v zero f = []
+each_from v (suc left) f = f v ∷ each_from (suc v) left f
 
 -- what is worked on: a graph, or a question
 pub data Subject : Type 0 where
   alone : StoredGraph → Subject
   asked : Question → Subject
 
-abbrev pub graphIn : Subject → StoredGraph
-graphIn (alone g) = g
-graphIn (asked question) = graphFor question
+abbrev pub graph_in : Subject → StoredGraph
+graph_in (alone g) = g
+graph_in (asked question) = graph_for question
 
 -- the verdict on each state of a question
-abbrev pub verdictsIn : Subject → (budget : ℕ) → List Verdict
-verdictsIn (alone g) budget = []
-verdictsIn (asked question) budget = eachFrom 0 (question .model .states) (λ state. answerVerdict (answerOf (good question) state budget))
+abbrev pub verdicts_in : Subject → (budget : ℕ) → List Verdict
+verdicts_in (alone g) budget = []
+verdicts_in (asked question) budget = each_from 0 question.model.states (λ state. answer_verdict (answer_of (good question) state budget))
 
 -- what a budget of rounds gives
 pub record Given : Type 0 where
@@ -59,13 +58,13 @@ pub record Row : Type 0 where
 -- as the definitions have it
 abbrev pub worked : Row → Given
 worked r =
-    let g = ruled (graphIn (r .subject)) in
-    let e = ended g (r .budget) in
+    let g = ruled (graph_in r.subject) in
+    let e = ended g r.budget in
     record {
-      number = outcomeNumber e;
-      count = outcomeCount e;
-      values = eachFrom 0 (g .nodes) (rounds g (outcomeCount e));
-      verdicts = verdictsIn (r .subject) (r .budget);
+      number = outcome_number e;
+      count = outcome_count e;
+      values = each_from 0 g.nodes (rounds g (outcome_count e));
+      verdicts = verdicts_in r.subject r.budget;
     }
 
 -- a row by its parts: of a graph, and of a question

@@ -1,12 +1,14 @@
 // The report of the nightly sheet: numbers, one on a line.
-ghost use mathlib.Core.Path.{_≡_};
-ghost use Prim.Native.Nat.{_≤_};
-ghost use lib.ListN.{length};
-ghost use Rattle·wire.specs.Laid.{Laid};
-ghost use Rattle·lines·specs.specs.Lines.{lines, reportedNumber, reportedLength, reportedOf, reportRoom};
+#![tactic(auto)]
+
+ghost use Rattle.std.specs.Prelude.{◌≡◌, ◌≤◌, length};
+ghost use Rattle.wire.specs.Laid.{Laid};
+ghost use Rattle.lines.specs.Lines.{lines, reported_number, reported_length, reported_of, report_room};
+
 use refusal::Refusal;
 
 // The length of the report, or why it was not written.
+#[derive(Clone, Copy)]
 pub enum Reported {
     Text(usize),
     Refused(Refusal),
@@ -15,7 +17,7 @@ pub enum Reported {
 impl Reported {
     // The number that the paper gives the answer.
     pub fn number(self) -> u8
-        ensures { λ r. ⌜ r ≡ reportedNumber self ⌝ }
+        ensures { result ≡ reported_number self }
     {
         match self {
             Reported::Text(_) => 0,
@@ -25,7 +27,7 @@ impl Reported {
 
     // The returned length.
     pub fn length(self) -> usize
-        ensures { λ r. ⌜ r ≡ reportedLength self ⌝ }
+        ensures { result ≡ reported_length self }
     {
         match self {
             Reported::Text(n) => n,
@@ -34,10 +36,10 @@ impl Reported {
     }
 }
 
-// Stores numbers in decimal at the lines-front of a room, each ended by a line feed; returns the position past them.
+// Stores numbers in decimal at the front of a room, each ended by a line feed; returns the position past them.
 fn put_lines(room: &mut [u8], numbers: &[u64]) -> usize
-    requires { ⌜ length (lines (now numbers)) ≤ length (now room) ⌝ }
-    ensures { λ r. ⌜ Laid (now (room .entry)) 0 (lines (now (numbers .entry))) (now (room .exit)) r ⌝ }
+    requires { length (lines numbers.now) ≤ length room.old }
+    ensures { Laid room.old 0 (lines numbers.now) room.new result }
 {
     let mut at = 0;
     let mut i = 0;
@@ -52,8 +54,8 @@ fn put_lines(room: &mut [u8], numbers: &[u64]) -> usize
 
 // Writes the report of a tally's numbers, where it fits. 15 numbers of at most 20 digits and a line feed fit 315 bytes.
 pub fn report(numbers: &[u64; 15], room: &mut [u8]) -> Reported
-    ensures answer { λ r. ⌜ r ≡ reportedOf (now (numbers .entry)) (now (room .entry)) ⌝ }
-    ensures room { λ _. ⌜ now (room .exit) ≡ reportRoom (now (numbers .entry)) (now (room .entry)) ⌝ }
+    ensures answer { result ≡ reported_of numbers.now room.old }
+    ensures room { room.new ≡ report_room numbers.now room.old }
 {
     let mut text = [0u8; 315];
     let length = put_lines(&mut text, numbers);

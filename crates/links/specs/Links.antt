@@ -1,33 +1,29 @@
 -- Where each node is a target: a place for each target of a hyperedge and for each cover edge, linked for each node.
-use Prim.Native.Nat.{ℕ, _+_, _*_, _/_, _%_, _<_, _≤_}
-use mathlib.Core.List.{List}
-use mathlib.Core.Logic.{_⊎_}
-use mathlib.Core.Path.{_≡_}
-use lib.ListN.{length, getD}
-use Rattle·lists.specs.Lists.{_∈_}
-use Rattle·wire.specs.Bytes.{number}
-use Rattle·wire.specs.Layout.{end}
-use Rattle·rules.specs.Graph.{Target}
-use Rattle·graph.specs.Format.{graphHeader, hyperWidth, targetWidth, coverTargetAt, coverWidth}
-use Rattle·graph.specs.Layouts.{hyperLayout, coverLayout}
+use Rattle.std.specs.Prelude.{ℕ, ◌+◌, ◌*◌, ◌/◌, ◌%◌, ◌<◌, ◌≤◌, List, ◌⊎◌, ◌≡◌, length, get_or}
+use Rattle.lists.specs.Lists.{◌∈◌}
+use Rattle.wire.specs.Bytes.{number}
+use Rattle.wire.specs.Layout.{end}
+use Rattle.rules.specs.Graph.{Target}
+use Rattle.graph.specs.Format.{graph_header, hyper_width, target_width, cover_target_at, cover_width}
+use Rattle.graph.specs.Layouts.{hyper_layout, cover_layout}
 
 -- a graph whose nodes, places and positions can be numbered, in lists that are so long
 pub record Fits (n h c middle most : ℕ) : Type 0 where
   pub nodes : n ≤ most
-  pub positions : middle + c * coverWidth ≤ 65535
-  pub places : middle + c * targetWidth ≤ graphHeader + h * hyperWidth + most * targetWidth
+  pub positions : middle + c * cover_width ≤ 65535
+  pub places : middle + c * target_width ≤ graph_header + h * hyper_width + most * target_width
 
 -- what the number of a place tells: its link, which leads on along the chain
-abbrev pub linkOf : ℕ → ℕ
-linkOf w = w % 65536
+abbrev pub link_of : ℕ → ℕ
+link_of w = w % 65536
 
 -- where its record stands
-abbrev pub spotOf : ℕ → ℕ
-spotOf w = w / 65536 % 65536
+abbrev pub spot_of : ℕ → ℕ
+spot_of w = w / 65536 % 65536
 
 -- and the record's source
-abbrev pub sourceOf : ℕ → ℕ
-sourceOf w = w / 4294967296
+abbrev pub source_of : ℕ → ℕ
+source_of w = w / 4294967296
 
 -- the lists: a head for each node; places, of which a number of 64 bits tells each
 pub record Long (n : ℕ) (heads places : List ℕ) : Type 0 where
@@ -37,52 +33,52 @@ pub record Long (n : ℕ) (heads places : List ℕ) : Type 0 where
 -- place q is on the chain that starts at a head: 0 is none, and k + 1 is place k, whose link leads on
 pub data Reached (places : List ℕ) (q : ℕ) : ℕ → Type 0 where
   here : {head : ℕ} → head ≡ q + 1 → Reached places q head
-  further : {head : ℕ} (place : ℕ) → head ≡ place + 1 → Reached places q (linkOf (getD places place 0)) → Reached places q head
+  further : {head : ℕ} (place : ℕ) → head ≡ place + 1 → Reached places q (link_of (get_or places place 0)) → Reached places q head
 
 -- the chain of a node has a place of the record at a position
 pub record Finds (heads places : List ℕ) (v at : ℕ) : Type 0 where
   pub place : ℕ
-  pub reached : Reached places place (getD heads v 0)
-  pub stands : spotOf (getD places place 0) ≡ at
+  pub reached : Reached places place (get_or heads v 0)
+  pub stands : spot_of (get_or places place 0) ≡ at
 
 -- one of h hyperedges, or of c cover edges at `middle`, stands at a position
 pub data RecordAt (s : List ℕ) (n h c middle at : ℕ) : Type 0 where
-  hyper : (j : ℕ) → j < h → at ≡ end (hyperLayout s n) j graphHeader → RecordAt s n h c middle at
-  cover : (j : ℕ) → j < c → at ≡ end (coverLayout s n) j middle → RecordAt s n h c middle at
+  hyper : (j : ℕ) → j < h → at ≡ end (hyper_layout s n) j graph_header → RecordAt s n h c middle at
+  cover : (j : ℕ) → j < c → at ≡ end (cover_layout s n) j middle → RecordAt s n h c middle at
 
 -- where hyperedge j stands, and its targets; where cover edge j stands, and its target
-abbrev pub hyperAt : List ℕ → (n j : ℕ) → ℕ
-hyperAt s n j = end (hyperLayout s n) j graphHeader
+abbrev pub hyper_at : List ℕ → (n j : ℕ) → ℕ
+hyper_at s n j = end (hyper_layout s n) j graph_header
 
-abbrev pub targetsAt : List ℕ → (n j : ℕ) → List Target
-targetsAt s n j = hyperLayout s n .item (hyperAt s n j) .targets
+abbrev pub targets_at : List ℕ → (n j : ℕ) → List Target
+targets_at s n j = ((hyper_layout s n).item (hyper_at s n j)).targets
 
-abbrev pub coverAt : List ℕ → (n middle j : ℕ) → ℕ
-coverAt s n middle j = end (coverLayout s n) j middle
+abbrev pub cover_at : List ℕ → (n middle j : ℕ) → ℕ
+cover_at s n middle j = end (cover_layout s n) j middle
 
-abbrev pub targetOf : List ℕ → (n middle j : ℕ) → ℕ
-targetOf s n middle j = number 2 s (coverAt s n middle j + coverTargetAt)
+abbrev pub target_of : List ℕ → (n middle j : ℕ) → ℕ
+target_of s n middle j = number 2 s (cover_at s n middle j + cover_target_at)
 
 -- place q tells the source of the record that stands there
 abbrev pub Told : List ℕ → (places : List ℕ) → ℕ → Type 0
-Told s places q = sourceOf (getD places q 0) ≡ number 2 s (spotOf (getD places q 0))
+Told s places q = source_of (get_or places q 0) ≡ number 2 s (spot_of (get_or places q 0))
 
 -- so many places are linked: the targets of h hyperedges, but for those left of the last of them, and c cover edges
 pub record Linked (s : List ℕ) (n middle h : ℕ) (rest : List Target) (c many : ℕ) (heads places : List ℕ) : Type 0 where
   pub long : Long n heads places
-  pub within : (v : ℕ) → getD heads v 0 ≤ many
-  pub falls : (q : ℕ) → linkOf (getD places q 0) ≤ q
-  pub records : (q : ℕ) → q < many → RecordAt s n h c middle (spotOf (getD places q 0))
+  pub within : (v : ℕ) → get_or heads v 0 ≤ many
+  pub falls : (q : ℕ) → link_of (get_or places q 0) ≤ q
+  pub records : (q : ℕ) → q < many → RecordAt s n h c middle (spot_of (get_or places q 0))
   pub told : (q : ℕ) → q < many → Told s places q
-  pub hypers : (j : ℕ) (t : Target) → j < h → t ∈ targetsAt s n j → Finds heads places (t .node) (hyperAt s n j) ⊎ ((j + 1 ≡ h) × (t ∈ rest))
-  pub covers : (j : ℕ) → j < c → Finds heads places (targetOf s n middle j) (coverAt s n middle j)
+  pub hypers : (j : ℕ) (t : Target) → j < h → t ∈ targets_at s n j → Finds heads places t.node (hyper_at s n j) ⊎ ((j + 1 ≡ h) × (t ∈ rest))
+  pub covers : (j : ℕ) → j < c → Finds heads places (target_of s n middle j) (cover_at s n middle j)
 
 -- all are linked: what a chain leads to is a record, and the chain of a node leads to every record that has the node as a target
 pub record Index (s : List ℕ) (n h c middle : ℕ) (heads places : List ℕ) : Type 0 where
   pub long : Long n heads places
-  pub within : (v : ℕ) → getD heads v 0 ≤ length places
-  pub falls : (q : ℕ) → linkOf (getD places q 0) ≤ q
-  pub records : (v q : ℕ) → Reached places q (getD heads v 0) → RecordAt s n h c middle (spotOf (getD places q 0))
-  pub told : (v q : ℕ) → Reached places q (getD heads v 0) → Told s places q
-  pub hypers : (j : ℕ) (t : Target) → j < h → t ∈ targetsAt s n j → Finds heads places (t .node) (hyperAt s n j)
-  pub covers : (j : ℕ) → j < c → Finds heads places (targetOf s n middle j) (coverAt s n middle j)
+  pub within : (v : ℕ) → get_or heads v 0 ≤ length places
+  pub falls : (q : ℕ) → link_of (get_or places q 0) ≤ q
+  pub records : (v q : ℕ) → Reached places q (get_or heads v 0) → RecordAt s n h c middle (spot_of (get_or places q 0))
+  pub told : (v q : ℕ) → Reached places q (get_or heads v 0) → Told s places q
+  pub hypers : (j : ℕ) (t : Target) → j < h → t ∈ targets_at s n j → Finds heads places t.node (hyper_at s n j)
+  pub covers : (j : ℕ) → j < c → Finds heads places (target_of s n middle j) (cover_at s n middle j)

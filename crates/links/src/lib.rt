@@ -1,18 +1,17 @@
 // Where each node is a target, linked: the chain of a node leads to the records that have it as a target. For graphs small enough.
-ghost use mathlib.Core.Path.{_≡_};
-ghost use mathlib.Core.Bool.{true};
-ghost use Prim.Native.Nat.{ℕ, _+_, _*_, _≤_};
-ghost use mathlib.Core.List.{[]};
-ghost use lib.ListN.{length};
-ghost use Rattle·wire.specs.Layout.{items, end, Sound};
-ghost use Rattle·graph.specs.Format.{graphHeader, hyperWidth, targetWidth, coverWidth};
-ghost use Rattle·graph.specs.Layouts.{targetLayout, hyperLayout, coverLayout, Scannable};
-ghost use Rattle·links·specs.specs.Links.{Fits, linkOf, spotOf, sourceOf, Long, Linked, Index};
+#![tactic(auto)]
+
+ghost use Rattle.std.specs.Prelude.{◌≡◌, true, ℕ, ◌+◌, ◌*◌, ◌≤◌, [], length};
+ghost use Rattle.wire.specs.Layout.{items, end, Sound};
+ghost use Rattle.graph.specs.Format.{graph_header, hyper_width, target_width, cover_width};
+ghost use Rattle.graph.specs.Layouts.{target_layout, hyper_layout, cover_layout, Scannable};
+ghost use Rattle.links.specs.Links.{Fits, link_of, spot_of, source_of, Long, Linked, Index};
+
 use wire::Width;
 
 // Whether a graph is small enough for lists of a length: its nodes, its targets and cover edges, and the positions of its records.
 pub fn fit(n: usize, h: u32, c: u32, middle: usize, most: u16) -> bool
-    ensures { λ r. ⌜ (r ≡ true → Fits n h c middle most) ⌝ }
+    ensures { result ≡ true → Fits n h c middle most }
 {
     let places = most as usize;
     if places < n {
@@ -33,29 +32,29 @@ pub fn fit(n: usize, h: u32, c: u32, middle: usize, most: u16) -> bool
 // What is told of a place, in one number of 64 bits: the place before it on the chain, where its record stands, and the record's source. Who
 // follows a chain reads all three at once, and short lists of one kind would fall on one another in the processor's cache.
 fn place_of(link: u16, spot: usize, source: u32) -> u64
-    requires { ⌜ (spot ≤ 65535) × (source ≤ 65535) ⌝ }
-    ensures { λ r. ⌜ (linkOf r ≡ link) × (spotOf r ≡ spot) × (sourceOf r ≡ source) ⌝ }
+    requires { (spot ≤ 65535) × (source ≤ 65535) }
+    ensures { (link_of result ≡ link) × (spot_of result ≡ spot) × (source_of result ≡ source) }
 {
     (source as u64) * 4294967296 + (spot as u64) * 65536 + (link as u64)
 }
 
 // The place before one on its chain.
 pub fn link_of(place: u64) -> usize
-    ensures { λ r. ⌜ r ≡ linkOf place ⌝ }
+    ensures { result ≡ link_of place }
 {
     (place % 65536) as usize
 }
 
 // Where the record of a place stands.
 pub fn spot_of(place: u64) -> usize
-    ensures { λ r. ⌜ r ≡ spotOf place ⌝ }
+    ensures { result ≡ spot_of place }
 {
     (place / 65536 % 65536) as usize
 }
 
 // The source of that record.
 pub fn source_of(place: u64) -> usize
-    ensures { λ r. ⌜ r ≡ sourceOf place ⌝ }
+    ensures { result ≡ source_of place }
 {
     (place / 4294967296) as usize
 }
@@ -71,14 +70,14 @@ fn link(
     heads: &mut [u16],
     places: &mut [u64],
 ) -> usize
-    requires { ⌜ Sound (targetLayout (now s) n) k (p + hyperWidth) ⌝ }
-    requires { ⌜ p + hyperWidth ≤ length (now s) ⌝ }
-    requires { ⌜ Long n (now heads) (now places) ⌝ }
-    requires { ⌜ (p ≤ 65535) × (place + k ≤ length (now places)) ⌝ }
-    ensures { λ r. ⌜ r ≡ place + k ⌝ }
-    ensures { λ _. ⌜ ((middle j : ℕ) → p ≡ end (hyperLayout (now (s .entry)) n) j graphHeader
-        → Linked (now (s .entry)) n middle (j + 1) (items (targetLayout (now (s .entry)) n) k (p + hyperWidth)) 0 place (now (heads .entry)) (now (places .entry))
-        → Linked (now (s .entry)) n middle (j + 1) [] 0 (place + k) (now (heads .exit)) (now (places .exit))) ⌝ }
+    requires sound { Sound (target_layout s.now n) k (p + hyper_width) }
+    requires hyper_width_in_bounds { p + hyper_width ≤ length s.now }
+    requires long { Long n heads.old places.old }
+    requires p_bound { (p ≤ 65535) × (place + k ≤ length places.old) }
+    ensures value { result ≡ place + k }
+    ensures by_index { (middle j : ℕ) → p ≡ end (hyper_layout s.now n) j graph_header
+        → Linked s.now n middle (j + 1) (items (target_layout s.now n) k (p + hyper_width)) 0 place heads.old places.old
+        → Linked s.now n middle (j + 1) [] 0 (place + k) heads.new places.new }
 {
     let source = wire::number_at(s, p, Width::Two);
     let mut q = p + graph::HYPER;
@@ -108,12 +107,12 @@ fn link_hypers(
     heads: &mut [u16],
     places: &mut [u64],
 ) -> usize
-    requires { ⌜ Sound (hyperLayout (now s) n) h graphHeader ⌝ }
-    requires { ⌜ middle ≡ end (hyperLayout (now s) n) h graphHeader ⌝ }
-    requires { ⌜ (middle ≤ 65535) × (middle ≤ graphHeader + h * hyperWidth + length (now places) * targetWidth) ⌝ }
-    requires { ⌜ Linked (now s) n middle 0 [] 0 0 (now heads) (now places) ⌝ }
-    ensures { λ r. ⌜ middle ≡ graphHeader + h * hyperWidth + r * targetWidth ⌝ }
-    ensures { λ r. ⌜ Linked (now (s .entry)) n middle h [] 0 r (now (heads .exit)) (now (places .exit)) ⌝ }
+    requires sound { Sound (hyper_layout s.now n) h graph_header }
+    requires middle_value { middle ≡ end (hyper_layout s.now n) h graph_header }
+    requires middle_bound { (middle ≤ 65535) × (middle ≤ graph_header + h * hyper_width + length places.old * target_width) }
+    requires linked { Linked s.now n middle 0 [] 0 0 heads.old places.old }
+    ensures middle_value_2 { middle ≡ graph_header + h * hyper_width + result * target_width }
+    ensures linked_2 { Linked s.now n middle h [] 0 result heads.new places.new }
 {
     let mut j: u32 = 0;
     let mut p: usize = graph::HEADER;
@@ -139,10 +138,10 @@ fn link_covers(
     heads: &mut [u16],
     places: &mut [u64],
 )
-    requires { ⌜ Sound (coverLayout (now s) n) c middle ⌝ }
-    requires { ⌜ (middle + c * coverWidth ≤ 65535) × (place + c ≤ length (now places)) ⌝ }
-    requires { ⌜ Linked (now s) n middle h [] 0 place (now heads) (now places) ⌝ }
-    ensures { λ _. ⌜ Index (now (s .entry)) n h c middle (now (heads .exit)) (now (places .exit)) ⌝ }
+    requires sound { Sound (cover_layout s.now n) c middle }
+    requires cover_width_bound { (middle + c * cover_width ≤ 65535) × (place + c ≤ length places.old) }
+    requires linked { Linked s.now n middle h [] 0 place heads.old places.old }
+    ensures { Index s.now n h c middle heads.new places.new }
 {
     let mut j: u32 = 0;
     let mut p = middle;
@@ -170,11 +169,11 @@ pub fn link_all(
     heads: &mut [u16],
     places: &mut [u64],
 )
-    requires { ⌜ Scannable (now s) n h c ⌝ }
-    requires { ⌜ middle ≡ end (hyperLayout (now s) n) h graphHeader ⌝ }
-    requires { ⌜ Fits n h c middle (length (now places)) ⌝ }
-    requires { ⌜ Linked (now s) n middle 0 [] 0 0 (now heads) (now places) ⌝ }
-    ensures { λ _. ⌜ Index (now (s .entry)) n h c middle (now (heads .exit)) (now (places .exit)) ⌝ }
+    requires scannable { Scannable s.now n h c }
+    requires middle_value { middle ≡ end (hyper_layout s.now n) h graph_header }
+    requires fits { Fits n h c middle (length places.old) }
+    requires linked { Linked s.now n middle 0 [] 0 0 heads.old places.old }
+    ensures { Index s.now n h c middle heads.new places.new }
 {
     let place = link_hypers(s, n, h, middle, heads, places);
     link_covers(s, n, h, c, middle, place, heads, places);

@@ -1,8 +1,8 @@
 -- Numbers that rise between two ends, one list behind another. Assumes nothing.
-use Prim.Native.Nat.{ℕ, _≤_}
-use native.Mathlib.Nat.{le-refl, le-trans}
-use mathlib.Core.List.{List, [], _∷_, _++_}
-use Rattle·lists·specs.specs.Order.{RisingFrom}
+use Prim.Native.Nat.{ℕ, ◌≤◌}
+use native.Mathlib.Nat.{le_refl, le_trans}
+use mathlib.Core.List.{List, [], ◌∷◌, ◌++◌}
+use Rattle.lists.specs.Order.{RisingFrom}
 
 -- none is below the one before it, the first is not below b, and none is above c
 pub data Between (c : ℕ) : ℕ → List ℕ → Type 0 where
@@ -10,15 +10,15 @@ pub data Between (c : ℕ) : ℕ → List ℕ → Type 0 where
   next : {b v : ℕ} {l : List ℕ} → b ≤ v → Between c v l → Between c b (v ∷ l)
 
 -- from a lower end, to a higher one
-wider : {b b′ c c′ : ℕ} {l : List ℕ} → b′ ≤ b → Between c b l → c ≤ c′ → Between c′ b′ l
-wider p (done h) q = done (le-trans p (le-trans h q))
-wider p (next {v = v} h m) q = next (le-trans p h) (wider (le-refl v) m q)
+wider : {c c' b b' : ℕ} {l : List ℕ} → b' ≤ b → Between c b l → c ≤ c' → Between c' b' l
+wider p (done h) q = done (le_trans p (le_trans h q))
+wider p (next {v = v} h m) q = next (le_trans p h) (wider (le_refl v) m q)
 
-pub between-append : {b b′ c c′ d d′ : ℕ} {l k : List ℕ} → b′ ≤ b → Between c b l → c ≤ c′ → Between d c′ k → d ≤ d′ → Between d′ b′ (l ++ k)
-between-append p (done h) q n r = wider (le-trans p (le-trans h q)) n r
-between-append p (next {v = v} h m) q n r = next (le-trans p h) (between-append (le-refl v) m q n r)
+pub between_append : {c c' d d' b b' : ℕ} {l k : List ℕ} → b' ≤ b → Between c b l → c ≤ c' → Between d c' k → d ≤ d' → Between d' b' (l ++ k)
+between_append p (done h) q n r = wider (le_trans p (le_trans h q)) n r
+between_append p (next {v = v} h m) q n r = next (le_trans p h) (between_append (le_refl v) m q n r)
 
-pub between-rising : {b b′ c : ℕ} {l : List ℕ} → b′ ≤ b → Between c b l → RisingFrom b′ l
+pub between_rising : {c b b' : ℕ} {l : List ℕ} → b' ≤ b → Between c b l → RisingFrom b' l
 unfolding RisingFrom
-between-rising p (done h) = tt
-between-rising p (next {v = v} h m) = (le-trans p h, between-rising (le-refl v) m)
+between_rising p (done h) = tt
+between_rising p (next {v = v} h m) = (le_trans p h, between_rising (le_refl v) m)

@@ -1,12 +1,11 @@
 -- Tests over the elements of a list, the numbers below a bound, and the first number that passes a test.
-use Prim.Native.Nat.{ℕ, suc, zero}
-use mathlib.Core.Bool.{Bool, true, false, _&&_, _||_}
-use mathlib.Core.List.{List, [], _∷_, List·Memᴰ}
+use Rattle.std.specs.Prelude.{ℕ, suc, zero, Bool, true, false, ◌&&◌, ◌||◌}
+use mathlib.Core.List.{List, [], ◌∷◌, Memᴰ}
 
-infix 40 _∈_
+infix 40 ◌∈◌
 -- the element stands in the list
-abbrev pub _∈_ : {A : Type 0} → A → List A → Type 0
-a ∈ l = List·Memᴰ a l
+abbrev pub ◌∈◌ : {A : Type 0} → A → List A → Type 0
+a ∈ l = Memᴰ a l
 
 -- the test passes at some element
 unfoldable pub any : {A : Type 0} → (A → Bool) → List A → Bool
@@ -19,11 +18,11 @@ all p [] = true
 all p (a ∷ l) = p a && all p l
 
 -- the numbers below n
-unfoldable pub upTo : ℕ → List ℕ
-upTo zero = []
-upTo (suc n) = n ∷ upTo n
+unfoldable pub up_to : ℕ → List ℕ
+up_to zero = []
+up_to (suc n) = n ∷ up_to n
 
 -- the first number from i on that passes the test, looked for among so many; past those, the number after them
-unfoldable pub firstFrom : (ℕ → Bool) → ℕ → ℕ → ℕ
-firstFrom p zero i = i
-firstFrom p (suc left) i = elim (p i) [ true ↦ i | false ↦ firstFrom p left (suc i) ]
+unfoldable pub first_from : (ℕ → Bool) → ℕ → ℕ → ℕ
+first_from p zero i = i
+first_from p (suc left) i = elim (p i) [ true ↦ i | false ↦ first_from p left (suc i) ]

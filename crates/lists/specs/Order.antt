@@ -1,6 +1,5 @@
 -- Lists of numbers that never fall.
-use Prim.Native.Nat.{ℕ, _≤_}
-use mathlib.Core.List.{List, [], _∷_}
+use Rattle.std.specs.Prelude.{ℕ, ◌≤◌, List, [], ◌∷◌}
 
 -- none is below the one before it, and the first is not below k
 unfoldable pub RisingFrom : ℕ → List ℕ → Type 0

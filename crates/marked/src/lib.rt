@@ -1,23 +1,22 @@
 // Rounds on a graph of any size: a round takes in the records between those that the changed nodes mark.
-ghost use mathlib.Core.Path.{_≡_};
-ghost use mathlib.Core.Bool.{true, false};
-ghost use Prim.Native.Nat.{_+_, _-_, _≤_};
-ghost use lib.ListN.{length};
-ghost use Rattle·wire.specs.Layout.{end};
-ghost use Rattle·graph.specs.Format.{graphHeader};
-ghost use Rattle·graph.specs.Layouts.{hyperLayout, decoded};
-ghost use Rattle·graph.specs.Ready.{Ready};
-ghost use Rattle·halves.specs.Room.{Same};
-ghost use Rattle·notes.specs.Index.{Besides};
-ghost use Rattle·marked·specs.specs.Took.{within, either, spreadOf, Stands, Took};
-ghost use Rattle·turns.specs.Turns.{AtRound};
-ghost use Rattle·turns.specs.Outcome.{outcomeCount, ended, filled};
-use notes::Marks;
-use notes::Span;
+#![tactic(auto)]
+
+ghost use Rattle.std.specs.Prelude.{◌≡◌, true, false, ◌+◌, ◌-◌, ◌≤◌, length};
+ghost use Rattle.wire.specs.Layout.{end};
+ghost use Rattle.graph.specs.Format.{graph_header};
+ghost use Rattle.graph.specs.Layouts.{hyper_layout, decoded};
+ghost use Rattle.graph.specs.Ready.{Ready};
+ghost use Rattle.halves.specs.Room.{Same};
+ghost use Rattle.notes.specs.Index.{Besides};
+ghost use Rattle.marked.specs.Took.{Within, Either, spread_of, Stands, Took};
+ghost use Rattle.turns.specs.Turns.{AtRound};
+ghost use Rattle.turns.specs.Outcome.{outcome_count, ended, filled};
+
+use notes::{Marks, Span};
 use turns::Outcome;
 
 fn above(a: u32, b: u32) -> u32
-    ensures { λ r. ⌜ r ≡ a - b ⌝ }
+    ensures { result ≡ a - b }
 {
     if a < b {
         return 0;
@@ -27,11 +26,11 @@ fn above(a: u32, b: u32) -> u32
 
 // Takes the records that are marked into the second half from the first.
 fn take_range(s: &[u8], n: usize, h: u32, c: u32, middle: usize, m: Marks, room: &mut [u64]) -> Span
-    requires { ⌜ Ready (now s) n h c ⌝ }
-    requires { ⌜ middle ≡ end (hyperLayout (now s) n) h graphHeader ⌝ }
-    requires { ⌜ n + n ≤ length (now room) ⌝ }
-    requires { ⌜ Stands (now s) n h c m ⌝ }
-    ensures { λ r. ⌜ Took (now (s .entry)) n h c middle (within (m .first) (m .last)) (within (m .low) (m .high)) (now (room .entry)) (now (room .exit)) r ⌝ }
+    requires ready { Ready s.now n h c }
+    requires middle_value { middle ≡ end (hyper_layout s.now n) h graph_header }
+    requires n_in_bounds { n + n ≤ length room.old }
+    requires stands { Stands s.now n h c m }
+    ensures { Took s.now n h c middle (Within m.first m.last) (Within m.low m.high) room.old room.new result }
 {
     let k = above(m.last, m.first);
     let past = scans::next_round(s, n, k, m.at, c, middle, m.low, m.high, room);
@@ -51,7 +50,7 @@ fn take_range(s: &[u8], n: usize, h: u32, c: u32, middle: usize, m: Marks, room:
 
 // Two spans in order, with what is between them as the gap; without a gap where they overlap.
 fn spread(lo: usize, hi: usize, from: usize, to: usize) -> Span
-    ensures { λ r. ⌜ r ≡ spreadOf lo hi from to ⌝ }
+    ensures { result ≡ spread_of lo hi from to }
 {
     if hi <= from {
         return Span {
@@ -80,9 +79,9 @@ fn spread(lo: usize, hi: usize, from: usize, to: usize) -> Span
 
 // Whether both halves are the same, where they are but for two spans.
 fn unchanged(n: usize, span: Span, room: &[u64]) -> bool
-    requires { ⌜ n + n ≤ length (now room) ⌝ }
-    requires { ⌜ Besides n span (now room) ⌝ }
-    ensures { λ r. ⌜ (r ≡ true → Same n (now (room .entry))) × (r ≡ false → ¬ Same n (now (room .entry))) ⌝ }
+    requires n_in_bounds { n + n ≤ length room.now }
+    requires besides { Besides n span room.now }
+    ensures { (result ≡ true → Same n room.now) × (result ≡ false → ¬ Same n room.now) }
 {
     if !halves::between(n, span.lo, span.gap, room) {
         return false;
@@ -101,13 +100,13 @@ fn take_both(
     longs: Marks,
     room: &mut [u64],
 ) -> Span
-    requires { ⌜ Ready (now s) n h c ⌝ }
-    requires { ⌜ middle ≡ end (hyperLayout (now s) n) h graphHeader ⌝ }
-    requires { ⌜ n + n ≤ length (now room) ⌝ }
-    requires { ⌜ Stands (now s) n h c m ⌝ }
-    requires { ⌜ Stands (now s) n h c longs ⌝ }
-    ensures { λ r. ⌜ Took (now (s .entry)) n h c middle (either (within (m .first) (m .last)) (within (longs .first) (longs .last))) (within (m .low) (m .high))
-        (now (room .entry)) (now (room .exit)) r ⌝ }
+    requires ready { Ready s.now n h c }
+    requires middle_value { middle ≡ end (hyper_layout s.now n) h graph_header }
+    requires n_in_bounds { n + n ≤ length room.old }
+    requires stands { Stands s.now n h c m }
+    requires stands_2 { Stands s.now n h c longs }
+    ensures { Took s.now n h c middle (Either (Within m.first m.last) (Within longs.first longs.last)) (Within m.low m.high)
+        room.old room.new result }
 {
     if m.first < longs.last && longs.first < m.last {
         let all = m.more(longs.first, longs.last, longs.at, longs.low, longs.high);
@@ -131,12 +130,12 @@ fn run_noted(
     budget: u32,
     room: &mut [u64],
 ) -> Outcome
-    requires { ⌜ Ready (now s) n h c ⌝ }
-    requires { ⌜ middle ≡ end (hyperLayout (now s) n) h graphHeader ⌝ }
-    requires { ⌜ n + n ≤ length (now room) ⌝ }
-    requires { ⌜ AtRound (decoded (now s) n h c) budget round (now room) (now room) ⌝ }
-    ensures { λ r. ⌜ r ≡ ended (decoded (now (s .entry)) n h c) budget ⌝ }
-    ensures { λ r. ⌜ now (room .exit) ≡ filled (decoded (now (s .entry)) n h c) (outcomeCount r) (now (room .entry)) ⌝ }
+    requires ready { Ready s.now n h c }
+    requires middle_value { middle ≡ end (hyper_layout s.now n) h graph_header }
+    requires n_in_bounds { n + n ≤ length room.old }
+    requires at_round { AtRound (decoded s.now n h c) budget round room.old room.old }
+    ensures value { result ≡ ended (decoded s.now n h c) budget }
+    ensures room_after { room.new ≡ filled (decoded s.now n h c) (outcome_count result) room.old }
 {
     let mut first = [4294967295u32; 512];
     let mut last = [0u32; 512];
@@ -169,7 +168,7 @@ fn run_noted(
 // Whether many nodes changed in the last round: of every eighth node more than one in 64. The next round then takes in most records
 // anyway. The answer decides only how rounds are worked out.
 fn many_changed(n: usize, room: &[u64]) -> bool
-    requires { ⌜ n + n ≤ length (now room) ⌝ }
+    requires { n + n ≤ length room.now }
 {
     let mut many: usize = 0;
     let mut v: usize = 0;
@@ -195,13 +194,13 @@ pub fn run_on(
     budget: u32,
     room: &mut [u64],
 ) -> Outcome
-    requires { ⌜ Ready (now s) n h c ⌝ }
-    requires { ⌜ middle ≡ end (hyperLayout (now s) n) h graphHeader ⌝ }
-    requires { ⌜ n + n ≤ length (now room) ⌝ }
-    requires { ⌜ AtRound (decoded (now s) n h c) budget 1 (now room) (now room) ⌝ }
-    requires { ⌜ ¬ Same n (now room) ⌝ }
-    ensures { λ r. ⌜ r ≡ ended (decoded (now (s .entry)) n h c) budget ⌝ }
-    ensures { λ r. ⌜ now (room .exit) ≡ filled (decoded (now (s .entry)) n h c) (outcomeCount r) (now (room .entry)) ⌝ }
+    requires ready { Ready s.now n h c }
+    requires middle_value { middle ≡ end (hyper_layout s.now n) h graph_header }
+    requires n_in_bounds { n + n ≤ length room.old }
+    requires at_round { AtRound (decoded s.now n h c) budget 1 room.old room.old }
+    requires not_same { ¬ Same n room.old }
+    ensures value { result ≡ ended (decoded s.now n h c) budget }
+    ensures room_after { room.new ≡ filled (decoded s.now n h c) (outcome_count result) room.old }
 {
     let mut round: u32 = 1;
     while many_changed(n, room) {

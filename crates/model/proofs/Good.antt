@@ -1,132 +1,127 @@
 -- What a good reading says: each field is there, each demand is met. Assumes nothing.
-use Prim.Native.Nat.{ℕ, _+_, _*_, _^_, _<_, _≤_}
+use Prim.Native.Nat.{ℕ, ◌+◌, ◌^◌, ◌<◌, ◌≤◌}
 use mathlib.Core.List.{List}
-use mathlib.Core.Bool.{Bool, true, _&&_}
-use mathlib.Core.Path.{_≡_, refl, sym, ap, subst, _∙_}
+use mathlib.Core.Path.{◌≡◌, sym, ap, subst, ◌∙◌}
 use lib.ListN.{length}
-use lib.Dec.{eqb, ltb}
-use borrow.Author.Tests.{ltb-true, leb-true, eqb-true, lt-ltb, le-leb, ne-eqb}
-use native.Mathlib.Omega.{arith}
-use Rattle·lists.proofs.Tests.{by-test, by, and-left, and-right}
-use Rattle·wire.specs.declared.Field.the-variants.{Number}
-use Rattle·wire.specs.declared.State.{State}
-use Rattle·wire.specs.Field.{fieldAt}
-use Rattle·wire.specs.Read.{good}
-use Rattle·wire.specs.Reader.{readAll, one}
-use Rattle·wire.specs.Start.{readStart}
-use Rattle·wire.proofs.Counts.{CountAt, count-good}
-use Rattle·wire.proofs.Fields.{value-inside}
-use Rattle·wire.proofs.Exact.{all-there}
-use Rattle·wire.proofs.Reading.{reading, bind-good, and-good, demand-good, field-good, below-good, source-good, good-same}
-use Rattle·wire.proofs.Readers.{all-length}
-use Rattle·model·specs.specs.Model.{Model, Transition}
-use Rattle·wire.specs.Step.{start}
-use Rattle·model·specs.specs.Format.{modelHeader, modelHead, statesCount, propositionsCount, transitionsCount, labelWidth, weightAt, actionAt, toAt, transitionWidth, labelAt, modelLength}
-use Rattle·model·specs.specs.Message.{readLabel, readTransition, readHeader, readModel, labels, transitions, Counts}
+use borrow.Author.Tests.{eqb-true}
+use Rattle.wire.specs.declared.Field.TheVariants.{Number}
+use Rattle.wire.specs.declared.State.{State}
+use Rattle.wire.specs.Field.{field_at}
+use Rattle.wire.specs.Read.{good}
+use Rattle.wire.specs.Reader.{read_all, one}
+use Rattle.wire.specs.Start.{read_start}
+use Rattle.wire.proofs.Counts.{CountAt, count_good}
+use Rattle.wire.proofs.Exact.{all_there}
+use Rattle.wire.proofs.Reading.{bind_good, and_good, demand_good, field_good, below_good, source_good, good_same}
+use Rattle.wire.proofs.Readers.{all_length}
+use Rattle.model.specs.Model.{Model, Transition}
+use Rattle.wire.specs.Step.{start}
+use Rattle.model.specs.Format.{model_header, model_head, states_count, propositions_count, transitions_count, label_width, weight_at, action_at, to_at, transition_width, label_at, model_length}
+use Rattle.model.specs.Message.{read_label, read_transition, read_header, read_model, labels, transitions, Counts}
 
 module _ (s : List ℕ) where
   -- what a good label says of the bytes
   pub record LabelAt (p : ℕ) (st : State) (l : ℕ) : Type 0 where
-    pub label-there : fieldAt 4 s (st .at) ≡ Number l
-    pub label-fits : l < 2 ^ p
+    pub label_there : field_at 4 s st.at ≡ Number l
+    pub label_fits : l < 2 ^ p
 
-  pub label-good : (p : ℕ) (st : State) (l : ℕ) → readLabel s p st ≡ good l → LabelAt p st l
-  unfolding readLabel
-  label-good p st l e =
-      let g = below-good 4 s (st .at) (2 ^ p) _ e in
-      record { label-there = g .0; label-fits = g .1 }
+  pub label_good : (p : ℕ) (st : State) (l : ℕ) → read_label s p st ≡ good l → LabelAt p st l
+  unfolding read_label
+  label_good p st l e =
+      let g = below_good 4 s st.at (2 ^ p) _ e in
+      record { label_there = g.0; label_fits = g.1 }
 
   -- what a good transition says of the bytes
   pub record TransitionAt (n : ℕ) (st : State) (t : Transition) : Type 0 where
-    pub from-there : fieldAt 2 s (st .at) ≡ Number (t .from)
-    pub weight-there : fieldAt 4 s (st .at + weightAt) ≡ Number (t .weight)
-    pub action-there : fieldAt 2 s (st .at + actionAt) ≡ Number (t .action)
-    pub to-there : fieldAt 2 s (st .at + toAt) ≡ Number (t .to)
-    pub from-named : t .from < n
-    pub ordered : st .prev ≤ t .from
-    pub to-named : t .to < n
+    pub from_there : field_at 2 s st.at ≡ Number t.from
+    pub weight_there : field_at 4 s (st.at + weight_at) ≡ Number t.weight
+    pub action_there : field_at 2 s (st.at + action_at) ≡ Number t.action
+    pub to_there : field_at 2 s (st.at + to_at) ≡ Number t.to
+    pub from_named : t.from < n
+    pub ordered : st.prev ≤ t.from
+    pub to_named : t.to < n
 
-  pub transition-good : (n : ℕ) (st : State) (t : Transition) → readTransition s n st ≡ good t → TransitionAt n st t
-  unfolding readTransition
-  transition-good n st t e =
-      let f = bind-good _ _ e in
-      let from = source-good s (st .at) n (st .prev) (st .at) (f .first) in
-      let w = bind-good _ _ (f .rest) in
-      let k = bind-good _ _ (w .rest) in
-      let v = bind-good _ _ (k .rest) in
-      let to = below-good 2 s (st .at + toAt) n _ (v .first) in
-      let same : record { from = f .value; weight = w .value; action = k .value; to = v .value } ≡ t = good-same (v .rest) in
+  pub transition_good : (n : ℕ) (st : State) (t : Transition) → read_transition s n st ≡ good t → TransitionAt n st t
+  unfolding read_transition
+  transition_good n st t e =
+      let f = bind_good _ _ e in
+      let from = source_good s st.at n st.prev st.at f.first in
+      let w = bind_good _ _ f.rest in
+      let k = bind_good _ _ w.rest in
+      let v = bind_good _ _ k.rest in
+      let to = below_good 2 s (st.at + to_at) n _ v.first in
+      let same : record { from = f.value; weight = w.value; action = k.value; to = v.value } ≡ t = good_same v.rest in
       record {
-        from-there = from .0 ∙ ap (λ (u : Transition). Number (u .from)) same;
-        weight-there = field-good 4 s _ (w .first) ∙ ap (λ (u : Transition). Number (u .weight)) same;
-        action-there = field-good 2 s _ (k .first) ∙ ap (λ (u : Transition). Number (u .action)) same;
-        to-there = to .0 ∙ ap (λ (u : Transition). Number (u .to)) same;
-        from-named = rw (← same) (from .1 .0);
-        ordered = rw (← same) (from .1 .1);
-        to-named = rw (← same) (to .1);
+        from_there = from.0 ∙ ap (λ (u : Transition). Number u.from) same;
+        weight_there = field_good 4 s _ w.first ∙ ap (λ (u : Transition). Number u.weight) same;
+        action_there = field_good 2 s _ k.first ∙ ap (λ (u : Transition). Number u.action) same;
+        to_there = to.0 ∙ ap (λ (u : Transition). Number u.to) same;
+        from_named = rw (← same) from.1.0;
+        ordered = rw (← same) from.1.1;
+        to_named = rw (← same) to.1;
       }
 
   -- the state past a good record is its width on
-  pub labels-move : (p : ℕ) (st next : State) → one (labels s p) st ≡ good next → next .at ≡ st .at + labelWidth
-  labels-move p st next e = ap (λ (u : State). u .at) (sym (good-same (bind-good _ _ e .rest)))
+  pub labels_move : (p : ℕ) (st next : State) → one (labels s p) st ≡ good next → next.at ≡ st.at + label_width
+  labels_move p st next e = ap (λ (u : State). u.at) (sym (good_same (bind_good _ _ e).rest))
 
-  pub transitions-move : (n : ℕ) (st next : State) → one (transitions s n) st ≡ good next → next .at ≡ st .at + transitionWidth
-  transitions-move n st next e = ap (λ (u : State). u .at) (sym (good-same (bind-good _ _ e .rest)))
+  pub transitions_move : (n : ℕ) (st next : State) → one (transitions s n) st ≡ good next → next.at ≡ st.at + transition_width
+  transitions_move n st next e = ap (λ (u : State). u.at) (sym (good_same (bind_good _ _ e).rest))
 
   -- and the state that a good transition leaves exists
-  pub transitions-leave : (n : ℕ) (st next : State) → one (transitions s n) st ≡ good next → next .prev < n
-  transitions-leave n st next e =
-      let t = bind-good _ _ e in
-      let same : t .value .from ≡ next .prev = ap (λ (u : State). u .prev) (good-same (t .rest)) in
-      rw (← same) (transition-good n st (t .value) (t .first) .from-named)
+  pub transitions_leave : (n : ℕ) (st next : State) → one (transitions s n) st ≡ good next → next.prev < n
+  transitions_leave n st next e =
+      let t = bind_good _ _ e in
+      let same : t.value.from ≡ next.prev = ap (λ (u : State). u.prev) (good_same t.rest) in
+      rw (← same) (transition_good n st t.value t.first).from_named
 
 -- what a good header says of the bytes
 pub record HeaderAt (s : List ℕ) (k : Counts) : Type 0 where
-  pub opened : readStart s modelHead ≡ good tt
-  pub states-counted : CountAt s statesCount (k .states)
-  pub propositions-counted : CountAt s propositionsCount (k .propositions)
-  pub transitions-counted : CountAt s transitionsCount (k .transitions)
-  pub long : length s ≡ modelLength (k .states) (k .transitions)
+  pub opened : read_start s model_head ≡ good tt
+  pub states_counted : CountAt s states_count k.states
+  pub propositions_counted : CountAt s propositions_count k.propositions
+  pub transitions_counted : CountAt s transitions_count k.transitions
+  pub long : length s ≡ model_length k.states k.transitions
 
-pub header-good : (s : List ℕ) (k : Counts) → readHeader s ≡ good k → HeaderAt s k
-unfolding readHeader
-header-good s k e =
-    let opened = and-good _ _ e in
-    let n = bind-good _ _ (opened .1) in
-    let p = bind-good _ _ (n .rest) in
-    let t = bind-good _ _ (p .rest) in
-    let long = demand-good _ _ _ (t .rest) in
-    let same : record { states = n .value; propositions = p .value; transitions = t .value } ≡ k = good-same (long .1) in
+pub header_good : (s : List ℕ) (k : Counts) → read_header s ≡ good k → HeaderAt s k
+unfolding read_header
+header_good s k e =
+    let opened = and_good _ _ e in
+    let n = bind_good _ _ opened.1 in
+    let p = bind_good _ _ n.rest in
+    let t = bind_good _ _ p.rest in
+    let long = demand_good _ _ _ t.rest in
+    let same : record { states = n.value; propositions = p.value; transitions = t.value } ≡ k = good_same long.1 in
     subst (HeaderAt s) same
     (record {
-      opened = opened .0;
-      states-counted = count-good _ _ (n .first);
-      propositions-counted = count-good _ _ (p .first);
-      transitions-counted = count-good _ _ (t .first);
-      long = eqb-true _ _ (long .0);
+      opened = opened.0;
+      states_counted = count_good _ _ n.first;
+      propositions_counted = count_good _ _ p.first;
+      transitions_counted = count_good _ _ t.first;
+      long = eqb-true _ _ long.0;
     })
 
 -- the counts of a header
 abbrev pub counts : Model → Counts
-counts M = record { states = M .states; propositions = M .propositions; transitions = length (M .transitions) }
+counts M = record { states = M.states; propositions = M.propositions; transitions = length M.transitions }
 
 -- what a good message says of its parts
 pub record ModelAt (s : List ℕ) (M : Model) : Type 0 where
-  pub header : readHeader s ≡ good (counts M)
-  pub labelled : length (M .labels) ≡ M .states
-  pub labels-there : readAll (labels s (M .propositions)) (M .states) (start modelHeader) ≡ good (M .labels)
-  pub transitions-there : readAll (transitions s (M .states)) (length (M .transitions)) (start (labelAt (M .states))) ≡ good (M .transitions)
+  pub header : read_header s ≡ good (counts M)
+  pub labelled : length M.labels ≡ M.states
+  pub labels_there : read_all (labels s M.propositions) M.states (start model_header) ≡ good M.labels
+  pub transitions_there : read_all (transitions s M.states) (length M.transitions) (start (label_at M.states)) ≡ good M.transitions
 
-pub model-good : {s : List ℕ} {M : Model} → readModel s ≡ good M → ModelAt s M
-unfolding readModel
-model-good {s} e =
-    let k = bind-good _ _ e in
-    let ls = bind-good _ _ (k .rest) in
-    let ts = bind-good _ _ (ls .rest) in
-    let t : k .value .transitions ≡ length (ts .value) = sym (all-length _ _ _ _ (ts .first)) in
-    subst (ModelAt s) (good-same (ts .rest)) (record {
-      header = k .first ∙ λ i. good (record { states = k .value .states; propositions = k .value .propositions; transitions = t i });
-      labelled = all-length _ _ _ _ (ls .first);
-      labels-there = ls .first;
-      transitions-there = all-there _ _ _ _ (ts .first);
+pub model_good : {s : List ℕ} {M : Model} → read_model s ≡ good M → ModelAt s M
+unfolding read_model
+model_good {s} e =
+    let k = bind_good _ _ e in
+    let ls = bind_good _ _ k.rest in
+    let ts = bind_good _ _ ls.rest in
+    let t : k.value.transitions ≡ length ts.value = sym (all_length _ _ _ _ ts.first) in
+    subst (ModelAt s) (good_same ts.rest) (record {
+      header = k.first ∙ λ i. good (record { states = k.value.states; propositions = k.value.propositions; transitions = t i });
+      labelled = all_length _ _ _ _ ls.first;
+      labels_there = ls.first;
+      transitions_there = all_there _ _ _ _ ts.first;
     })

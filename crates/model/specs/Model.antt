@@ -1,9 +1,5 @@
 -- A weighted Kripke structure: states with labels, and transitions between them, with weights and actions.
-use Prim.Native.Nat.{ℕ, _/_, _%_, _^_}
-use mathlib.Core.List.{List}
-use mathlib.Core.Bool.{Bool}
-use lib.ListN.{getD}
-use lib.Dec.{eqb}
+use Rattle.std.specs.Prelude.{ℕ, ◌/◌, ◌%◌, ◌^◌, List, Bool, get_or, eqb}
 
 -- a step from one state to another, with its weight and its action
 pub record Transition : Type 0 where
@@ -25,4 +21,4 @@ bit label i = eqb (label / 2 ^ i % 2) 1
 
 -- proposition i holds in state a: the state's label says so
 abbrev pub holds : Model → ℕ → ℕ → Bool
-holds M i a = bit (getD (M .labels) a 0) i
+holds M i a = bit (get_or M.labels a 0) i

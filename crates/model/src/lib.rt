@@ -1,21 +1,15 @@
 // The check of a model message: the first fault in the paper's order, or the counts of its header.
-ghost use mathlib.Core.Path.{_≡_};
-ghost use Prim.Native.Nat.{ℕ, _+_, _*_, _≤_, _^_};
-ghost use lib.ListN.{length};
-ghost use Rattle·wire.specs.Reader.{one, run};
-ghost use Rattle·wire.specs.Step.{step};
-ghost use Rattle·model·specs.specs.Message as m;
-ghost use Rattle·model·specs.specs.Answers as answers;
-ghost use Rattle·model·specs.specs.Format.{labelWidth, transitionWidth};
-use refusal::Fault;
-use refusal::Refusal;
-use wire::Count;
-use wire::Field;
-use wire::Head;
-use wire::Opened;
-use wire::State;
-use wire::Step;
-use wire::Width;
+#![tactic(auto)]
+
+ghost use Rattle.std.specs.Prelude.{◌≡◌, ℕ, ◌+◌, ◌*◌, ◌≤◌, ◌^◌, length};
+ghost use Rattle.wire.specs.Reader.{one, run};
+ghost use Rattle.wire.specs.Step.{step};
+ghost use Rattle.model.specs.Message as m;
+ghost use Rattle.model.specs.Answers as answers;
+ghost use Rattle.model.specs.Format.{label_width, transition_width};
+
+use refusal::{Fault, Refusal};
+use wire::{Count, Field, Head, Opened, State, Step, Width};
 
 // The header of a model message, and its counts.
 pub const HEADER: usize = 13;
@@ -62,6 +56,7 @@ pub const TO_AT: usize = ACTION_AT + 2;
 pub const TRANSITION: usize = TO_AT + 2;
 
 // How many states, propositions and transitions an accepted message has, or its first fault.
+#[derive(Clone, Copy)]
 pub enum Checked {
     Model(u32, u32, u32),
     Refused(Fault),
@@ -70,7 +65,7 @@ pub enum Checked {
 impl Checked {
     // The number that the paper gives the answer.
     pub fn number(self) -> u8
-        ensures { λ r. ⌜ r ≡ answers.checkedNumber self ⌝ }
+        ensures { result ≡ answers.checked_number self }
     {
         match self {
             Checked::Model(_, _, _) => 0,
@@ -80,7 +75,7 @@ impl Checked {
 
     // Where the field starts that was found wrong, and 0 where none was.
     pub fn offset(self) -> usize
-        ensures { λ r. ⌜ r ≡ answers.checkedOffset self ⌝ }
+        ensures { result ≡ answers.checked_offset self }
     {
         match self {
             Checked::Model(_, _, _) => 0,
@@ -91,8 +86,8 @@ impl Checked {
 
 // The labels of p propositions are below this.
 fn label_limit(p: u32) -> u64
-    requires { ⌜ p ≤ 32 ⌝ }
-    ensures { λ r. ⌜ r ≡ 2 ^ p ⌝ }
+    requires { p ≤ 32 }
+    ensures { result ≡ 2 ^ p }
 {
     let mut limit: u64 = 1;
     let mut i = p;
@@ -105,8 +100,8 @@ fn label_limit(p: u32) -> u64
 
 // One label, whose bytes fit, below the limit.
 fn label(s: &[u8], p: u32, limit: u64, st: State) -> Step
-    requires { ⌜ (st .at + labelWidth ≤ length (now s)) × (limit ≡ 2 ^ p) ⌝ }
-    ensures { λ r. ⌜ r ≡ step (one (m.labels (now (s .entry)) p) st) ⌝ }
+    requires { (st.at + label_width ≤ length s.now) × (limit ≡ 2 ^ p) }
+    ensures { result ≡ step (one (m.labels s.now p) st) }
 {
     let at = st.at;
     let end = at + LABEL;
@@ -127,8 +122,8 @@ fn label(s: &[u8], p: u32, limit: u64, st: State) -> Step
 
 // k labels, whose bytes fit.
 fn labels(s: &[u8], p: u32, k: u32, first: State) -> Step
-    requires { ⌜ (first .at + k * labelWidth ≤ length (now s)) × (p ≤ 32) ⌝ }
-    ensures { λ r. ⌜ r ≡ step (run (m.labels (now (s .entry)) p) k first) ⌝ }
+    requires { (first.at + k * label_width ≤ length s.now) × (p ≤ 32) }
+    ensures { result ≡ step (run (m.labels s.now p) k first) }
 {
     let limit = label_limit(p);
     let mut st = first;
@@ -146,8 +141,8 @@ fn labels(s: &[u8], p: u32, k: u32, first: State) -> Step
 
 // One transition of a model with n states, whose bytes fit.
 fn transition(s: &[u8], n: u32, st: State) -> Step
-    requires { ⌜ (st .at + transitionWidth ≤ length (now s)) × (st .prev ≤ n) ⌝ }
-    ensures { λ r. ⌜ r ≡ step (one (m.transitions (now (s .entry)) n) st) ⌝ }
+    requires { (st.at + transition_width ≤ length s.now) × (st.prev ≤ n) }
+    ensures { result ≡ step (one (m.transitions s.now n) st) }
 {
     let at = st.at;
     let end = at + TRANSITION;
@@ -173,8 +168,8 @@ fn transition(s: &[u8], n: u32, st: State) -> Step
 
 // k transitions, whose bytes fit.
 fn transitions(s: &[u8], n: u32, k: u32, first: State) -> Step
-    requires { ⌜ (first .at + k * transitionWidth ≤ length (now s)) × (first .prev ≤ n) ⌝ }
-    ensures { λ r. ⌜ r ≡ step (run (m.transitions (now (s .entry)) n) k first) ⌝ }
+    requires { (first.at + k * transition_width ≤ length s.now) × (first.prev ≤ n) }
+    ensures { result ≡ step (run (m.transitions s.now n) k first) }
 {
     let mut st = first;
     let mut i = k;
@@ -191,7 +186,7 @@ fn transitions(s: &[u8], n: u32, k: u32, first: State) -> Step
 
 // The header, and that the message is as long as its counts say.
 fn header(s: &[u8]) -> Checked
-    ensures { λ r. ⌜ r ≡ answers.counted (m.readHeader (now (s .entry))) ⌝ }
+    ensures { result ≡ answers.counted (m.read_header s.now) }
 {
     if let Opened::Refused(e) = wire::open(s, HEAD) {
         return Checked::Refused(e);
@@ -218,7 +213,7 @@ fn header(s: &[u8]) -> Checked
 // A whole model message: the counts of its header, or its first fault. Transitions are read one by one only where they are not in order, which
 // finds the first fault.
 pub fn check(s: &[u8]) -> Checked
-    ensures { λ r. ⌜ r ≡ answers.checked (m.readModel (now (s .entry))) ⌝ }
+    ensures { result ≡ answers.checked (m.read_model s.now) }
 {
     let head = header(s);
     let Checked::Model(n, p, t) = head else {

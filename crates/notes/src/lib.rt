@@ -1,17 +1,17 @@
 // Where each node is a target: what a change of a node may reach is noted before, and marked when it changes.
-ghost use mathlib.Core.Path.{_≡_};
-ghost use Prim.Native.Nat.{ℕ, _+_, _<_, _≤_, min, max};
-ghost use mathlib.Core.List.{List, []};
-ghost use lib.ListN.{length};
-ghost use Rattle·wire.specs.Layout.{items, end, Sound};
-ghost use Rattle·graph.specs.Format.{graphHeader, hyperWidth};
-ghost use Rattle·graph.specs.Layouts.{targetLayout, hyperLayout, coverLayout};
-ghost use Rattle·notes·specs.specs.Index.{slotOf, unnoted, longFor, Noted, Longs, NotedCovers, noMarks, moreMarks, Everything, Published, Besides};
+#![tactic(auto)]
+
+ghost use Rattle.std.specs.Prelude.{◌≡◌, ℕ, ◌+◌, ◌<◌, ◌≤◌, min, max, List, [], length};
+ghost use Rattle.wire.specs.Layout.{items, end, Sound};
+ghost use Rattle.graph.specs.Format.{graph_header, hyper_width};
+ghost use Rattle.graph.specs.Layouts.{target_layout, hyper_layout, cover_layout};
+ghost use Rattle.notes.specs.Index.{slot_of, unnoted, long_for, Noted, Longs, NotedCovers, no_marks, more_marks, Everything, Published, Besides};
+
 use wire::Width;
 
 // The slot of a node.
 fn slot(n: usize, v: usize) -> usize
-    ensures { λ r. ⌜ (r ≡ slotOf n v) × (r < 512) ⌝ }
+    ensures { (result ≡ slot_of n v) × (result < 512) }
 {
     if n <= 512 {
         return v % 512;
@@ -30,12 +30,12 @@ fn note(
     last: &mut [u32; 512],
     pos: &mut [usize; 512],
 )
-    requires { ⌜ Sound (targetLayout (now s) n) k (p + hyperWidth) ⌝ }
-    requires { ⌜ p + hyperWidth ≤ length (now s) ⌝ }
-    requires { ⌜ p ≡ end (hyperLayout (now s) n) j graphHeader ⌝ }
-    requires { ⌜ j < unnoted ⌝ }
-    requires { ⌜ Noted (now s) n (j + 1) (items (targetLayout (now s) n) k (p + hyperWidth)) (now first) (now last) (now pos) ⌝ }
-    ensures { λ _. ⌜ Noted (now (s .entry)) n (j + 1) [] (now (first .exit)) (now (last .exit)) (now (pos .exit)) ⌝ }
+    requires sound { Sound (target_layout s.now n) k (p + hyper_width) }
+    requires hyper_width_in_bounds { p + hyper_width ≤ length s.now }
+    requires p_value { p ≡ end (hyper_layout s.now n) j graph_header }
+    requires j_lt_unnoted { j < unnoted }
+    requires noted { Noted s.now n (j + 1) (items (target_layout s.now n) k (p + hyper_width)) first.old last.old pos.old }
+    ensures { Noted s.now n (j + 1) [] first.new last.new pos.new }
 {
     let mut i = k;
     let mut q = p + graph::HYPER;
@@ -54,6 +54,7 @@ fn note(
 }
 
 // The hyperedges that a changed node may reach: from the first, at a position, to before the last. And the cover edges.
+#[derive(Clone, Copy)]
 pub struct Marks {
     pub first: u32,
     pub last: u32,
@@ -65,7 +66,7 @@ pub struct Marks {
 impl Marks {
     // Nothing is reached.
     fn none() -> Self
-        ensures { λ r. ⌜ r ≡ noMarks ⌝ }
+        ensures { result ≡ no_marks }
     {
         Marks {
             first: 4294967295,
@@ -78,7 +79,7 @@ impl Marks {
 
     // What is noted of a slot is reached too.
     pub fn more(self, first: u32, last: u32, at: usize, low: u32, high: u32) -> Self
-        ensures { λ r. ⌜ r ≡ moreMarks self first last at low high ⌝ }
+        ensures { result ≡ more_marks self first last at low high }
     {
         let last = greater(self.last, last);
         let low = lesser(self.low, low);
@@ -104,7 +105,7 @@ impl Marks {
 
 // Whether a hyperedge of so many targets is long: at least half of the nodes are its targets, so that nearly every change reaches it.
 fn is_long(n: usize, count: u32) -> bool
-    ensures { λ r. ⌜ r ≡ longFor n count ⌝ }
+    ensures { result ≡ long_for n count }
 {
     if count < 64 {
         return false;
@@ -122,10 +123,10 @@ pub fn note_hypers(
     last: &mut [u32; 512],
     pos: &mut [usize; 512],
 ) -> Marks
-    requires { ⌜ Sound (hyperLayout (now s) n) h graphHeader ⌝ }
-    requires { ⌜ Noted (now s) n 0 [] (now first) (now last) (now pos) ⌝ }
-    ensures { λ _. ⌜ Noted (now (s .entry)) n h [] (now (first .exit)) (now (last .exit)) (now (pos .exit)) ⌝ }
-    ensures { λ r. ⌜ Longs (now (s .entry)) n h r ⌝ }
+    requires sound { Sound (hyper_layout s.now n) h graph_header }
+    requires noted { Noted s.now n 0 [] first.old last.old pos.old }
+    ensures noted_2 { Noted s.now n h [] first.new last.new pos.new }
+    ensures longs { Longs s.now n h result }
 {
     let mut j: u32 = 0;
     let mut p: usize = graph::HEADER;
@@ -162,9 +163,9 @@ pub fn note_covers(
     first: &mut [u32; 512],
     last: &mut [u32; 512],
 )
-    requires { ⌜ Sound (coverLayout (now s) n) c middle ⌝ }
-    requires { ⌜ NotedCovers (now s) n 0 middle (now first) (now last) ⌝ }
-    ensures { λ _. ⌜ NotedCovers (now (s .entry)) n c middle (now (first .exit)) (now (last .exit)) ⌝ }
+    requires sound { Sound (cover_layout s.now n) c middle }
+    requires noted_covers { NotedCovers s.now n 0 middle first.old last.old }
+    ensures { NotedCovers s.now n c middle first.new last.new }
 {
     let mut j: u32 = 0;
     let mut p = middle;
@@ -192,11 +193,11 @@ fn publish_block(
     marks: Marks,
     room: &mut [u64],
 ) -> Marks
-    requires { ⌜ n + n ≤ length (now room) ⌝ }
-    requires { ⌜ (from ≤ stop) × (stop ≤ n) ⌝ }
-    ensures { λ r. ⌜ ((b₀ : List ℕ) → n + n ≤ length b₀
-        → Published n from (now (first .entry)) (now (last .entry)) (now (pos .entry)) (now (lows .entry)) (now (highs .entry)) b₀ (now (room .entry)) marks
-        → Published n stop (now (first .entry)) (now (last .entry)) (now (pos .entry)) (now (lows .entry)) (now (highs .entry)) b₀ (now (room .exit)) r) ⌝ }
+    requires n_in_bounds { n + n ≤ length room.old }
+    requires from_le_stop { (from ≤ stop) × (stop ≤ n) }
+    ensures { (b₀ : List ℕ) → n + n ≤ length b₀
+        → Published n from first.now last.now pos.now lows.now highs.now b₀ room.old marks
+        → Published n stop first.now last.now pos.now lows.now highs.now b₀ room.new result }
 {
     let mut m = marks;
     let mut v = from;
@@ -216,6 +217,7 @@ fn publish_block(
 }
 
 // Nodes in two spans, one behind the other: from lo to before the gap, and from behind it to before hi.
+#[derive(Clone, Copy)]
 pub struct Span {
     pub lo: usize,
     pub gap: usize,
@@ -236,11 +238,11 @@ fn publish_range(
     marks: Marks,
     room: &mut [u64],
 ) -> Marks
-    requires { ⌜ n + n ≤ length (now room) ⌝ }
-    requires { ⌜ (from ≤ stop) × (stop ≤ n) ⌝ }
-    ensures { λ r. ⌜ ((b₀ : List ℕ) → n + n ≤ length b₀
-        → Published n from (now (first .entry)) (now (last .entry)) (now (pos .entry)) (now (lows .entry)) (now (highs .entry)) b₀ (now (room .entry)) marks
-        → Published n stop (now (first .entry)) (now (last .entry)) (now (pos .entry)) (now (lows .entry)) (now (highs .entry)) b₀ (now (room .exit)) r) ⌝ }
+    requires n_in_bounds { n + n ≤ length room.old }
+    requires from_le_stop { (from ≤ stop) × (stop ≤ n) }
+    ensures { (b₀ : List ℕ) → n + n ≤ length b₀
+        → Published n from first.now last.now pos.now lows.now highs.now b₀ room.old marks
+        → Published n stop first.now last.now pos.now lows.now highs.now b₀ room.new result }
 {
     let mut m = marks;
     let mut v = from;
@@ -266,23 +268,14 @@ fn publish(
     highs: &[u32; 512],
     room: &mut [u64],
 ) -> Marks
-    requires { ⌜ n + n ≤ length (now room) ⌝ }
-    requires { ⌜ Besides n span (now room) ⌝ }
-    ensures { λ r. ⌜ Published n n (now (first .entry)) (now (last .entry)) (now (pos .entry)) (now (lows .entry)) (now (highs .entry))
-        (now (room .entry)) (now (room .exit)) r ⌝ }
+    requires n_in_bounds { n + n ≤ length room.old }
+    requires besides { Besides n span room.old }
+    ensures { Published n n first.now last.now pos.now lows.now highs.now
+        room.old room.new result }
 {
     let none = Marks::none();
     let m = publish_range(
-        n,
-        span.lo,
-        span.gap,
-        first,
-        last,
-        pos,
-        lows,
-        highs,
-        none,
-        room,
+        n, span.lo, span.gap, first, last, pos, lows, highs, none, room,
     );
     publish_range(
         n,
@@ -306,7 +299,7 @@ pub fn mark_all(
     lows: &[u32; 512],
     highs: &[u32; 512],
 ) -> Marks
-    ensures { λ r. ⌜ Everything (now (first .entry)) (now (last .entry)) (now (pos .entry)) (now (lows .entry)) (now (highs .entry)) 512 r ⌝ }
+    ensures { Everything first.now last.now pos.now lows.now highs.now 512 result }
 {
     let mut m = Marks::none();
     let mut u: usize = 0;
@@ -320,8 +313,8 @@ pub fn mark_all(
 // Whether a span has nearly all nodes, and at least half of the first of them changed. Marks that reach more than they need are right too:
 // the answer decides only how they are found.
 fn mostly_changed(n: usize, from: usize, to: usize, room: &[u64]) -> bool
-    requires { ⌜ n + n ≤ length (now room) ⌝ }
-    requires { ⌜ (from ≤ n) × (to ≤ n) ⌝ }
+    requires n_in_bounds { n + n ≤ length room.now }
+    requires from_le_n { (from ≤ n) × (to ≤ n) }
 {
     if to < from + (n - n / 8) {
         return false;
@@ -352,11 +345,11 @@ pub fn advance(
     all: Marks,
     room: &mut [u64],
 ) -> Marks
-    requires { ⌜ n + n ≤ length (now room) ⌝ }
-    requires { ⌜ Besides n span (now room) ⌝ }
-    requires { ⌜ Everything (now first) (now last) (now pos) (now lows) (now highs) 512 all ⌝ }
-    ensures { λ r. ⌜ Published n n (now (first .entry)) (now (last .entry)) (now (pos .entry)) (now (lows .entry)) (now (highs .entry))
-        (now (room .entry)) (now (room .exit)) r ⌝ }
+    requires n_in_bounds { n + n ≤ length room.old }
+    requires besides { Besides n span room.old }
+    requires everything { Everything first.now last.now pos.now lows.now highs.now 512 all }
+    ensures { Published n n first.now last.now pos.now lows.now highs.now
+        room.old room.new result }
 {
     if mostly_changed(n, span.lo, span.gap, room) {
         halves::raise(n, room);
@@ -371,7 +364,7 @@ pub fn advance(
 
 // The lesser and the greater of two numbers, and how much the one is above the other.
 fn lesser(a: u32, b: u32) -> u32
-    ensures { λ r. ⌜ r ≡ min a b ⌝ }
+    ensures { result ≡ min a b }
 {
     if a < b {
         return a;
@@ -380,7 +373,7 @@ fn lesser(a: u32, b: u32) -> u32
 }
 
 fn greater(a: u32, b: u32) -> u32
-    ensures { λ r. ⌜ r ≡ max a b ⌝ }
+    ensures { result ≡ max a b }
 {
     if a < b {
         return b;

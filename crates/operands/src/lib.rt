@@ -1,21 +1,16 @@
 // A row's reading: the rows that it has for operands, or its first fault in the paper's order.
-ghost use mathlib.Core.Path.{_≡_};
-ghost use Prim.Native.Nat.{_+_, _^_, _≤_, _<_};
-ghost use lib.ListN.{length};
-ghost use Rattle·syntax.specs.Format.{rowWidth};
-ghost use Rattle·syntax.specs.Message as m;
-ghost use Rattle·kinds.specs.Told.{Told};
-ghost use Rattle·kinds.specs.Kept.{judged};
-use kinds::Fields;
-use kinds::Judged;
-use refusal::Fault;
-use refusal::Refusal;
-use syntax::BOUND_AT;
-use syntax::LEFT_AT;
-use syntax::RIGHT_AT;
-use syntax::ZERO_AT;
-use wire::Field;
-use wire::Width;
+#![tactic(auto)]
+
+ghost use Rattle.std.specs.Prelude.{◌≡◌, ◌+◌, ◌^◌, ◌≤◌, ◌<◌, length};
+ghost use Rattle.syntax.specs.Format.{row_width};
+ghost use Rattle.syntax.specs.Message as m;
+ghost use Rattle.kinds.specs.Told.{Told};
+ghost use Rattle.kinds.specs.Kept.{judged};
+
+use kinds::{Fields, Judged};
+use refusal::{Fault, Refusal};
+use syntax::{BOUND_AT, LEFT_AT, RIGHT_AT, ZERO_AT};
+use wire::{Field, Width};
 
 // How many operators there are: they are numbered from 0.
 const OPERATORS: u64 = 12;
@@ -23,8 +18,8 @@ const OPERATORS: u64 = 12;
 // A row that stands here in its message: its fields, and what they are by the kind of its operator. All are read before any is judged,
 // so that the compiler can test some of them together.
 pub fn read_row(row: &[u8], offset: usize, p: u32, place: u32) -> Judged
-    requires { ⌜ (offset + rowWidth < 2 ^ 64) × (rowWidth ≤ length (now row)) ⌝ }
-    ensures { λ r. ⌜ r ≡ judged (m.rowFrom (now (row .entry)) 0 offset p place) ⌝ }
+    requires { (offset + row_width < 2 ^ 64) × (row_width ≤ length row.now) }
+    ensures { result ≡ judged (m.row_from row.now 0 offset p place) }
 {
     let unknown = Fault {
         refusal: Refusal::Form,
@@ -61,8 +56,8 @@ pub fn read_row(row: &[u8], offset: usize, p: u32, place: u32) -> Judged
 
 // A row of this operator and these fields, by the kind of the operator, of which each has two. An action, in right, is any number.
 fn read_kind(row: &[u8], offset: usize, p: u32, place: u32, operator: u32, told: Fields) -> Judged
-    requires { ⌜ (offset + rowWidth < 2 ^ 64) × (operator ≤ 11) × Told (now row) told × (told .right < 256) ⌝ }
-    ensures { λ r. ⌜ r ≡ judged (m.fieldsFrom (now (row .entry)) 0 offset p place operator) ⌝ }
+    requires { (offset + row_width < 2 ^ 64) × (operator ≤ 11) × Told row.now told × (told.right < 256) }
+    ensures { result ≡ judged (m.fields_from row.now 0 offset p place operator) }
 {
     let right = told.right;
     let zero = told.zero;

@@ -1,17 +1,17 @@
 // Records that say in their first two bytes where they come from, and in their last two where they lead, tested in order.
-ghost use mathlib.Core.Path.{_≡_};
-ghost use Prim.Native.Nat.{_+_, _*_, _≤_};
-ghost use lib.ListN.{length};
-ghost use Rattle·ordered·specs.specs.Ordered.{recordWidth, inOrder, sourceBehind, lastNamed};
-use wire::Field;
-use wire::Width;
+#![tactic(auto)]
+
+ghost use Rattle.std.specs.Prelude.{◌≡◌, ◌+◌, ◌*◌, ◌≤◌, length};
+ghost use Rattle.ordered.specs.Ordered.{record_width, in_order, source_behind, last_named};
+
+use wire::{Field, Width};
 
 // The source behind the target at a position, unless the target is not below n or the source is below the one before. Both are read as one
 // number of four bytes, which is below n * 65536 exactly when the target is below n: a number of two bytes is swapped by a rotation, which
 // takes a jump's place in the processor, and one of four is not. Here and below no caller sees which fault is told.
 fn next_source(s: &[u8], n: u32, at: usize, before: u32) -> Field
-    requires { ⌜ at + 4 ≤ length (now s) ⌝ }
-    ensures { λ r. ⌜ r ≡ sourceBehind (now (s .entry)) n before at ⌝ }
+    requires { at + 4 ≤ length s.now }
+    ensures { result ≡ source_behind s.now n before at }
 {
     let end = at + 4;
     let limit = (n as u64) * (wire::TWO_MORE as u64);
@@ -28,8 +28,8 @@ fn next_source(s: &[u8], n: u32, at: usize, before: u32) -> Field
 
 // Whether the last of some records, whose source is the greatest, names only what exists.
 fn last_named(s: &[u8], n: u32, target: usize, at: usize, greatest: u32) -> bool
-    requires { ⌜ at + recordWidth target ≤ length (now s) ⌝ }
-    ensures { λ r. ⌜ r ≡ lastNamed (now (s .entry)) n target at greatest ⌝ }
+    requires { at + record_width target ≤ length s.now }
+    ensures { result ≡ last_named s.now n target at greatest }
 {
     if n <= greatest {
         return false;
@@ -47,8 +47,8 @@ fn last_named(s: &[u8], n: u32, target: usize, at: usize, greatest: u32) -> bool
 // its record, and a target the last two, from `target` on. The last source is then the greatest, and only it is compared with n. Two records
 // are passed in a turn: a processor takes few jumps at a time, and so there is one less.
 pub fn in_order(s: &[u8], n: u32, target: usize, k: u32, first: usize) -> bool
-    requires { ⌜ (n ≤ 65535) × (first + k * recordWidth target ≤ length (now s)) ⌝ }
-    ensures { λ r. ⌜ r ≡ inOrder (now (s .entry)) n target k 0 first ⌝ }
+    requires { (n ≤ 65535) × (first + k * record_width target ≤ length s.now) }
+    ensures { result ≡ in_order s.now n target k 0 first }
 {
     if k == 0 {
         return true;

@@ -1,8 +1,6 @@
 -- The lines that the program writes.
-use Prim.Native.Nat.{ℕ, zero, suc}
-use mathlib.Core.List.{List, [], _∷_, _++_}
-use mathlib.Core.Bool.{Bool, true, false}
-use Rattle·decimals.specs.Decimal.{word, decimal, longDecimal}
+use Rattle.std.specs.Prelude.{ℕ, zero, suc, List, [], ◌∷◌, ◌++◌, Bool, true, false}
+use Rattle.decimals.specs.Decimal.{word, decimal, long_decimal}
 
 -- every line is ended by a line feed
 abbrev pub line : List ℕ → List ℕ
@@ -11,20 +9,20 @@ line s = s ++ (10 ∷ [])
 -- where the field at fault starts; nothing where no field is at fault
 unfoldable pub place : (offset : ℕ) → List ℕ
 place zero = []
-place (suc k) = word " at " ++ longDecimal (suc k)
+place (suc k) = word " at " ++ long_decimal (suc k)
 
 -- any refusal writes only `refused`, the number, and the place
-unfoldable pub refusedLine : (number offset : ℕ) → List ℕ
-refusedLine number offset = line (word "refused " ++ decimal number ++ place offset)
+unfoldable pub refused_line : (number offset : ℕ) → List ℕ
+refused_line number offset = line (word "refused " ++ decimal number ++ place offset)
 
 -- the count of rounds
-unfoldable pub roundsLine : ℕ → List ℕ
-roundsLine m = line (word "rounds " ++ decimal m)
+unfoldable pub rounds_line : ℕ → List ℕ
+rounds_line m = line (word "rounds " ++ decimal m)
 
 -- a state, and yes or no
-abbrev pub answerWord : Bool → List ℕ
-answerWord true = word " yes"
-answerWord false = word " no"
+abbrev pub answer_word : Bool → List ℕ
+answer_word true = word " yes"
+answer_word false = word " no"
 
-unfoldable pub stateLine : Bool → ℕ → List ℕ
-stateLine satisfied a = line (decimal a ++ answerWord satisfied)
+unfoldable pub state_line : Bool → ℕ → List ℕ
+state_line satisfied a = line (decimal a ++ answer_word satisfied)

@@ -1,19 +1,19 @@
 // The pieces of the program's output, line by line, and where the model ends in its input.
-ghost use mathlib.Core.Path.{_≡_};
-ghost use Prim.Native.Nat.{_+_, _≤_};
-ghost use mathlib.Core.List.{_++_};
-ghost use lib.ListN.{length};
-ghost use Rattle·decimals.specs.Decimal.{decimal};
-ghost use Rattle·wire.specs.Laid.{Laid};
-ghost use Rattle·syntax.specs.Message.{readFormula};
-ghost use Rattle·pieces·specs.specs.Lines.{line, place, refusedLine, roundsLine, stateLine};
-ghost use Rattle·pieces·specs.specs.Cut.{readCut};
-ghost use Rattle·pieces·specs.specs.Pieces.{cutOf, statesLines, textIn, endedLines};
+#![tactic(auto)]
+
+ghost use Rattle.std.specs.Prelude.{◌≡◌, ◌+◌, ◌≤◌, ◌++◌, length};
+ghost use Rattle.decimals.specs.Decimal.{decimal};
+ghost use Rattle.wire.specs.Laid.{Laid};
+ghost use Rattle.syntax.specs.Message.{read_formula};
+ghost use Rattle.pieces.specs.Lines.{line, place, refused_line, rounds_line, state_line};
+ghost use Rattle.pieces.specs.Cut.{read_cut};
+ghost use Rattle.pieces.specs.Pieces.{cut_of, states_lines, text_in, ended_lines};
+
 use refusal::Fault;
-use wire::Field;
-use wire::Width;
+use wire::{Field, Width};
 
 // Where the model ends, or why there is none.
+#[derive(Clone, Copy)]
 pub enum Cut {
     At(usize),
     Refused(Fault),
@@ -21,8 +21,8 @@ pub enum Cut {
 
 // A line of a word and a number.
 fn put_line(out: &mut [u8], at: usize, word: &[u8], n: u32) -> usize
-    requires { ⌜ at + length (line (now word ++ decimal n)) ≤ length (now out) ⌝ }
-    ensures { λ r. ⌜ Laid (now (out .entry)) at (line (now (word .entry) ++ decimal n)) (now (out .exit)) r ⌝ }
+    requires { at + length (line (word.now ++ decimal n)) ≤ length out.old }
+    ensures { Laid out.old at (line (word.now ++ decimal n)) out.new result }
 {
     let end = decimals::put_number(out, at, word, n);
     decimals::put_word(out, end, b"\n")
@@ -30,8 +30,8 @@ fn put_line(out: &mut [u8], at: usize, word: &[u8], n: u32) -> usize
 
 // Where the field at fault starts, if one is at fault.
 fn put_place(out: &mut [u8], at: usize, offset: usize) -> usize
-    requires { ⌜ at + length (place offset) ≤ length (now out) ⌝ }
-    ensures { λ r. ⌜ Laid (now (out .entry)) at (place offset) (now (out .exit)) r ⌝ }
+    requires { at + length (place offset) ≤ length out.old }
+    ensures { Laid out.old at (place offset) out.new result }
 {
     if offset == 0 {
         return at;
@@ -42,8 +42,8 @@ fn put_place(out: &mut [u8], at: usize, offset: usize) -> usize
 
 // A refusal's line.
 pub fn put_refused(out: &mut [u8], number: u8, offset: usize) -> usize
-    requires { ⌜ length (refusedLine number offset) ≤ length (now out) ⌝ }
-    ensures { λ r. ⌜ Laid (now (out .entry)) 0 (refusedLine number offset) (now (out .exit)) r ⌝ }
+    requires { length (refused_line number offset) ≤ length out.old }
+    ensures { Laid out.old 0 (refused_line number offset) out.new result }
 {
     let end = decimals::put_number(out, 0, b"refused ", number as u32);
     let last = put_place(out, end, offset);
@@ -52,16 +52,16 @@ pub fn put_refused(out: &mut [u8], number: u8, offset: usize) -> usize
 
 // The line of the count of rounds.
 fn put_rounds(out: &mut [u8], at: usize, count: u32) -> usize
-    requires { ⌜ at + length (roundsLine count) ≤ length (now out) ⌝ }
-    ensures { λ r. ⌜ Laid (now (out .entry)) at (roundsLine count) (now (out .exit)) r ⌝ }
+    requires { at + length (rounds_line count) ≤ length out.old }
+    ensures { Laid out.old at (rounds_line count) out.new result }
 {
     put_line(out, at, b"rounds ", count)
 }
 
 // A state's line.
 fn put_state(out: &mut [u8], at: usize, a: u32, yes: bool) -> usize
-    requires { ⌜ at + length (stateLine yes a) ≤ length (now out) ⌝ }
-    ensures { λ r. ⌜ Laid (now (out .entry)) at (stateLine yes a) (now (out .exit)) r ⌝ }
+    requires { at + length (state_line yes a) ≤ length out.old }
+    ensures { Laid out.old at (state_line yes a) out.new result }
 {
     let word = decimals::put_decimal(out, at, a);
     if yes {
@@ -72,9 +72,9 @@ fn put_state(out: &mut [u8], at: usize, a: u32, yes: bool) -> usize
 
 // All states' lines, from the numbers of their nodes.
 fn put_states(out: &mut [u8], at: usize, values: &[u64], first: usize, n: u32) -> usize
-    requires { ⌜ first + n ≤ length (now values) ⌝ }
-    requires { ⌜ at + length (statesLines (now values) first n) ≤ length (now out) ⌝ }
-    ensures { λ r. ⌜ Laid (now (out .entry)) at (statesLines (now (values .entry)) first n) (now (out .exit)) r ⌝ }
+    requires n_in_bounds { first + n ≤ length values.now }
+    requires n_in_bounds_2 { at + length (states_lines values.now first n) ≤ length out.old }
+    ensures { Laid out.old at (states_lines values.now first n) out.new result }
 {
     let mut next = at;
     let mut a: u32 = 0;
@@ -89,7 +89,7 @@ fn put_states(out: &mut [u8], at: usize, values: &[u64], first: usize, n: u32) -
 
 // Where the model ends in what was read.
 pub fn model_end(input: &[u8]) -> Cut
-    ensures { λ r. ⌜ r ≡ cutOf (readCut (now (input .entry))) ⌝ }
+    ensures { result ≡ cut_of (read_cut input.now) }
 {
     if 8192 < input.len() {
         return Cut::Refused(wire::SHORT);
@@ -106,8 +106,8 @@ pub fn model_end(input: &[u8]) -> Cut
 
 // The text of an accepted formula, in a room of 2,048 bytes.
 fn put_text(f: &[u8], p: u32, out: &mut [u8]) -> usize
-    requires { ⌜ 2048 ≤ length (now out) ⌝ }
-    ensures { λ r. ⌜ Laid (now (out .entry)) 0 (textIn (readFormula p (now (f .entry)))) (now (out .exit)) r ⌝ }
+    requires { 2048 ≤ length out.old }
+    ensures { Laid out.old 0 (text_in (read_formula p f.now)) out.new result }
 {
     text::text(f, p, &mut out[..2048]).length()
 }
@@ -122,9 +122,9 @@ pub fn put_settled(
     n: u32,
     out: &mut [u8],
 ) -> usize
-    requires { ⌜ (first + n ≤ length (now values)) × (n ≤ 256) ⌝ }
-    requires { ⌜ 8192 ≤ length (now out) ⌝ }
-    ensures { λ r. ⌜ Laid (now (out .entry)) 0 (endedLines (readFormula p (now (f .entry))) count (now (values .entry)) first n) (now (out .exit)) r ⌝ }
+    requires n_in_bounds { (first + n ≤ length values.now) × (n ≤ 256) }
+    requires in_bounds { 8192 ≤ length out.old }
+    ensures { Laid out.old 0 (ended_lines (read_formula p f.now) count values.now first n) out.new result }
 {
     let end = put_text(f, p, out);
     let rounds = decimals::put_word(out, end, b"\n");

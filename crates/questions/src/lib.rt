@@ -1,8 +1,12 @@
 // A question: the check of a model, and of a formula with the model's p.
-ghost use Rattle·questions·specs.specs.Asking.{Asking};
+#![tactic(auto)]
+
+ghost use Rattle.questions.specs.Asking.{Asking};
+
 use refusal::Fault;
 
 // The counts of an accepted model and formula, or the first fault.
+#[derive(Clone, Copy)]
 pub enum Asked {
     Question(u32, u32, u32, u32),
     Refused(Fault),
@@ -10,7 +14,7 @@ pub enum Asked {
 
 // The model first, then the formula with the model's p.
 pub fn question(m: &[u8], f: &[u8]) -> Asked
-    ensures { λ r. ⌜ Asking (now (m .entry)) (now (f .entry)) r ⌝ }
+    ensures { Asking m.now f.now result }
 {
     match model::check(m) {
         model::Checked::Refused(e) => Asked::Refused(e),

@@ -1,19 +1,19 @@
 // Ranks given one after another, to nodes whose values an edge backs.
-ghost use mathlib.Core.Path.{_≡_};
-ghost use Prim.Native.Nat.{ℕ, _+_, _*_, _<_, _≤_};
-ghost use lib.ListN.{length};
-ghost use Rattle·wire.specs.Layout.{items, end, Sound};
-ghost use Rattle·rules.specs.Rounds as rules;
-ghost use Rattle·rules.specs.Count.{count};
-ghost use Rattle·rules.specs.Walks.{CoverCycle};
-ghost use Rattle·graph.specs.Format.{graphHeader};
-ghost use Rattle·graph.specs.Layouts.{hyperLayout, coverLayout, decoded};
-ghost use Rattle·graph.specs.Ready.{Ready};
-ghost use Rattle·support.specs.Claims.{claimWidth, claimedValue, claimedRank, AcceptsClaims};
-ghost use Rattle·support.specs.Backing.{HyperBacks, CoverBacks};
-ghost use Rattle·ranking·specs.specs.Ranking.{unranked, Kept, RankedBy};
-use claimed::CLAIM;
-use claimed::RANK_AT;
+#![tactic(auto)]
+
+ghost use Rattle.std.specs.Prelude.{◌≡◌, ℕ, ◌+◌, ◌*◌, ◌<◌, ◌≤◌, length};
+ghost use Rattle.wire.specs.Layout.{items, end, Sound};
+ghost use Rattle.rules.specs.Rounds as rules;
+ghost use Rattle.rules.specs.Count.{count};
+ghost use Rattle.rules.specs.Walks.{CoverCycle};
+ghost use Rattle.graph.specs.Format.{graph_header};
+ghost use Rattle.graph.specs.Layouts.{hyper_layout, cover_layout, decoded};
+ghost use Rattle.graph.specs.Ready.{Ready};
+ghost use Rattle.support.specs.Claims.{claim_width, claimed_value, claimed_rank, AcceptsClaims};
+ghost use Rattle.support.specs.Backing.{HyperBacks, CoverBacks};
+ghost use Rattle.ranking.specs.Ranking.{unranked, Kept, RankedBy};
+
+use claimed::{CLAIM, RANK_AT};
 use wire::Width;
 
 // The rank of a node that has none yet.
@@ -21,11 +21,11 @@ pub const UNRANKED: u64 = 18446744073709551615;
 
 // Ranks the sources of hyperedges that back them, one after another; gives the next rank.
 fn rank_hypers(s: &[u8], n: usize, h: u32, given: u64, claims: &mut [u8]) -> u64
-    requires { ⌜ Sound (hyperLayout (now s) n) h graphHeader ⌝ }
-    requires { ⌜ n * claimWidth ≤ length (now claims) ⌝ }
-    requires { ⌜ given + h < unranked ⌝ }
-    ensures { λ r. ⌜ RankedBy (items (hyperLayout (now (s .entry)) n) h graphHeader) (λ e. e .source) (λ b. HyperBacks (claimedValue b) (claimedRank b))
-        given (now (claims .entry)) r (now (claims .exit)) ⌝ }
+    requires sound { Sound (hyper_layout s.now n) h graph_header }
+    requires claim_width_in_bounds { n * claim_width ≤ length claims.old }
+    requires h_bound { given + h < unranked }
+    ensures { RankedBy (items (hyper_layout s.now n) h graph_header) (λ e. e.source) (λ b. HyperBacks (claimed_value b) (claimed_rank b))
+        given claims.old result claims.new }
 {
     let mut next = given;
     let mut i = h;
@@ -49,11 +49,11 @@ fn rank_hypers(s: &[u8], n: usize, h: u32, given: u64, claims: &mut [u8]) -> u64
 
 // Ranks the sources of cover edges that back them, one after another; gives the next rank.
 fn rank_covers(s: &[u8], n: usize, c: u32, middle: usize, given: u64, claims: &mut [u8]) -> u64
-    requires { ⌜ Sound (coverLayout (now s) n) c middle ⌝ }
-    requires { ⌜ n * claimWidth ≤ length (now claims) ⌝ }
-    requires { ⌜ given + c < unranked ⌝ }
-    ensures { λ r. ⌜ RankedBy (items (coverLayout (now (s .entry)) n) c middle) (λ e. e .source) (λ b. CoverBacks (claimedValue b) (claimedRank b))
-        given (now (claims .entry)) r (now (claims .exit)) ⌝ }
+    requires sound { Sound (cover_layout s.now n) c middle }
+    requires claim_width_in_bounds { n * claim_width ≤ length claims.old }
+    requires c_bound { given + c < unranked }
+    ensures { RankedBy (items (cover_layout s.now n) c middle) (λ e. e.source) (λ b. CoverBacks (claimed_value b) (claimed_rank b))
+        given claims.old result claims.new }
 {
     let mut next = given;
     let mut i = c;
@@ -76,15 +76,15 @@ fn rank_covers(s: &[u8], n: usize, c: u32, middle: usize, given: u64, claims: &m
 
 // Ranks nodes in passes over all edges, until a pass ranks none; each pass before it ranks one, so n are enough.
 pub fn rank(s: &[u8], n: usize, h: u32, c: u32, middle: usize, claims: &mut [u8])
-    requires { ⌜ Ready (now s) n h c ⌝ }
-    requires { ⌜ middle ≡ end (hyperLayout (now s) n) h graphHeader ⌝ }
-    requires { ⌜ n ≤ 4096 ⌝ }
-    requires { ⌜ n * claimWidth ≤ length (now claims) ⌝ }
-    requires { ⌜ (CoverCycle (decoded (now s) n h c) → ⊥) ⌝ }
-    requires { ⌜ rules.Agree (decoded (now s) n h c) (claimedValue (now claims)) (rules.rounds (decoded (now s) n h c) (count (decoded (now s) n h c))) ⌝ }
-    requires { ⌜ ((v : ℕ) → v < n → claimedRank (now claims) v ≡ unranked) ⌝ }
-    ensures { λ _. ⌜ Kept n (now (claims .entry)) (now (claims .exit)) ⌝ }
-    ensures { λ _. ⌜ AcceptsClaims (decoded (now (s .entry)) n h c) (now (claims .exit)) ⌝ }
+    requires ready { Ready s.now n h c }
+    requires middle_value { middle ≡ end (hyper_layout s.now n) h graph_header }
+    requires n_bound { n ≤ 4096 }
+    requires claim_width_in_bounds { n * claim_width ≤ length claims.old }
+    requires fact { CoverCycle (decoded s.now n h c) → ⊥ }
+    requires agree { rules.Agree (decoded s.now n h c) (claimed_value claims.old) (rules.rounds (decoded s.now n h c) (count (decoded s.now n h c))) }
+    requires by_index { (v : ℕ) → v < n → claimed_rank claims.old v ≡ unranked }
+    ensures kept { Kept n claims.old claims.new }
+    ensures accepts_claims { AcceptsClaims (decoded s.now n h c) claims.new }
 {
     let mut given: u64 = 0;
     let mut i = 0;

@@ -1,96 +1,96 @@
 -- The two contracts together: of what the writer writes the checker says yes. Assumes nothing.
-use Prim.Native.Nat.{ℕ, _+_, _*_, _≤_, _<_}
-use mathlib.Core.List.{List, [], _∷_, List·Memᴰ·head, List·Memᴰ·tail}
+use Prim.Native.Nat.{ℕ, ◌+◌, ◌*◌, ◌≤◌, ◌<◌}
+use mathlib.Core.List.Memᴰ
+use mathlib.Core.List.{List, [], ◌∷◌}
 use mathlib.Core.Logic.{inl}
-use mathlib.Core.Path.{_≡_, refl, sym, ap, ap₂, subst, _∙_}
+use mathlib.Core.Path.{◌≡◌, refl, sym, ap, ap₂, subst, ◌∙◌}
 use lib.ListN.{length, take}
-use lib.Seq.{length-take-le, getD-take}
-use native.Mathlib.Decide.{decLt}
+use lib.Seq.{length-take-le, get_or-take}
+use native.Mathlib.Decide.{dec_lt}
 use native.Mathlib.Omega.{arith}
 use borrow.Author.Tests.{eq-eqb}
-use Rattle·lists.specs.Lists.{_∈_}
-use Rattle·value.specs.Value.{Value, plus, greatest, finite, meets}
-use Rattle·value.specs.Stored.{meaning}
-use Rattle·wire.specs.Bytes.{Bytes, number}
-use Rattle·wire.specs.Field.{longWidth}
-use Rattle·wire.specs.Read.{Read, good}
-use Rattle·wire.proofs.Exact.{good-bind, good-demand}
-use Rattle·rules.specs.Graph.{Graph, Target, Closed}
-use Rattle·rules.specs.Rounds.{Assignment, worst, Agree}
-use Rattle·rules.proofs.Order.{round-agree}
-use Rattle·graph.specs.Stored.{StoredGraph, ruled}
-use Rattle·graph.specs.Message.{readGraph}
-use Rattle·graph.proofs.Exact.{accepted-written}
-use Rattle·support.specs.Claims.{rankAt, claimWidth, Support, by-hyper, by-cover, Accepts, AcceptsClaims}
-use Rattle·claims.specs.declared.Judged.{Judged}
-use Rattle·claims.specs.declared.Judged.the-variants as Judged
-use Rattle·ranks·specs.specs.declared.Written.the-variants as Written
-use Rattle·claims.specs.Answers.{claimsLength, readClaims, Judges}
-use Rattle·ranks·specs.specs.Answers.{Narrow, Filled, WritesOf, filled, Writes}
-use Rattle·ranking.proofs.Puts.{number-same}
+use Rattle.lists.specs.Lists.{◌∈◌}
+use Rattle.value.specs.Value.{Value, plus, greatest, finite, meets}
+use Rattle.value.specs.Stored.{meaning}
+use Rattle.wire.specs.Bytes.{Bytes, number}
+use Rattle.wire.specs.Field.{long_width}
+use Rattle.wire.specs.Read.{Read, good}
+use Rattle.wire.proofs.Exact.{good_bind, good_demand}
+use Rattle.rules.specs.Graph.{Graph, Target, Closed}
+use Rattle.rules.specs.Rounds.{Assignment, worst, Agree}
+use Rattle.rules.proofs.Order.{round_agree}
+use Rattle.graph.specs.Stored.{StoredGraph, ruled}
+use Rattle.graph.specs.Message.{read_graph}
+use Rattle.graph.proofs.Exact.{accepted_written}
+use Rattle.support.specs.Claims.{rank_at, claim_width, Support, by_hyper, by_cover, Accepts, AcceptsClaims}
+use Rattle.claims.specs.declared.Judged.{Judged}
+use Rattle.ranks.specs.declared.Written.TheVariants as Written
+use Rattle.claims.specs.Answers.{claims_length, read_claims, Judges}
+use Rattle.ranks.specs.Answers.{Narrow, Filled, WritesOf, filled, Writes}
+use Rattle.ranking.proofs.Puts.{number_same}
 
 -- ---- claims are accepted by what they say of the nodes
 
-worst-agree : (x y : Assignment) (ts : List Target) → ((t : Target) → t ∈ ts → y (t .node) ≡ x (t .node)) → worst y ts ≡ worst x ts
+worst_agree : (x y : Assignment) (ts : List Target) → ((t : Target) → t ∈ ts → y t.node ≡ x t.node) → worst y ts ≡ worst x ts
 unfolding worst
-worst-agree x y [] f = refl
-worst-agree x y (t ∷ ts) f =
-    ap₂ (λ (a b : Value). greatest (plus (t .weight) a) b) (f t (List·Memᴰ·head refl)) (worst-agree x y ts (λ u m. f u (List·Memᴰ·tail m)))
+worst_agree x y [] f = refl
+worst_agree x y (t ∷ ts) f =
+    ap₂ (λ (a b : Value). greatest (plus t.weight a) b) (f t (Memᴰ.head refl)) (worst_agree x y ts (λ u m. f u (Memᴰ.tail m)))
 
-module _ (g : Graph) (closed : Closed g) {x y : Assignment} {rank rank′ : ℕ → ℕ} (values : Agree g y x) (ranks : (v : ℕ) → v < g .nodes → rank′ v ≡ rank v) where
-  support-agree : (v : ℕ) → v < g .nodes → Support g x rank v → Support g y rank′ v
-  support-agree v l (by-hyper h m s e q) = by-hyper h m s
-      (worst-agree x y (h .targets) (λ t n. values (t .node) (closed .hyper m n)) ∙ e ∙ sym (values v l))
-      (λ t n. omega (arith, ranks (t .node) (closed .hyper m n), ranks v l, q t n))
-  support-agree v l (by-cover c m s e q) = by-cover c m s (ap (meets (c .bound)) (values (c .target) (closed .cover m)) ∙ e)
-      (omega (arith, ranks (c .target) (closed .cover m), ranks v l))
+module _ (g : Graph) (closed : Closed g) {x y : Assignment} {rank rank' : ℕ → ℕ} (values : Agree g y x) (ranks : (v : ℕ) → v < g.nodes → rank' v ≡ rank v) where
+  support_agree : (v : ℕ) → v < g.nodes → Support g x rank v → Support g y rank' v
+  support_agree v l (by_hyper h m s e q) = by_hyper h m s
+      (worst_agree x y h.targets (λ t n. values t.node (closed.hyper m n)) ∙ e ∙ sym (values v l))
+      (λ t n. omega (arith, ranks t.node (closed.hyper m n), ranks v l, q t n))
+  support_agree v l (by_cover c m s e q) = by_cover c m s (ap (meets c.bound) (values c.target (closed.cover m)) ∙ e)
+      (omega (arith, ranks c.target (closed.cover m), ranks v l))
 
-  accepts-agree : Accepts g x rank → Accepts g y rank′
-  accepts-agree ok = record {
-    obeys = λ v l. round-agree g closed values v l ∙ ok .obeys v l ∙ sym (values v l);
-    supported = λ v l f. support-agree v l (ok .supported v l (ap finite (sym (values v l)) ∙ f));
+  accepts_agree : Accepts g x rank → Accepts g y rank'
+  accepts_agree ok = record {
+    obeys = λ v l. round_agree g closed values v l ∙ ok.obeys v l ∙ sym (values v l);
+    supported = λ v l f. support_agree v l (ok.supported v l (ap finite (sym (values v l)) ∙ f));
   }
 
 -- so the first bytes of a room that holds claims are accepted where the room is
 module _ (g : Graph) (closed : Closed g) (b : List ℕ) where
-  first-number : (v k : ℕ) → v < g .nodes → k + longWidth ≤ claimWidth → number longWidth (take (claimsLength g) b) (v * claimWidth + k) ≡ number longWidth b (v * claimWidth + k)
-  first-number v k l h = number-same longWidth b (take (claimsLength g) b) (v * claimWidth + k) λ i o. getD-take (claimsLength g) b (v * claimWidth + k + i) 0 (omega arith)
+  first_number : (v k : ℕ) → v < g.nodes → k + long_width ≤ claim_width → number long_width (take (claims_length g) b) (v * claim_width + k) ≡ number long_width b (v * claim_width + k)
+  first_number v k l h = number_same long_width b (take (claims_length g) b) (v * claim_width + k) λ i o. get_or-take (claims_length g) b (v * claim_width + k + i) 0 (omega arith)
 
-  pub first-accepts : AcceptsClaims g b → AcceptsClaims g (take (claimsLength g) b)
-  first-accepts ok = accepts-agree g closed (λ v l. ap meaning (at-value v l)) (λ v l. first-number v rankAt l (omega arith)) ok
+  pub first_accepts : AcceptsClaims g b → AcceptsClaims g (take (claims_length g) b)
+  first_accepts ok = accepts_agree g closed (λ v l. ap meaning (at_value v l)) (λ v l. first_number v rank_at l (omega arith)) ok
     where
-      at-value : (v : ℕ) → v < g .nodes → number longWidth (take (claimsLength g) b) (v * claimWidth) ≡ number longWidth b (v * claimWidth)
-      at-value v l =
-          number-same longWidth b (take (claimsLength g) b) (v * claimWidth) λ i o. getD-take (claimsLength g) b (v * claimWidth + i) 0 (omega arith)
+      at_value : (v : ℕ) → v < g.nodes → number long_width (take (claims_length g) b) (v * claim_width) ≡ number long_width b (v * claim_width)
+      at_value v l =
+          number_same long_width b (take (claims_length g) b) (v * claim_width) λ i o. get_or-take (claims_length g) b (v * claim_width + i) 0 (omega arith)
 
 -- ---- the law
 
 -- there is room for the claims
-wide-enough : (g : Graph) (claims words : List ℕ) → ¬ Narrow g claims words → claimsLength g ≤ length claims
-wide-enough g claims words wide = go (decLt (length claims) (claimsLength g))
+wide_enough : (g : Graph) (claims words : List ℕ) → ¬ Narrow g claims words → claims_length g ≤ length claims
+wide_enough g claims words wide = go (dec_lt (length claims) (claims_length g))
   where
-    go : Dec (length claims < claimsLength g) → claimsLength g ≤ length claims
+    go : Dec (length claims < claims_length g) → claims_length g ≤ length claims
     go (yes l) = absurd (wide (inl l))
     go (no l) = omega arith
 
 -- claims that were written of a message are accepted: whatever satisfies the checker's contract of the message and them is yes
-pub written-accepted : (s : List ℕ) → Bytes s → {g : StoredGraph} → readGraph s ≡ good g → (claims words claims′ words′ : List ℕ)
-    → Writes (readGraph s) claims words claims′ words′ Written.Claims → (r : Judged)
-    → Judges (readClaims s (take (claimsLength (ruled g)) claims′)) (take (claimsLength (ruled g)) claims′) r → r ≡ Judged.Yes
-unfolding readClaims
-written-accepted s bytes {g} reads claims words claims′ words′ w r j =
-    go r (subst (λ (x : Read StoredGraph). Writes x claims words claims′ words′ Written.Claims) reads w)
-    (λ long. subst (λ (x : Read StoredGraph). Judges x (take (claimsLength (ruled g)) claims′) r)
-    (good-bind _ reads (good-demand _ (eq-eqb (length (take (claimsLength (ruled g)) claims′)) (claimsLength (ruled g)) long) refl)) j)
+pub written_accepted : (s : List ℕ) → Bytes s → {g : StoredGraph} → read_graph s ≡ good g → (claims words claims' words' : List ℕ)
+    → Writes (read_graph s) claims words claims' words' Written.Claims → (r : Judged)
+    → Judges (read_claims s (take (claims_length (ruled g)) claims')) (take (claims_length (ruled g)) claims') r → r ≡ Judged.Yes
+unfolding read_claims
+written_accepted s bytes {g} reads claims words claims' words' w r j =
+    go r (subst (λ (x : Read StoredGraph). Writes x claims words claims' words' Written.Claims) reads w)
+    (λ long. subst (λ (x : Read StoredGraph). Judges x (take (claims_length (ruled g)) claims') r)
+    (good_bind _ reads (good_demand _ (eq-eqb (length (take (claims_length (ruled g)) claims')) (claims_length (ruled g)) long) refl)) j)
   where
     closed : Closed (ruled g)
-    closed = accepted-written s g bytes reads .1 .closed
+    closed = (accepted_written s g bytes reads).1.closed
 
-    long : Filled (ruled g) claims words claims′ words′ → ¬ Narrow (ruled g) claims words → length (take (claimsLength (ruled g)) claims′) ≡ claimsLength (ruled g)
-    long f wide = length-take-le (claimsLength (ruled g)) claims′ (omega (arith, f .same-length, wide-enough (ruled g) claims words wide))
+    long : Filled (ruled g) claims words claims' words' → ¬ Narrow (ruled g) claims words → length (take (claims_length (ruled g)) claims') ≡ claims_length (ruled g)
+    long f wide = length-take-le (claims_length (ruled g)) claims' (omega (arith, f.same_length, wide_enough (ruled g) claims words wide))
 
-    go : (r : Judged) → WritesOf (ruled g) claims words claims′ words′ Written.Claims
-        → (length (take (claimsLength (ruled g)) claims′) ≡ claimsLength (ruled g) → Judges (good g) (take (claimsLength (ruled g)) claims′) r) → r ≡ Judged.Yes
+    go : (r : Judged) → WritesOf (ruled g) claims words claims' words' Written.Claims
+        → (length (take (claims_length (ruled g)) claims') ≡ claims_length (ruled g) → Judges (good g) (take (claims_length (ruled g)) claims') r) → r ≡ Judged.Yes
     go Judged.Yes (filled free wide f) j = refl
-    go Judged.No (filled free wide f) j = absurd (j (long f wide) (first-accepts (ruled g) closed claims′ (f .accepted)))
+    go Judged.No (filled free wide f) j = absurd (j (long f wide) (first_accepts (ruled g) closed claims' f.accepted))
     go (Judged.Refused e) (filled free wide f) j = absurd (j (long f wide))

@@ -1,59 +1,54 @@
 -- What the writer of claims answers, and what it leaves in its rooms.
-use Prim.Native.Nat.{ℕ, _*_, _<_}
-use mathlib.Core.List.{List, _++_}
-use mathlib.Core.Logic.{_⊎_}
-use mathlib.Core.Path.{_≡_}
-use lib.ListN.{length, drop, replicate}
-use Rattle·refusal.specs.Number.{ok, numberOf, nowhere, unplaced}
-use Rattle·refusal.specs.declared.Refusal.the-variants.{Room, Profile}
-use Rattle·wire.specs.Read.{Read, good, bad}
-use Rattle·rules.specs.Graph.{Graph}
-use Rattle·rules.specs.Rounds.{Largest}
-use Rattle·rules.specs.Walks.{CoverCycle}
-use Rattle·graph.specs.Stored.{StoredGraph, ruled}
-use Rattle·support.specs.Claims.{claimedValue, AcceptsClaims}
-use Rattle·claims.specs.Answers.{claimsLength}
-use Rattle·ranks·specs.specs.declared.Written.{Written}
-use Rattle·ranks·specs.specs.declared.Written.the-variants as Written
+use Rattle.std.specs.Prelude.{ℕ, ◌*◌, ◌<◌, List, ◌++◌, ◌⊎◌, ◌≡◌, length, drop, replicate}
+use Rattle.refusal.specs.Number.{ok, number_of, nowhere, unplaced}
+use Rattle.refusal.specs.declared.Refusal.TheVariants.{Room, Profile}
+use Rattle.wire.specs.Read.{Read, good, bad}
+use Rattle.rules.specs.Graph.{Graph}
+use Rattle.rules.specs.Rounds.{Largest}
+use Rattle.rules.specs.Walks.{CoverCycle}
+use Rattle.graph.specs.Stored.{StoredGraph, ruled}
+use Rattle.support.specs.Claims.{claimed_value, AcceptsClaims}
+use Rattle.claims.specs.Answers.{claims_length}
+use Rattle.ranks.specs.declared.Written.{Written}
 
 -- the paper's number of an answer
-abbrev pub writtenNumber : Written → ℕ
-writtenNumber Written.Claims = ok
-writtenNumber (Written.Refused e) = numberOf (e .refusal)
+abbrev pub written_number : Written → ℕ
+written_number Written.Claims = ok
+written_number (Written.Refused e) = number_of e.refusal
 
 -- where the field starts that was found wrong
-abbrev pub writtenOffset : Written → ℕ
-writtenOffset Written.Claims = nowhere
-writtenOffset (Written.Refused e) = e .offset
+abbrev pub written_offset : Written → ℕ
+written_offset Written.Claims = nowhere
+written_offset (Written.Refused e) = e.offset
 
 -- how many words are lent: 8n
-abbrev pub wordsLent : Graph → ℕ
-wordsLent g = g .nodes * 8
+abbrev pub words_lent : Graph → ℕ
+words_lent g = g.nodes * 8
 
 -- ROOM: fewer bytes than the claims have, or fewer words than are lent
 abbrev pub Narrow : Graph → (claims words : List ℕ) → Type 0
-Narrow g claims words = (length claims < claimsLength g) ⊎ (length words < wordsLent g)
+Narrow g claims words = (length claims < claims_length g) ⊎ (length words < words_lent g)
 
 -- neither room is touched
-pub record Untouched (claims words claims′ words′ : List ℕ) : Type 0 where
-  pub claims-stay : claims′ ≡ claims
-  pub words-stay : words′ ≡ words
+pub record Untouched (claims words claims' words' : List ℕ) : Type 0 where
+  pub claims_stay : claims' ≡ claims
+  pub words_stay : words' ≡ words
 
 -- the claims hold the largest assignment that obeys the rules, with ranks that are accepted; the words are zero; the rest of both stays
-pub record Filled (g : Graph) (claims words claims′ words′ : List ℕ) : Type 0 where
-  pub largest : Largest g (claimedValue claims′)
-  pub accepted : AcceptsClaims g claims′
-  pub same-length : length claims′ ≡ length claims
-  pub rest-stays : drop (claimsLength g) claims′ ≡ drop (claimsLength g) claims
-  pub words-are : words′ ≡ replicate (wordsLent g) 0 ++ drop (wordsLent g) words
+pub record Filled (g : Graph) (claims words claims' words' : List ℕ) : Type 0 where
+  pub largest : Largest g (claimed_value claims')
+  pub accepted : AcceptsClaims g claims'
+  pub same_length : length claims' ≡ length claims
+  pub rest_stays : drop (claims_length g) claims' ≡ drop (claims_length g) claims
+  pub words_are : words' ≡ replicate (words_lent g) 0 ++ drop (words_lent g) words
 
 -- PROFILE exactly where some cycle passes through a cover edge; then ROOM
-pub data WritesOf (g : Graph) (claims words claims′ words′ : List ℕ) : Written → Type 0 where
-  cyclic : CoverCycle g → Untouched claims words claims′ words′ → WritesOf g claims words claims′ words′ (Written.Refused (unplaced Profile))
-  narrow : ¬ CoverCycle g → Narrow g claims words → Untouched claims words claims′ words′ → WritesOf g claims words claims′ words′ (Written.Refused (unplaced Room))
-  filled : ¬ CoverCycle g → ¬ Narrow g claims words → Filled g claims words claims′ words′ → WritesOf g claims words claims′ words′ Written.Claims
+pub data WritesOf (g : Graph) (claims words claims' words' : List ℕ) : Written → Type 0 where
+  cyclic : CoverCycle g → Untouched claims words claims' words' → WritesOf g claims words claims' words' (Written.Refused (unplaced Profile))
+  narrow : ¬ CoverCycle g → Narrow g claims words → Untouched claims words claims' words' → WritesOf g claims words claims' words' (Written.Refused (unplaced Room))
+  filled : ¬ CoverCycle g → ¬ Narrow g claims words → Filled g claims words claims' words' → WritesOf g claims words claims' words' Written.Claims
 
 -- a fault of the graph is the answer
-abbrev pub Writes : Read StoredGraph → (claims words claims′ words′ : List ℕ) → Written → Type 0
-Writes (good g) claims words claims′ words′ r = WritesOf (ruled g) claims words claims′ words′ r
-Writes (bad e) claims words claims′ words′ r = (r ≡ Written.Refused e) × Untouched claims words claims′ words′
+abbrev pub Writes : Read StoredGraph → (claims words claims' words' : List ℕ) → Written → Type 0
+Writes (good g) claims words claims' words' r = WritesOf (ruled g) claims words claims' words' r
+Writes (bad e) claims words claims' words' r = (r ≡ Written.Refused e) × Untouched claims words claims' words'

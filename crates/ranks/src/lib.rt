@@ -1,20 +1,19 @@
 // A writer of claims about a graph that the checker accepts: its values, and a rank for each node.
-ghost use mathlib.Core.Path.{_≡_};
-ghost use mathlib.Core.List.{_++_};
-ghost use Prim.Native.Nat.{_*_, _≤_};
-ghost use lib.ListN.{length, drop, replicate};
-ghost use Rattle·wire.specs.Layout.{end, Sound};
-ghost use Rattle·rules.specs.Walks.{CoverCycle};
-ghost use Rattle·graph.specs.Format.{graphHeader};
-ghost use Rattle·graph.specs.Layouts.{hyperLayout, decoded};
-ghost use Rattle·graph.specs.Message.{readGraph};
-ghost use Rattle·graph.specs.Ready.{Ready};
-ghost use Rattle·support.specs.Claims.{claimWidth};
-ghost use Rattle·ranks·specs.specs.Answers.{writtenNumber, writtenOffset, Writes, Filled};
-ghost use Rattle·ranks·specs.specs.Promise.{WrittenPromise};
-ghost use Rattle·ranks·specs.specs.Begun.{Begun};
-use claimed::CLAIM;
-use claimed::RANK_AT;
+#![tactic(auto)]
+
+ghost use Rattle.std.specs.Prelude.{◌≡◌, ◌++◌, ◌*◌, ◌≤◌, length, drop, replicate};
+ghost use Rattle.wire.specs.Layout.{end, Sound};
+ghost use Rattle.rules.specs.Walks.{CoverCycle};
+ghost use Rattle.graph.specs.Format.{graph_header};
+ghost use Rattle.graph.specs.Layouts.{hyper_layout, decoded};
+ghost use Rattle.graph.specs.Message.{read_graph};
+ghost use Rattle.graph.specs.Ready.{Ready};
+ghost use Rattle.support.specs.Claims.{claim_width};
+ghost use Rattle.ranks.specs.Answers.{written_number, written_offset, Writes, Filled};
+ghost use Rattle.ranks.specs.Promise.{WrittenPromise};
+ghost use Rattle.ranks.specs.Begun.{Begun};
+
+use claimed::{CLAIM, RANK_AT};
 use graph::Checked;
 use ranking::UNRANKED;
 use refusal::Fault;
@@ -24,6 +23,7 @@ use wire::Width;
 pub const WORDS: usize = 8;
 
 // Claims were written, or refused.
+#[derive(Clone, Copy)]
 pub enum Written {
     Claims,
     Refused(Fault),
@@ -32,7 +32,7 @@ pub enum Written {
 impl Written {
     // The number that the paper gives the answer.
     pub fn number(self) -> u8
-        ensures { λ r. ⌜ r ≡ writtenNumber self ⌝ }
+        ensures { result ≡ written_number self }
     {
         match self {
             Written::Claims => 0,
@@ -42,7 +42,7 @@ impl Written {
 
     // Where the field starts that was found wrong, and 0 where none was.
     pub fn offset(self) -> usize
-        ensures { λ r. ⌜ r ≡ writtenOffset self ⌝ }
+        ensures { result ≡ written_offset self }
     {
         match self {
             Written::Claims => 0,
@@ -53,8 +53,8 @@ impl Written {
 
 // Where the cover edges stand: past the hyperedges.
 fn past_hypers(s: &[u8], n: usize, h: u32) -> usize
-    requires { ⌜ Sound (hyperLayout (now s) n) h graphHeader ⌝ }
-    ensures { λ r. ⌜ r ≡ end (hyperLayout (now (s .entry)) n) h graphHeader ⌝ }
+    requires { Sound (hyper_layout s.now n) h graph_header }
+    ensures { result ≡ end (hyper_layout s.now n) h graph_header }
 {
     let mut i = h;
     let mut p = graph::HEADER;
@@ -68,9 +68,9 @@ fn past_hypers(s: &[u8], n: usize, h: u32) -> usize
 
 // Writes the values of n nodes from the words, and no rank yet.
 fn begin(n: usize, words: &[u64], claims: &mut [u8])
-    requires { ⌜ n ≤ length (now words) ⌝ }
-    requires { ⌜ n * claimWidth ≤ length (now claims) ⌝ }
-    ensures { λ _. ⌜ Begun n (now (words .entry)) (now (claims .entry)) (now (claims .exit)) ⌝ }
+    requires n_in_bounds { n ≤ length words.now }
+    requires claim_width_in_bounds { n * claim_width ≤ length claims.old }
+    ensures { Begun n words.now claims.old claims.new }
 {
     let mut v = 0;
     while v < n {
@@ -85,8 +85,8 @@ fn begin(n: usize, words: &[u64], claims: &mut [u8])
 
 // Sets the first k words to 0.
 fn clear(k: usize, words: &mut [u64])
-    requires { ⌜ k ≤ length (now words) ⌝ }
-    ensures { λ _. ⌜ now (words .exit) ≡ replicate k 0 ++ drop k (now (words .entry)) ⌝ }
+    requires { k ≤ length words.old }
+    ensures { words.new ≡ replicate k 0 ++ drop k words.old }
 {
     let mut i = 0;
     while i < k {
@@ -97,12 +97,12 @@ fn clear(k: usize, words: &mut [u64])
 
 // Writes the claims of a graph without a cycle through a cover edge: the rounds settle within n, in the words.
 fn fill(s: &[u8], nodes: u32, h: u32, c: u32, middle: usize, claims: &mut [u8], words: &mut [u64])
-    requires { ⌜ Ready (now s) nodes h c ⌝ }
-    requires { ⌜ middle ≡ end (hyperLayout (now s) nodes) h graphHeader ⌝ }
-    requires { ⌜ nodes ≤ 4096 ⌝ }
-    requires { ⌜ (CoverCycle (decoded (now s) nodes h c) → ⊥) ⌝ }
-    requires { ⌜ (nodes * claimWidth ≤ length (now claims)) × (nodes * 8 ≤ length (now words)) ⌝ }
-    ensures { λ _. ⌜ Filled (decoded (now (s .entry)) nodes h c) (now (claims .entry)) (now (words .entry)) (now (claims .exit)) (now (words .exit)) ⌝ }
+    requires ready { Ready s.now nodes h c }
+    requires middle_value { middle ≡ end (hyper_layout s.now nodes) h graph_header }
+    requires nodes_bound { nodes ≤ 4096 }
+    requires fact { CoverCycle (decoded s.now nodes h c) → ⊥ }
+    requires claim_width_in_bounds { (nodes * claim_width ≤ length claims.old) × (nodes * 8 ≤ length words.old) }
+    ensures { Filled (decoded s.now nodes h c) claims.old words.old claims.new words.new }
 {
     let n = nodes as usize;
     rounds::run(s, n, h, c, nodes, words);
@@ -113,8 +113,8 @@ fn fill(s: &[u8], nodes: u32, h: u32, c: u32, middle: usize, claims: &mut [u8], 
 
 // Writes claims about the graph of a message that the checker accepts: first the graph, then its cycles, then the rooms.
 pub fn write(message: &[u8], claims: &mut [u8], words: &mut [u64]) -> Written
-    ensures answer { λ r. ⌜ Writes (readGraph (now (message .entry))) (now (claims .entry)) (now (words .entry)) (now (claims .exit)) (now (words .exit)) r ⌝ }
-    ensures promise { λ r. ⌜ WrittenPromise (now (message .entry)) (now (claims .entry)) (now (words .entry)) (now (claims .exit)) (now (words .exit)) r ⌝ }
+    ensures answer { Writes (read_graph message.now) claims.old words.old claims.new words.new result }
+    ensures promise { WrittenPromise message.now claims.old words.old claims.new words.new result }
 {
     match graph::check(message) {
         Checked::Refused(e) => Written::Refused(e),

@@ -1,27 +1,26 @@
 // Records of the graph, written into the room: hyperedges, and what a list of transitions makes of them.
-ghost use mathlib.Core.Path.{_≡_};
-ghost use Prim.Native.Nat.{_+_, _*_, _≤_};
-ghost use mathlib.Core.List.{_++_, _∷_, []};
-ghost use lib.ListN.{length};
-ghost use Rattle·lists.specs.Making.{keep};
-ghost use Rattle·wire.specs.Bytes.{bytes};
-ghost use Rattle·wire.specs.Laid.{Laid};
-ghost use Rattle·graph.specs.Format.{hyperWidth, targetWidth};
-ghost use Rattle·graph.specs.Write.{writeTarget, writeHyper};
-ghost use Rattle·reduction.specs.Built as built;
-ghost use Rattle·transitions.specs.Held.{transitionsFrom, Reads};
-ghost use Rattle·transitions.specs.Looked.{leafEdges};
-ghost use Rattle·records·specs.specs.Bytes.{singleWidth, pairWidth, hypersBytes, nearBytes, nearWidth, nearbyBytes, stepBytes, stepsBytes, nextEdges};
-ghost use Rattle·transitions.specs.Looked.{lowest, highest, isNear};
-use syntax::Action;
-use syntax::Quantifier;
+#![tactic(auto)]
+
+ghost use Rattle.std.specs.Prelude.{◌≡◌, ◌+◌, ◌*◌, ◌≤◌, ◌++◌, ◌∷◌, [], length};
+ghost use Rattle.lists.specs.Making.{keep};
+ghost use Rattle.wire.specs.Bytes.{bytes};
+ghost use Rattle.wire.specs.Laid.{Laid};
+ghost use Rattle.graph.specs.Format.{hyper_width, target_width};
+ghost use Rattle.graph.specs.Write.{write_target, write_hyper};
+ghost use Rattle.reduction.specs.Built as built;
+ghost use Rattle.transitions.specs.Held.{transitions_from, Reads};
+ghost use Rattle.transitions.specs.Looked.{leaf_edges};
+ghost use Rattle.records.specs.Bytes.{single_width, pair_width, hypers_bytes, near_bytes, near_width, nearby_bytes, step_bytes, steps_bytes, next_edges};
+ghost use Rattle.transitions.specs.Looked.{lowest, highest, is_near};
+
+use syntax::{Action, Quantifier};
 use value::Bound;
 use wire::Width;
 
 // The source and the target count of a hyperedge.
 pub fn put_head(room: &mut [u8], at: usize, source: u32, count: u32) -> usize
-    requires { ⌜ at + hyperWidth ≤ length (now room) ⌝ }
-    ensures { λ r. ⌜ Laid (now (room .entry)) at (bytes 2 source ++ bytes 2 count) (now (room .exit)) r ⌝ }
+    requires { at + hyper_width ≤ length room.old }
+    ensures { Laid room.old at (bytes 2 source ++ bytes 2 count) room.new result }
 {
     wire::store(room, at, Width::Two, source);
     wire::store(room, at + graph::TARGET_COUNT_AT, Width::Two, count);
@@ -30,8 +29,8 @@ pub fn put_head(room: &mut [u8], at: usize, source: u32, count: u32) -> usize
 
 // A target.
 pub fn put_target(room: &mut [u8], at: usize, weight: u32, node: u32) -> usize
-    requires { ⌜ at + targetWidth ≤ length (now room) ⌝ }
-    ensures { λ r. ⌜ Laid (now (room .entry)) at (writeTarget (built.to weight node)) (now (room .exit)) r ⌝ }
+    requires { at + target_width ≤ length room.old }
+    ensures { Laid room.old at (write_target (built.to weight node)) room.new result }
 {
     wire::store(room, at, Width::Four, weight);
     wire::store(room, at + graph::NODE_AT, Width::Two, node);
@@ -40,8 +39,8 @@ pub fn put_target(room: &mut [u8], at: usize, weight: u32, node: u32) -> usize
 
 // A hyperedge with one target at weight 0.
 pub fn put_single(room: &mut [u8], at: usize, v: u32, node: u32) -> usize
-    requires { ⌜ at + singleWidth ≤ length (now room) ⌝ }
-    ensures { λ r. ⌜ Laid (now (room .entry)) at (writeHyper (built.hyper v (built.to 0 node ∷ []))) (now (room .exit)) r ⌝ }
+    requires { at + single_width ≤ length room.old }
+    ensures { Laid room.old at (write_hyper (built.hyper v (built.to 0 node ∷ []))) room.new result }
 {
     let target = put_head(room, at, v, 1);
     put_target(room, target, 0, node)
@@ -49,8 +48,8 @@ pub fn put_single(room: &mut [u8], at: usize, v: u32, node: u32) -> usize
 
 // A hyperedge with two targets, the first at weight 0.
 pub fn put_pair(room: &mut [u8], at: usize, v: u32, node: u32, weight: u32, other: u32) -> usize
-    requires { ⌜ at + pairWidth ≤ length (now room) ⌝ }
-    ensures { λ r. ⌜ Laid (now (room .entry)) at (writeHyper (built.hyper v (built.to 0 node ∷ built.to weight other ∷ []))) (now (room .exit)) r ⌝ }
+    requires { at + pair_width ≤ length room.old }
+    ensures { Laid room.old at (write_hyper (built.hyper v (built.to 0 node ∷ built.to weight other ∷ []))) room.new result }
 {
     let first = put_head(room, at, v, 2);
     let second = put_target(room, first, 0, node);
@@ -59,8 +58,8 @@ pub fn put_pair(room: &mut [u8], at: usize, v: u32, node: u32, weight: u32, othe
 
 // What EX or AX writes for a transition: a hyperedge with the successor's node, or that node as a target.
 fn put_near(room: &mut [u8], at: usize, q: Quantifier, v: u32, node: u32) -> usize
-    requires { ⌜ at + nearWidth q ≤ length (now room) ⌝ }
-    ensures { λ r. ⌜ Laid (now (room .entry)) at (nearBytes q v node) (now (room .exit)) r ⌝ }
+    requires { at + near_width q ≤ length room.old }
+    ensures { Laid room.old at (near_bytes q v node) room.new result }
 {
     match q {
         Quantifier::Some => put_single(room, at, v, node),
@@ -73,7 +72,7 @@ pub const SINGLE: usize = graph::HYPER + graph::TARGET;
 
 // How many bytes that takes.
 fn near_width(q: Quantifier) -> usize
-    ensures { λ r. ⌜ r ≡ nearWidth q ⌝ }
+    ensures { result ≡ near_width q }
 {
     match q {
         Quantifier::Some => SINGLE,
@@ -98,12 +97,12 @@ fn put_nearby(
     most: u32,
     shift: u32,
 ) -> u64
-    requires { ⌜ Reads (now m) n first many shift ⌝ }
-    requires { ⌜ at + length (nearbyBytes q v low high most shift (transitionsFrom (now m) n first many)) ≤ length (now room) ⌝ }
-    requires { ⌜ low ≤ high ⌝ }
-    ensures { λ r. ⌜ r ≡ length (keep (isNear low high most) (transitionsFrom (now (m .entry)) n first many)) ⌝ }
-    ensures { λ r. ⌜ Laid (now (room .entry)) at (nearbyBytes q v low high most shift (transitionsFrom (now (m .entry)) n first many)) (now (room .exit))
-        (at + r * nearWidth q) ⌝ }
+    requires reads { Reads m.now n first many shift }
+    requires many_in_bounds { at + length (nearby_bytes q v low high most shift (transitions_from m.now n first many)) ≤ length room.old }
+    requires low_le_high { low ≤ high }
+    ensures value { result ≡ length (keep (is_near low high most) (transitions_from m.now n first many)) }
+    ensures laid { Laid room.old at (nearby_bytes q v low high most shift (transitions_from m.now n first many)) room.new
+        (at + result * near_width q) }
 {
     let width = near_width(q);
     let mut near: u64 = 0;
@@ -138,11 +137,11 @@ fn put_looked(
     most: u32,
     shift: u32,
 ) -> u64
-    requires { ⌜ Reads (now m) n first many shift ⌝ }
-    requires { ⌜ at + length (nearbyBytes q v (lowest action) (highest action) most shift (transitionsFrom (now m) n first many)) ≤ length (now room) ⌝ }
-    ensures { λ r. ⌜ r ≡ length (keep (isNear (lowest action) (highest action) most) (transitionsFrom (now (m .entry)) n first many)) ⌝ }
-    ensures { λ r. ⌜ Laid (now (room .entry)) at (nearbyBytes q v (lowest action) (highest action) most shift (transitionsFrom (now (m .entry)) n first many))
-        (now (room .exit)) (at + r * nearWidth q) ⌝ }
+    requires reads { Reads m.now n first many shift }
+    requires many_in_bounds { at + length (nearby_bytes q v (lowest action) (highest action) most shift (transitions_from m.now n first many)) ≤ length room.old }
+    ensures value { result ≡ length (keep (is_near (lowest action) (highest action) most) (transitions_from m.now n first many)) }
+    ensures laid { Laid room.old at (nearby_bytes q v (lowest action) (highest action) most shift (transitions_from m.now n first many))
+        room.new (at + result * near_width q) }
 {
     match action {
         Action::Any => put_nearby(
@@ -173,8 +172,8 @@ fn put_step(
     weight: u32,
     node: u32,
 ) -> usize
-    requires { ⌜ at + length (stepBytes q v left weight node) ≤ length (now room) ⌝ }
-    ensures { λ r. ⌜ Laid (now (room .entry)) at (stepBytes q v left weight node) (now (room .exit)) r ⌝ }
+    requires { at + length (step_bytes q v left weight node) ≤ length room.old }
+    ensures { Laid room.old at (step_bytes q v left weight node) room.new result }
 {
     match q {
         Quantifier::Some => put_pair(room, at, v, left, weight, node),
@@ -195,9 +194,9 @@ pub fn put_steps(
     left: u32,
     shift: u32,
 ) -> usize
-    requires { ⌜ Reads (now m) n first many shift ⌝ }
-    requires { ⌜ at + length (stepsBytes q v left shift (transitionsFrom (now m) n first many)) ≤ length (now room) ⌝ }
-    ensures { λ r. ⌜ Laid (now (room .entry)) at (stepsBytes q v left shift (transitionsFrom (now (m .entry)) n first many)) (now (room .exit)) r ⌝ }
+    requires reads { Reads m.now n first many shift }
+    requires many_in_bounds { at + length (steps_bytes q v left shift (transitions_from m.now n first many)) ≤ length room.old }
+    ensures { Laid room.old at (steps_bytes q v left shift (transitions_from m.now n first many)) room.new result }
 {
     let mut next = at;
     let mut p = transitions::transition_at(n, first);
@@ -214,8 +213,8 @@ pub fn put_steps(
 
 // A hyperedge without targets, or none.
 pub fn put_leaf(room: &mut [u8], at: usize, v: u32, one: bool) -> usize
-    requires { ⌜ at + length (hypersBytes v (leafEdges one)) ≤ length (now room) ⌝ }
-    ensures { λ r. ⌜ Laid (now (room .entry)) at (hypersBytes v (leafEdges one)) (now (room .exit)) r ⌝ }
+    requires { at + length (hypers_bytes v (leaf_edges one)) ≤ length room.old }
+    ensures { Laid room.old at (hypers_bytes v (leaf_edges one)) room.new result }
 {
     if one {
         return put_head(room, at, v, 0);
@@ -237,10 +236,10 @@ pub fn put_next(
     bound: Bound,
     shift: u32,
 ) -> usize
-    requires { ⌜ Reads (now m) n first many shift ⌝ }
-    requires { ⌜ at + length (hypersBytes v (nextEdges q (transitionsFrom (now m) n first many) action bound shift)) ≤ length (now room) ⌝ }
-    ensures { λ r. ⌜ Laid (now (room .entry)) at (hypersBytes v (nextEdges q (transitionsFrom (now (m .entry)) n first many) action bound shift))
-        (now (room .exit)) r ⌝ }
+    requires reads { Reads m.now n first many shift }
+    requires shift_in_bounds { at + length (hypers_bytes v (next_edges q (transitions_from m.now n first many) action bound shift)) ≤ length room.old }
+    ensures { Laid room.old at (hypers_bytes v (next_edges q (transitions_from m.now n first many) action bound shift))
+        room.new result }
 {
     let most = bound.code();
     match q {

@@ -1,27 +1,27 @@
 -- The numbers given back: 0 is OK, 1 is BUDGET, and each refusal has its own. 7, DEAD, stays in the table and is no longer given.
-use Prim.Native.Nat.{ℕ}
-use Rattle·refusal·specs.specs.declared.Refusal.{Refusal}
-use Rattle·refusal·specs.specs.declared.Fault.{Fault}
-use Rattle·refusal·specs.specs.declared.Refusal.the-variants.{Length, Version, Limit, Order, Name, Size, Room, Form, Profile}
+use Rattle.std.specs.Prelude.{ℕ}
+use Rattle.refusal.specs.declared.Refusal.{Refusal}
+use Rattle.refusal.specs.declared.Fault.{Fault}
+use Rattle.refusal.specs.declared.Refusal.TheVariants.{Length, Version, Limit, Order, Name, Size, Room, Form, Profile}
 
 -- no other number applies
 abbrev pub ok : ℕ
 ok = 0
 
 -- BUDGET: the count of rounds is greater than the budget
-abbrev pub overBudget : ℕ
-overBudget = 1
+abbrev pub over_budget : ℕ
+over_budget = 1
 
-abbrev pub numberOf : Refusal → ℕ
-numberOf Length = 2
-numberOf Version = 3
-numberOf Limit = 4
-numberOf Order = 5
-numberOf Name = 6
-numberOf Size = 8
-numberOf Room = 9
-numberOf Form = 10
-numberOf Profile = 11
+abbrev pub number_of : Refusal → ℕ
+number_of Length = 2
+number_of Version = 3
+number_of Limit = 4
+number_of Order = 5
+number_of Name = 6
+number_of Size = 8
+number_of Room = 9
+number_of Form = 10
+number_of Profile = 11
 
 -- the offset of OK, of BUDGET, and of every refusal that no field of a message is at fault for
 abbrev pub nowhere : ℕ

@@ -1,8 +1,11 @@
-// Why a call is refused. The paper's number of each case is one definition, `numberOf`. BUDGET is no case of it: a spent budget is an
+// Why a call is refused. The paper's number of each case is one definition, `number_of`. BUDGET is no case of it: a spent budget is an
 // answer of its own, with its count. Nor is DEAD, number 7: it is no longer given, since runs may stop.
-ghost use mathlib.Core.Path.{_≡_};
-ghost use Rattle·refusal·specs.specs.Number.{numberOf};
+#![tactic(auto)]
 
+ghost use Rattle.std.specs.Prelude.{◌≡◌};
+ghost use Rattle.refusal.specs.Number.{number_of};
+
+#[derive(Clone, Copy)]
 pub enum Refusal {
     Length,
     Version,
@@ -16,6 +19,7 @@ pub enum Refusal {
 }
 
 // A refusal, and where in the message at fault the field starts that was found wrong: its offset, and 0 where no field is at fault.
+#[derive(Clone, Copy)]
 pub struct Fault {
     pub refusal: Refusal,
     pub offset: usize,
@@ -45,7 +49,7 @@ pub const PROFILE: Fault = Fault {
 impl Refusal {
     // The number that the paper gives the refusal.
     pub fn number(self) -> u8
-        ensures { λ r. ⌜ r ≡ numberOf self ⌝ }
+        ensures { result ≡ number_of self }
     {
         match self {
             Refusal::Length => 2,
@@ -64,7 +68,7 @@ impl Refusal {
 impl Fault {
     // The number that the paper gives its refusal.
     pub fn number(self) -> u8
-        ensures { λ r. ⌜ r ≡ numberOf (self .refusal) ⌝ }
+        ensures { result ≡ number_of self.refusal }
     {
         let refusal = self.refusal;
         refusal.number()

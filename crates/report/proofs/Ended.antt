@@ -1,146 +1,146 @@
 -- What settling a question with a budget of n says of the program's output, exit by exit. Assumes nothing.
-use Prim.Native.Nat.{ℕ, _+_, _-_, _≤_, _<_}
-use mathlib.Core.List.{List, _++_}
+use Prim.Native.Nat.{ℕ, ◌+◌, ◌-◌, ◌≤◌, ◌<◌}
+use mathlib.Core.List.{List, ◌++◌}
 use mathlib.Core.Bool.{Bool, true, false, cond}
-use mathlib.Core.Path.{_≡_, refl, sym, ap, ap₂, subst, _∙_}
+use mathlib.Core.Path.{◌≡◌, refl, sym, ap, ap₂, subst, ◌∙◌}
 use native.Mathlib.Omega.{arith}
 use lib.Dec.{leb, eqb}
-use lib.ListN.{length, getD}
+use lib.ListN.{length, get_or}
 use borrow.Author.Tests.{le-leb}
-use Rattle·lists.specs.Making.{span}
-use Rattle·refusal.specs.declared.Fault.{Fault}
-use Rattle·refusal.specs.Number.{overBudget, numberOf, nowhere}
-use Rattle·value.specs.Value.{atMost}
-use Rattle·wire.specs.Bytes.{Bytes, number}
-use Rattle·wire.specs.Read.{Read, good, bad, _>>=_}
-use Rattle·wire.proofs.Reading.{good-then, bad-then, bind-good}
-use Rattle·wire.proofs.Fields.{value-inside, value-is}
-use Rattle·rules.specs.Rounds.{rounds}
-use Rattle·rules.specs.Count.{count}
-use Rattle·graph.specs.Write.{writeGraph}
-use Rattle·model.specs.Model.{Model}
-use Rattle·model.specs.Message.{readModel}
-use Rattle·model.proofs.Good.{header-good, model-good}
-use Rattle·syntax.specs.Formula.{rootOf}
-use Rattle·syntax.specs.Message.{readFormula}
-use Rattle·wording.specs.Text.{text}
-use Rattle·lists.proofs.Making.{span-agree}
-use Rattle·questions.specs.Question.{Question, readQuestion, graphFor, nodesOf, rootNode}
-use Rattle·settling.specs.Answer.{roomed, readSettled, allOf, valuesOf}
-use Rattle·settling.specs.declared.AllStates.the-variants as AllStates
-use Rattle·states.proofs.Deciding.{zero-test}
-use Rattle·states.proofs.Finished.{roomed-good, ended-as, node-inside, node-holds}
-use Rattle·states.proofs.Promised.{asks}
-use Rattle·questions.proofs.Reading.{question-parts}
-use Rattle·pieces.specs.Lines.{line, refusedLine, roundsLine, stateLine}
-use Rattle·pieces.specs.Pieces.{statesLines, textIn, endedLines}
-use Rattle·report·specs.specs.Output.{budgetOf, settledLines, outputWithin, outputOf, leftOf}
+use Rattle.lists.specs.Making.{span}
+use Rattle.refusal.specs.declared.Fault.{Fault}
+use Rattle.refusal.specs.Number.{over_budget, number_of, nowhere}
+use Rattle.value.specs.Value.{at_most}
+use Rattle.wire.specs.Bytes.{Bytes, number}
+use Rattle.wire.specs.Read.{Read, good, bad, ◌>>=◌}
+use Rattle.wire.proofs.Reading.{good_then, bad_then, bind_good}
+use Rattle.wire.proofs.Fields.{value_inside, value_is}
+use Rattle.rules.specs.Rounds.{rounds}
+use Rattle.rules.specs.Count.{count}
+use Rattle.graph.specs.Write.{write_graph}
+use Rattle.model.specs.Model.{Model}
+use Rattle.model.specs.Message.{read_model}
+use Rattle.model.proofs.Good.{header_good, model_good}
+use Rattle.syntax.specs.Formula.{root_of}
+use Rattle.syntax.specs.Message.{read_formula}
+use Rattle.wording.specs.Text.{text}
+use Rattle.lists.proofs.Making.{span_agree}
+use Rattle.questions.specs.Question.{Question, read_question, graph_for, nodes_of, root_node}
+use Rattle.settling.specs.Answer.{roomed, read_settled, all_of, values_of}
+use Rattle.settling.specs.declared.AllStates.TheVariants as AllStates
+use Rattle.states.proofs.Deciding.{zero_test}
+use Rattle.states.proofs.Finished.{roomed_good, ended_as, node_inside, node_holds}
+use Rattle.states.proofs.Promised.{asks}
+use Rattle.questions.proofs.Reading.{question_parts}
+use Rattle.pieces.specs.Lines.{line, refused_line, rounds_line, state_line}
+use Rattle.pieces.specs.Pieces.{states_lines, text_in, ended_lines}
+use Rattle.report.specs.Output.{budget_of, settled_lines, output_within, output_of, left_of}
 
 -- where the budget allows the count, the lines are those of the settled question
-pub within-settles : (budget : Question → ℕ) (q : Question) → count (graphFor q) ≤ budget q → outputWithin budget (good q) ≡ settledLines q (count (graphFor q))
-unfolding outputWithin
-within-settles budget q h = rw (le-leb (count (graphFor q)) (budget q) h)
+pub within_settles : (budget : Question → ℕ) (q : Question) → count (graph_for q) ≤ budget q → output_within budget (good q) ≡ settled_lines q (count (graph_for q))
+unfolding output_within
+within_settles budget q h = rw (le-leb (count (graph_for q)) (budget q) h)
 
 -- ---- a question that is read
 
 -- its p stands at the ninth byte of the model
-propositions-at : (m : List ℕ) (M : Model) → readModel m ≡ good M → (9 ≤ length m) × (number 1 m 8 ≡ M .propositions)
-propositions-at m M e =
-    let there = header-good m _ (model-good {s = m} {M = M} e .header) .propositions-counted .there in
-    (value-inside 1 m 8 there, value-is 1 m 8 there)
+propositions_at : (m : List ℕ) (M : Model) → read_model m ≡ good M → (9 ≤ length m) × (number 1 m 8 ≡ M.propositions)
+propositions_at m M e =
+    let there = (header_good m _ (model_good {s = m} {M = M} e).header).propositions_counted.there in
+    (value_inside 1 m 8 there, value_is 1 m 8 there)
 
 -- ---- the exits
 
-module _ (m f : List ℕ) (b v : List ℕ) {budget : ℕ} (n-rounds : budget ≡ nodesOf (readQuestion m f)) where
+module _ (m f : List ℕ) (b v : List ℕ) {budget : ℕ} (n_rounds : budget ≡ nodes_of (read_question m f)) where
   -- the budget of a question that is read
-  budget-is : {q : Question} → readSettled m f b v ≡ good q → budget ≡ budgetOf q
-  unfolding readSettled nodesOf
-  budget-is {q} e =
-      let x = bind-good _ _ e in
-      let same = roomed-good (x .value) b v (x .rest) .1 in
-      n-rounds ∙ ap nodesOf (x .first ∙ ap good same)
+  budget_is : {q : Question} → read_settled m f b v ≡ good q → budget ≡ budget_of q
+  unfolding read_settled nodes_of
+  budget_is {q} e =
+      let x = bind_good _ _ e in
+      let same = (roomed_good x.value b v x.rest).1 in
+      n_rounds ∙ ap nodes_of (x.first ∙ ap good same)
 
-  pub left-is : valuesOf (readSettled m f b v) budget v ≡ leftOf (readSettled m f b v) v
-  unfolding valuesOf leftOf
-  left-is = go (readSettled m f b v) refl
+  pub left_is : values_of (read_settled m f b v) budget v ≡ left_of (read_settled m f b v) v
+  unfolding values_of left_of
+  left_is = go (read_settled m f b v) refl
     where
-      go : (x : Read Question) → readSettled m f b v ≡ x → valuesOf x budget v ≡ leftOf x v
-      go (good q) e = ap (λ (k : ℕ). valuesOf (good q) k v) (budget-is e)
+      go : (x : Read Question) → read_settled m f b v ≡ x → values_of x budget v ≡ left_of x v
+      go (good q) e = ap (λ (k : ℕ). values_of (good q) k v) (budget_is e)
       go (bad r) e = refl
 
-  pub output-refused : {e : Fault} → AllStates.Refused e ≡ allOf (readSettled m f b v) budget → outputOf (readSettled m f b v) ≡ refusedLine (numberOf (e .refusal)) (e .offset)
-  unfolding allOf outputWithin
-  output-refused {e} h = go (readSettled m f b v) h
+  pub output_refused : {e : Fault} → AllStates.Refused e ≡ all_of (read_settled m f b v) budget → output_of (read_settled m f b v) ≡ refused_line (number_of e.refusal) e.offset
+  unfolding all_of output_within
+  output_refused {e} h = go (read_settled m f b v) h
     where
       tested : (q : Question) (t : Bool) → AllStates.Refused e
-          ≡ cond t (AllStates.Settled (count (graphFor q)) (length (writeGraph (graphFor q))) (rootNode q 0) (q .model .states))
-          (AllStates.Spent budget (length (writeGraph (graphFor q)))) → ⊥
-      tested q true h = let z : _≡_ {A = ℕ} 0 1 = cc in omega arith
-      tested q false h = let z : _≡_ {A = ℕ} 0 1 = cc in omega arith
+          ≡ cond t (AllStates.Settled (count (graph_for q)) (length (write_graph (graph_for q))) (root_node q 0) q.model.states)
+          (AllStates.Spent budget (length (write_graph (graph_for q)))) → ⊥
+      tested q true h = let z : ◌≡◌ {A = ℕ} 0 1 = cc in omega arith
+      tested q false h = let z : ◌≡◌ {A = ℕ} 0 1 = cc in omega arith
 
-      go : (x : Read Question) → AllStates.Refused e ≡ allOf x budget → outputOf x ≡ refusedLine (numberOf (e .refusal)) (e .offset)
-      go (good q) h = absurd (tested q (leb (count (graphFor q)) budget) h)
+      go : (x : Read Question) → AllStates.Refused e ≡ all_of x budget → output_of x ≡ refused_line (number_of e.refusal) e.offset
+      go (good q) h = absurd (tested q (leb (count (graph_for q)) budget) h)
       go (bad r) h = let same : e ≡ r = cc in rw same
 
-  pub output-spent : {k n : ℕ} → AllStates.Spent k n ≡ allOf (readSettled m f b v) budget → outputOf (readSettled m f b v) ≡ refusedLine overBudget nowhere
-  unfolding allOf outputWithin
-  output-spent {k} {n} h = go (readSettled m f b v) refl h
+  pub output_spent : {k n : ℕ} → AllStates.Spent k n ≡ all_of (read_settled m f b v) budget → output_of (read_settled m f b v) ≡ refused_line over_budget nowhere
+  unfolding all_of output_within
+  output_spent {k} {n} h = go (read_settled m f b v) refl h
     where
       tested : (q : Question) (t : Bool) → AllStates.Spent k n
-          ≡ cond t (AllStates.Settled (count (graphFor q)) (length (writeGraph (graphFor q))) (rootNode q 0) (q .model .states))
-          (AllStates.Spent budget (length (writeGraph (graphFor q))))
-          → cond t (settledLines q (count (graphFor q))) (refusedLine overBudget nowhere) ≡ refusedLine overBudget nowhere
-      tested q true h = let z : _≡_ {A = ℕ} 0 1 = cc in absurd (omega arith)
+          ≡ cond t (AllStates.Settled (count (graph_for q)) (length (write_graph (graph_for q))) (root_node q 0) q.model.states)
+          (AllStates.Spent budget (length (write_graph (graph_for q))))
+          → cond t (settled_lines q (count (graph_for q))) (refused_line over_budget nowhere) ≡ refused_line over_budget nowhere
+      tested q true h = let z : ◌≡◌ {A = ℕ} 0 1 = cc in absurd (omega arith)
       tested q false h = refl
 
-      go : (x : Read Question) → readSettled m f b v ≡ x → AllStates.Spent k n ≡ allOf x budget → outputOf x ≡ refusedLine overBudget nowhere
+      go : (x : Read Question) → read_settled m f b v ≡ x → AllStates.Spent k n ≡ all_of x budget → output_of x ≡ refused_line over_budget nowhere
       go (good q) e h =
-          subst (λ (k : ℕ). cond (leb (count (graphFor q)) k) (settledLines q (count (graphFor q))) (refusedLine overBudget nowhere) ≡ refusedLine overBudget nowhere)
-          (budget-is e) (tested q (leb (count (graphFor q)) budget) h)
-      go (bad r) e h = let z : _≡_ {A = ℕ} 0 1 = cc in absurd (omega arith)
+          subst (λ (k : ℕ). cond (leb (count (graph_for q)) k) (settled_lines q (count (graph_for q))) (refused_line over_budget nowhere) ≡ refused_line over_budget nowhere)
+          (budget_is e) (tested q (leb (count (graph_for q)) budget) h)
+      go (bad r) e h = let z : ◌≡◌ {A = ℕ} 0 1 = cc in absurd (omega arith)
 
   -- it settled: the lines are those of the settled question
-  module _ (mb : Bytes m) (fb : Bytes f) {v′ : List ℕ} (values : v′ ≡ valuesOf (readSettled m f b v) budget v) where
+  module _ (mb : Bytes m) (fb : Bytes f) {v' : List ℕ} (values : v' ≡ values_of (read_settled m f b v) budget v) where
     pub record Done (k first states : ℕ) : Type 0 where
-      pub inside : first + states ≤ length v′
+      pub inside : first + states ≤ length v'
       pub few : states ≤ 256
       pub header : 9 ≤ length m
-      pub lines : endedLines (readFormula (number 1 m 8) f) k v′ first states ≡ outputOf (readSettled m f b v)
+      pub lines : ended_lines (read_formula (number 1 m 8) f) k v' first states ≡ output_of (read_settled m f b v)
 
-    done-for : {k n first states : ℕ} (q : Question) → readQuestion m f ≡ good q → readSettled m f b v ≡ roomed q b v
-        → AllStates.Settled k n first states ≡ allOf (roomed q b v) budget → Done k first states
-    unfolding endedLines settledLines statesLines textIn
-    done-for {k} {n} {first} {states} q e settled h =
-        let vs : v′ ≡ valuesOf (roomed q b v) budget v = rw settled at values in
-        let fin = ended-as q budget b v h in
+    done_for : {k n first states : ℕ} (q : Question) → read_question m f ≡ good q → read_settled m f b v ≡ roomed q b v
+        → AllStates.Settled k n first states ≡ all_of (roomed q b v) budget → Done k first states
+    unfolding ended_lines settled_lines states_lines text_in
+    done_for {k} {n} {first} {states} q e settled h =
+        let vs : v' ≡ values_of (roomed q b v) budget v = rw settled at values in
+        let fin = ended_as q budget b v h in
         let asked = asks m f q mb fb e in
-        let parts = question-parts m f q e in
-        let p = propositions-at m (q .model) (parts .0) in
-        let some = asked .formula-fits .some-row in
-        let last = node-inside fin some (q .model .states - 1) (omega (arith, asked .model-fits .some-state)) vs in
+        let parts = question_parts m f q e in
+        let p = propositions_at m q.model parts.0 in
+        let some = asked.formula_fits.some_row in
+        let last = node_inside fin some (q.model.states - 1) (omega (arith, asked.model_fits.some_state)) vs in
         let state : (a : ℕ) → 0 ≤ a → a < 0 + states
-        → stateLine (eqb (getD v′ (first + a) 0) 0) a ≡ stateLine (atMost (rounds (graphFor q) k (rootNode q a)) 0) a =
-        λ a u l. ap (λ t. stateLine t a) (ap (λ (z : ℕ). eqb z 0) (node-holds fin some a (omega (arith, fin .states-are)) vs) ∙ sym (zero-test (rounds (graphFor q) k (rootNode q a)))) in
-        let text-is : textIn (readFormula (number 1 m 8) f) ≡ text (rootOf (q .rows)) = rw (p .1, parts .1) in
-        let lines : statesLines v′ first states ≡ span (λ a. stateLine (atMost (rounds (graphFor q) k (rootNode q a)) 0) a) 0 (q .model .states) =
-        span-agree _ _ 0 states state ∙ ap (λ (j : ℕ). span (λ a. stateLine (atMost (rounds (graphFor q) k (rootNode q a)) 0) a) 0 j) (fin .states-are) in
-        let reads : readSettled m f b v ≡ good q = settled ∙ fin .ran .is in
-        let allowed : count (graphFor q) ≤ budgetOf q = omega (arith, fin .count-is, fin .within, budget-is reads) in
-        let out : settledLines q k ≡ outputOf (readSettled m f b v) =
-        ap (settledLines q) (fin .count-is) ∙ sym (within-settles budgetOf q allowed) ∙ ap outputOf (sym reads) in
+        → state_line (eqb (get_or v' (first + a) 0) 0) a ≡ state_line (at_most (rounds (graph_for q) k (root_node q a)) 0) a =
+        λ a u l. ap (λ t. state_line t a) (ap (λ (z : ℕ). eqb z 0) (node_holds fin some a (omega (arith, fin.states_are)) vs) ∙ sym (zero_test (rounds (graph_for q) k (root_node q a)))) in
+        let text_is : text_in (read_formula (number 1 m 8) f) ≡ text (root_of q.rows) = rw (p.1, parts.1) in
+        let lines : states_lines v' first states ≡ span (λ a. state_line (at_most (rounds (graph_for q) k (root_node q a)) 0) a) 0 q.model.states =
+        span_agree _ _ 0 states state ∙ ap (λ (j : ℕ). span (λ a. state_line (at_most (rounds (graph_for q) k (root_node q a)) 0) a) 0 j) fin.states_are in
+        let reads : read_settled m f b v ≡ good q = settled ∙ fin.ran.is in
+        let allowed : count (graph_for q) ≤ budget_of q = omega (arith, fin.count_is, fin.within, budget_is reads) in
+        let out : settled_lines q k ≡ output_of (read_settled m f b v) =
+        ap (settled_lines q) fin.count_is ∙ sym (within_settles budget_of q allowed) ∙ ap output_of (sym reads) in
         record {
-          inside = omega (arith, fin .states-are, asked .model-fits .some-state);
-          few = omega (arith, fin .states-are, asked .model-fits .states-fit);
-          header = p .0;
-          lines = ap₂ _++_ (ap (λ (s : List ℕ). line s ++ roundsLine k) text-is) lines ∙ out;
+          inside = omega (arith, fin.states_are, asked.model_fits.some_state);
+          few = omega (arith, fin.states_are, asked.model_fits.states_fit);
+          header = p.0;
+          lines = ap₂ ◌++◌ (ap (λ (s : List ℕ). line s ++ rounds_line k) text_is) lines ∙ out;
         }
 
-    pub output-done : {k n first states : ℕ} → AllStates.Settled k n first states ≡ allOf (readSettled m f b v) budget → Done k first states
-    unfolding allOf readSettled
-    output-done {k} {n} {first} {states} h = go (readQuestion m f) refl h
+    pub output_done : {k n first states : ℕ} → AllStates.Settled k n first states ≡ all_of (read_settled m f b v) budget → Done k first states
+    unfolding all_of read_settled
+    output_done {k} {n} {first} {states} h = go (read_question m f) refl h
       where
-        go : (x : Read Question) → readQuestion m f ≡ x → AllStates.Settled k n first states ≡ allOf (x >>= λ q. roomed q b v) budget → Done k first states
+        go : (x : Read Question) → read_question m f ≡ x → AllStates.Settled k n first states ≡ all_of (x >>= λ q. roomed q b v) budget → Done k first states
         go (good q) e h =
-            let h = rw (good-then q (λ q. roomed q b v)) at h in
-            done-for q e (rw e (good-then q (λ q. roomed q b v))) h
-        go (bad r) e h = let h = rw (bad-then r (λ q. roomed q b v)) at h in let z : _≡_ {A = ℕ} 0 1 = cc in absurd (omega arith)
+            let h = rw (good_then q (λ q. roomed q b v)) at h in
+            done_for q e (rw e (good_then q (λ q. roomed q b v))) h
+        go (bad r) e h = let h = rw (bad_then r (λ q. roomed q b v)) at h in let z : ◌≡◌ {A = ℕ} 0 1 = cc in absurd (omega arith)

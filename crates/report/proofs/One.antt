@@ -1,16 +1,15 @@
 -- One answer and one content of every lent room: two calls with the same arguments that satisfy the contract of a public function agree.
 -- Here a are the arguments, r is the result, and s is what stands in each argument at the end, in the order of the parameters. Assumes nothing.
-use mathlib.Core.Path.{_≡_, sym, _∙_}
-use denote.Ref.{now}
-use Rattle·report·proofs.proofs.report.Reads as report
-use Rattle·report·proofs.proofs.program.Reads as program
+use mathlib.Core.Path.{◌≡◌, sym, ◌∙◌}
+use Rattle.report.proofs.report.Reads as report
+use Rattle.report.proofs.program.Reads as program
 
 -- `report::report`: the answer, the output, the room of bytes and the room of values
-pub one-report : (κs : _) (a : _) (r r′ : _) (s s′ : _) → report.Post κs a r s → report.Post κs a r′ s′
-    → (r ≡ r′) × (now (s .1 .1 .1 .0) ≡ now (s′ .1 .1 .1 .0)) × (now (s .1 .0) ≡ now (s′ .1 .0)) × (now (s .1 .1 .0) ≡ now (s′ .1 .1 .0))
-one-report κs a r r′ s s′ p q = (p .0 ∙ sym (q .0), p .1 .0 ∙ sym (q .1 .0), p .1 .1 .0 ∙ sym (q .1 .1 .0), p .1 .1 .1 .0 ∙ sym (q .1 .1 .1 .0))
+pub one_report : (κs : _) (a : _) (r r' : _) (s s' : _) → report.Post κs a r s → report.Post κs a r' s'
+    → (r ≡ r') × (s.1.1.1.0.now ≡ s'.1.1.1.0.now) × (s.1.0.now ≡ s'.1.0.now) × (s.1.1.0.now ≡ s'.1.1.0.now)
+one_report κs a r r' s s' p q = (p.0 ∙ sym q.0, p.1.0 ∙ sym q.1.0, p.1.1.0 ∙ sym q.1.1.0, p.1.1.1.0 ∙ sym q.1.1.1.0)
 
 -- `report::program`: the answer and the output
-pub one-program : (κs : _) (a : _) (r r′ : _) (s s′ : _) → program.Post κs a r s → program.Post κs a r′ s′
-    → (r ≡ r′) × (now (s .1 .0) ≡ now (s′ .1 .0))
-one-program κs a r r′ s s′ p q = (p .0 ∙ sym (q .0), p .1 .0 ∙ sym (q .1 .0))
+pub one_program : (κs : _) (a : _) (r r' : _) (s s' : _) → program.Post κs a r s → program.Post κs a r' s'
+    → (r ≡ r') × (s.1.0.now ≡ s'.1.0.now)
+one_program κs a r r' s s' p q = (p.0 ∙ sym q.0, p.1.0 ∙ sym q.1.0)

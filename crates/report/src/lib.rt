@@ -1,21 +1,22 @@
 // What the program writes for what it reads.
-ghost use mathlib.Core.Path.{_≡_};
-ghost use Prim.Native.Nat.{_≤_};
-ghost use lib.ListN.{length};
-ghost use Rattle·io.specs.Counts.{Counts};
-ghost use Rattle·wire.specs.Laid.{Laid};
-ghost use Rattle·settling.specs.Answer.{readSettled, bytesOf};
-ghost use Rattle·report·specs.specs.Output.{readInput, outputOf, leftOf, reportLength, reportOut, reportBytes, reportValues, zeroBytes, zeroValues};
+#![tactic(auto)]
+
+ghost use Rattle.std.specs.Prelude.{◌≡◌, ◌≤◌, length};
+ghost use Rattle.std.specs.Counts.{IsPrefixLen};
+ghost use Rattle.wire.specs.Laid.{Laid};
+ghost use Rattle.settling.specs.Answer.{read_settled, bytes_of};
+ghost use Rattle.report.specs.Output.{read_input, output_of, left_of, report_length, report_out, report_bytes, report_values, zero_bytes, zero_values};
+
 use pieces::Cut;
 use verdict::AllStates;
 use wire::Width;
 
 // The output for a model and a formula; the budget is n.
 fn answer(m: &[u8], f: &[u8], bytes: &mut [u8], values: &mut [u64], out: &mut [u8]) -> usize
-    requires { ⌜ 8192 ≤ length (now out) ⌝ }
-    ensures { λ r. ⌜ Laid (now (out .entry)) 0 (outputOf (readSettled (now (m .entry)) (now (f .entry)) (now (bytes .entry)) (now (values .entry)))) (now (out .exit)) r ⌝ }
-    ensures { λ _. ⌜ now (bytes .exit) ≡ bytesOf (readSettled (now (m .entry)) (now (f .entry)) (now (bytes .entry)) (now (values .entry))) (now (bytes .entry)) ⌝ }
-    ensures { λ _. ⌜ now (values .exit) ≡ leftOf (readSettled (now (m .entry)) (now (f .entry)) (now (bytes .entry)) (now (values .entry))) (now (values .entry)) ⌝ }
+    requires { 8192 ≤ length out.old }
+    ensures laid { Laid out.old 0 (output_of (read_settled m.now f.now bytes.old values.old)) out.new result }
+    ensures bytes_after { bytes.new ≡ bytes_of (read_settled m.now f.now bytes.old values.old) bytes.old }
+    ensures values_after { values.new ≡ left_of (read_settled m.now f.now bytes.old values.old) values.old }
 {
     let budget = verdict::nodes(m, f);
     match verdict::settle(m, f, budget, bytes, values) {
@@ -30,11 +31,11 @@ fn answer(m: &[u8], f: &[u8], bytes: &mut [u8], values: &mut [u64], out: &mut [u
 
 // The program's output for its input, at the front of a room of at least 8,192 bytes; its length is returned.
 pub fn report(input: &[u8], bytes: &mut [u8], values: &mut [u64], out: &mut [u8]) -> usize
-    ensures { λ r. ⌜ r ≡ reportLength (readInput (now (input .entry)) (now (bytes .entry)) (now (values .entry))) (now (out .entry)) ⌝ }
-    ensures { λ _. ⌜ now (out .exit) ≡ reportOut (readInput (now (input .entry)) (now (bytes .entry)) (now (values .entry))) (now (out .entry)) ⌝ }
-    ensures { λ _. ⌜ now (bytes .exit) ≡ reportBytes (readInput (now (input .entry)) (now (bytes .entry)) (now (values .entry))) (now (bytes .entry)) (now (out .entry)) ⌝ }
-    ensures { λ _. ⌜ now (values .exit) ≡ reportValues (readInput (now (input .entry)) (now (bytes .entry)) (now (values .entry))) (now (values .entry)) (now (out .entry)) ⌝ }
-    ensures { λ r. ⌜ Counts r (now (out .exit)) ⌝ }
+    ensures value { result ≡ report_length (read_input input.now bytes.old values.old) out.old }
+    ensures out_after { out.new ≡ report_out (read_input input.now bytes.old values.old) out.old }
+    ensures bytes_after { bytes.new ≡ report_bytes (read_input input.now bytes.old values.old) bytes.old out.old }
+    ensures values_after { values.new ≡ report_values (read_input input.now bytes.old values.old) values.old out.old }
+    ensures prefix_len { IsPrefixLen result out.new }
 {
     if out.len() < 8192 {
         return 0;
@@ -47,9 +48,9 @@ pub fn report(input: &[u8], bytes: &mut [u8], values: &mut [u64], out: &mut [u8]
 
 // The same with rooms of the program's own: 65,536 bytes and 8,192 numbers, all zero.
 pub fn program(input: &[u8], out: &mut [u8]) -> usize
-    ensures { λ r. ⌜ r ≡ reportLength (readInput (now (input .entry)) zeroBytes zeroValues) (now (out .entry)) ⌝ }
-    ensures { λ _. ⌜ now (out .exit) ≡ reportOut (readInput (now (input .entry)) zeroBytes zeroValues) (now (out .entry)) ⌝ }
-    ensures { λ r. ⌜ Counts r (now (out .exit)) ⌝ }
+    ensures value { result ≡ report_length (read_input input.now zero_bytes zero_values) out.old }
+    ensures out_after { out.new ≡ report_out (read_input input.now zero_bytes zero_values) out.old }
+    ensures prefix_len { IsPrefixLen result out.new }
 {
     let mut bytes = [0u8; 65536];
     let mut values = [0u64; 8192];

@@ -1,26 +1,22 @@
 -- What the customer is promised of the rounds on a message, in the words of the demands.
-use Prim.Native.Nat.{ℕ, suc, _+_, _-_, _*_, _≤_, _<_}
-use mathlib.Core.List.{List}
-use mathlib.Core.Path.{_≡_}
-use mathlib.Core.Bool.{true}
-use lib.ListN.{length}
-use Rattle·refusal.specs.Number.{ok, overBudget}
-use Rattle·value.specs.Value.{finite, _≼_}
-use Rattle·rules.specs.Graph.{Graph, heaviest}
-use Rattle·rules.specs.Rounds.{rounds, Largest, Settled}
-use Rattle·rules.specs.Count.{First}
-use Rattle·rules.specs.Walks.{CoverCycle}
-use Rattle·graph.specs.Stored.{StoredGraph, ruled}
-use Rattle·graph.specs.WellFormed.{Accepted}
-use Rattle·halves.specs.Held.{held}
-use Rattle·turns.specs.Outcome.{outcomeNumber, outcomeCount}
-use Rattle·turns.specs.declared.Outcome.{Outcome}
+use Rattle.std.specs.Prelude.{ℕ, suc, ◌+◌, ◌-◌, ◌*◌, ◌≤◌, ◌<◌, List, ◌≡◌, true, length}
+use Rattle.refusal.specs.Number.{ok, over_budget}
+use Rattle.value.specs.Value.{finite, ◌≼◌}
+use Rattle.rules.specs.Graph.{Graph, heaviest}
+use Rattle.rules.specs.Rounds.{rounds, Largest, Settled}
+use Rattle.rules.specs.Count.{First}
+use Rattle.rules.specs.Walks.{CoverCycle}
+use Rattle.graph.specs.Stored.{StoredGraph, ruled}
+use Rattle.graph.specs.WellFormed.{Accepted}
+use Rattle.halves.specs.Held.{held}
+use Rattle.turns.specs.Outcome.{outcome_number, outcome_count}
+use Rattle.turns.specs.declared.Outcome.{Outcome}
 
 -- the first n numbers are round i, the next n are round i + 1, and no finite number of the two is above (n - 1) w
 pub record Halves (graph : Graph) (i : ℕ) (room : List ℕ) : Type 0 where
-  pub first-half : (v : ℕ) → v < graph .nodes → held room v ≡ rounds graph i v
-  pub second-half : (v : ℕ) → v < graph .nodes → held room (graph .nodes + v) ≡ rounds graph (suc i) v
-  pub small : (v : ℕ) → v < graph .nodes + graph .nodes → finite (held room v) ≡ true → held room v ≼ ((graph .nodes - 1) * heaviest (graph .hypers))
+  pub first_half : (v : ℕ) → v < graph.nodes → held room v ≡ rounds graph i v
+  pub second_half : (v : ℕ) → v < graph.nodes → held room (graph.nodes + v) ≡ rounds graph (suc i) v
+  pub small : (v : ℕ) → v < graph.nodes + graph.nodes → finite (held room v) ≡ true → held room v ≼ ((graph.nodes - 1) * heaviest graph.hypers)
 
 -- the rounds on a graph settled
 pub record SettledAt (graph : Graph) (budget : ℕ) (room : List ℕ) (reported : ℕ) : Type 0 where
@@ -30,8 +26,8 @@ pub record SettledAt (graph : Graph) (budget : ℕ) (room : List ℕ) (reported 
   -- the budget allows it
   pub within : reported ≤ budget
   -- it is at most n (c + 1), and at most n where no cycle passes through a cover edge
-  pub soon : reported ≤ graph .nodes * (length (graph .covers) + 1)
-  pub sooner : ¬ CoverCycle graph → reported ≤ graph .nodes
+  pub soon : reported ≤ graph.nodes * (length graph.covers + 1)
+  pub sooner : ¬ CoverCycle graph → reported ≤ graph.nodes
   -- the first n numbers are the largest assignment that obeys the rules
   pub largest : Largest graph (held room)
 
@@ -43,6 +39,6 @@ pub record SpentAt (graph : Graph) (budget : ℕ) (room : List ℕ) (reported : 
 
 -- by the number and the count that the paper gives the outcome: OK, BUDGET, or a refusal, which has count 0 and leaves the room as it came
 pub record Promise (message : List ℕ) (budget : ℕ) (before after : List ℕ) (outcome : Outcome) : Type 0 where
-  pub settled : outcomeNumber outcome ≡ ok → (graph : StoredGraph) × Accepted message graph × SettledAt (ruled graph) budget after (outcomeCount outcome)
-  pub spent : outcomeNumber outcome ≡ overBudget → (graph : StoredGraph) × Accepted message graph × SpentAt (ruled graph) budget after (outcomeCount outcome)
-  pub refused : overBudget < outcomeNumber outcome → (outcomeCount outcome ≡ 0) × (after ≡ before)
+  pub settled : outcome_number outcome ≡ ok → (graph : StoredGraph) × Accepted message graph × SettledAt (ruled graph) budget after (outcome_count outcome)
+  pub spent : outcome_number outcome ≡ over_budget → (graph : StoredGraph) × Accepted message graph × SpentAt (ruled graph) budget after (outcome_count outcome)
+  pub refused : over_budget < outcome_number outcome → (outcome_count outcome ≡ 0) × (after ≡ before)

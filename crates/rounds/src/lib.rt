@@ -1,21 +1,22 @@
 // The rounds on a graph message, in a lent room of values.
-ghost use mathlib.Core.Path.{_≡_};
-ghost use Prim.Native.Nat.{_+_, _≤_};
-ghost use lib.ListN.{length};
-ghost use Rattle·graph.specs.Layouts.{decoded};
-ghost use Rattle·graph.specs.Ready.{Ready};
-ghost use Rattle·turns.specs.Outcome.{outcomeCount, ended, filled, readRounds, outcomeOf, roundsRoom};
-ghost use Rattle·rounds·specs.specs.Promise.{Promise};
+#![tactic(auto)]
+
+ghost use Rattle.std.specs.Prelude.{◌≡◌, ◌+◌, ◌≤◌, length};
+ghost use Rattle.graph.specs.Layouts.{decoded};
+ghost use Rattle.graph.specs.Ready.{Ready};
+ghost use Rattle.turns.specs.Outcome.{outcome_count, ended, filled, read_rounds, outcome_of, rounds_room};
+ghost use Rattle.rounds.specs.Promise.{Promise};
+
 use graph::Checked;
 pub use turns::Outcome;
 
 // The rounds of a graph that is ready, until one changes nothing or the budget is spent: a leaf, for a caller that has the check's facts.
 // Round 1 needs no target, and round 2 takes every record in; many questions settle there, so what is noted is noted only after them.
 pub fn run(s: &[u8], n: usize, h: u32, c: u32, budget: u32, room: &mut [u64]) -> Outcome
-    requires { ⌜ Ready (now s) n h c ⌝ }
-    requires { ⌜ n + n ≤ length (now room) ⌝ }
-    ensures { λ r. ⌜ r ≡ ended (decoded (now (s .entry)) n h c) budget ⌝ }
-    ensures { λ r. ⌜ now (room .exit) ≡ filled (decoded (now (s .entry)) n h c) (outcomeCount r) (now (room .entry)) ⌝ }
+    requires ready { Ready s.now n h c }
+    requires n_in_bounds { n + n ≤ length room.old }
+    ensures value { result ≡ ended (decoded s.now n h c) budget }
+    ensures room_after { room.new ≡ filled (decoded s.now n h c) (outcome_count result) room.old }
 {
     halves::clear(n + n, room);
     let middle = scans::first_round(s, n, h, room);
@@ -38,9 +39,9 @@ pub fn run(s: &[u8], n: usize, h: u32, c: u32, budget: u32, room: &mut [u64]) ->
 
 // The rounds on a message: first the graph, then the room, then the budget.
 pub fn solve(message: &[u8], budget: u32, room: &mut [u64]) -> Outcome
-    ensures answer { λ r. ⌜ r ≡ outcomeOf (readRounds (now (message .entry)) (now (room .entry))) budget ⌝ }
-    ensures room { λ _. ⌜ now (room .exit) ≡ roundsRoom (readRounds (now (message .entry)) (now (room .entry))) budget (now (room .entry)) ⌝ }
-    ensures promise { λ r. ⌜ Promise (now (message .entry)) budget (now (room .entry)) (now (room .exit)) r ⌝ }
+    ensures answer { result ≡ outcome_of (read_rounds message.now room.old) budget }
+    ensures room { room.new ≡ rounds_room (read_rounds message.now room.old) budget room.old }
+    ensures promise { Promise message.now budget room.old room.new result }
 {
     match graph::check(message) {
         Checked::Refused(e) => Outcome::Refused(e),

@@ -1,8 +1,7 @@
 -- A symbolic dependency graph: hyperedges with weighted targets, and cover edges with a bound.
-use Prim.Native.Nat.{ℕ, _<_, max}
-use mathlib.Core.List.{List, [], _∷_}
-use Rattle·lists.specs.Lists.{_∈_}
-use Rattle·value.specs.declared.Bound.{Bound}
+use Rattle.std.specs.Prelude.{ℕ, ◌<◌, max, List, [], ◌∷◌}
+use Rattle.lists.specs.Lists.{◌∈◌}
+use Rattle.value.specs.declared.Bound.{Bound}
 
 -- a target of a hyperedge: a node, and the weight on the way to it
 pub record Target : Type 0 where
@@ -28,16 +27,16 @@ pub record Graph : Type 0 where
 
 -- every node that an edge names exists
 pub record Closed (g : Graph) : Type 0 where
-  pub hyper-source : {h : Hyper} → h ∈ g .hypers → h .source < g .nodes
-  pub hyper : {h : Hyper} {t : Target} → h ∈ g .hypers → t ∈ h .targets → t .node < g .nodes
-  pub cover-source : {c : Cover} → c ∈ g .covers → c .source < g .nodes
-  pub cover : {c : Cover} → c ∈ g .covers → c .target < g .nodes
+  pub hyper_source : {h : Hyper} → h ∈ g.hypers → h.source < g.nodes
+  pub hyper : {h : Hyper} {t : Target} → h ∈ g.hypers → t ∈ h.targets → t.node < g.nodes
+  pub cover_source : {c : Cover} → c ∈ g.covers → c.source < g.nodes
+  pub cover : {c : Cover} → c ∈ g.covers → c.target < g.nodes
 
 -- the largest weight of any hyperedge's target; 0 with none
-unfoldable pub heaviestOf : List Target → ℕ
-heaviestOf [] = 0
-heaviestOf (t ∷ ts) = max (t .weight) (heaviestOf ts)
+unfoldable pub heaviest_of : List Target → ℕ
+heaviest_of [] = 0
+heaviest_of (t ∷ ts) = max t.weight (heaviest_of ts)
 
 unfoldable pub heaviest : List Hyper → ℕ
 heaviest [] = 0
-heaviest (h ∷ hs) = max (heaviestOf (h .targets)) (heaviest hs)
+heaviest (h ∷ hs) = max (heaviest_of h.targets) (heaviest hs)

@@ -1,1 +1,2 @@
 // The rules of a graph: definitions and laws, no code.
+#![tactic(auto)]

@@ -1,19 +1,18 @@
 // A round, record by record: from the one half of the room into the other.
-ghost use mathlib.Core.Path.{_≡_};
-ghost use mathlib.Core.Bool.{cond};
-ghost use Prim.Native.Nat.{ℕ, _+_, _-_, _*_, _<_, _≤_, min};
-ghost use lib.ListN.{length, getD};
-ghost use Rattle·wire.specs.Bytes.{number};
-ghost use Rattle·wire.specs.Layout.{items, end, Sound};
-ghost use Rattle·value.specs.Stored.{stored, infinite};
-ghost use Rattle·rules.specs.Rounds as rules;
-ghost use Rattle·graph.specs.Format.{graphHeader, targetCountAt, coverWidth};
-ghost use Rattle·graph.specs.Layouts.{hyperLayout, coverLayout, HyperOk};
-ghost use Rattle·halves.specs.Held.{held};
-ghost use Rattle·halves.specs.Room.{half};
-ghost use Rattle·scans·specs.specs.Scan.{Sides, lowered, hyperIn, Done, partOf};
-use value::Bound;
-use value::Value;
+#![tactic(auto)]
+
+ghost use Rattle.std.specs.Prelude.{◌≡◌, cond, ℕ, ◌+◌, ◌-◌, ◌*◌, ◌<◌, ◌≤◌, min, length, get_or};
+ghost use Rattle.wire.specs.Bytes.{number};
+ghost use Rattle.wire.specs.Layout.{items, end, Sound};
+ghost use Rattle.value.specs.Stored.{stored, infinite};
+ghost use Rattle.rules.specs.Rounds as rules;
+ghost use Rattle.graph.specs.Format.{graph_header, target_count_at, cover_width};
+ghost use Rattle.graph.specs.Layouts.{hyper_layout, cover_layout, HyperOk};
+ghost use Rattle.halves.specs.Held.{held};
+ghost use Rattle.halves.specs.Room.{half};
+ghost use Rattle.scans.specs.Scan.{Sides, lowered, hyper_in, Done, part_of};
+
+use value::{Bound, Value};
 use wire::Width;
 
 // From so many targets on a hyperedge has a loop of its own.
@@ -21,10 +20,10 @@ const LONG: u32 = 8;
 
 // Lowers the next number of the source of the hyperedge at a position to a value, where that is less.
 fn lower(s: &[u8], n: usize, to: usize, at: usize, value: Value, room: &mut [u64])
-    requires { ⌜ HyperOk (now s) n at ⌝ }
-    requires { ⌜ to ≤ n ⌝ }
-    requires { ⌜ n + n ≤ length (now room) ⌝ }
-    ensures { λ _. ⌜ now (room .exit) ≡ lowered (now (s .entry)) to at (value .0) (now (room .entry)) ⌝ }
+    requires hyper_ok { HyperOk s.now n at }
+    requires to_le_n { to ≤ n }
+    requires n_in_bounds { n + n ≤ length room.old }
+    ensures { room.new ≡ lowered s.now to at value.0 room.old }
 {
     let source = wire::number_at(s, at, Width::Two) as usize;
     let j = to + source;
@@ -35,11 +34,11 @@ fn lower(s: &[u8], n: usize, to: usize, at: usize, value: Value, room: &mut [u64
 
 // Takes a hyperedge of k targets at a position into the n values of the next round.
 fn take_hyper(s: &[u8], n: usize, from: usize, to: usize, k: u32, at: usize, room: &mut [u64])
-    requires { ⌜ HyperOk (now s) n at ⌝ }
-    requires { ⌜ k ≡ number 2 (now s) (at + targetCountAt) ⌝ }
-    requires { ⌜ Sides n from to ⌝ }
-    requires { ⌜ n + n ≤ length (now room) ⌝ }
-    ensures { λ _. ⌜ now (room .exit) ≡ hyperIn (now (s .entry)) n from to at (now (room .entry)) ⌝ }
+    requires hyper_ok { HyperOk s.now n at }
+    requires k_value { k ≡ number 2 s.now (at + target_count_at) }
+    requires sides { Sides n from to }
+    requires n_in_bounds { n + n ≤ length room.old }
+    ensures { room.new ≡ hyper_in s.now n from to at room.old }
 {
     let stop = from + n;
     let value = targets::worst(s, n, &room[from..stop], k, at + graph::HYPER);
@@ -48,11 +47,11 @@ fn take_hyper(s: &[u8], n: usize, from: usize, to: usize, k: u32, at: usize, roo
 
 // The same, where there are many.
 fn take_long(s: &[u8], n: usize, from: usize, to: usize, k: u32, at: usize, room: &mut [u64])
-    requires { ⌜ HyperOk (now s) n at ⌝ }
-    requires { ⌜ k ≡ number 2 (now s) (at + targetCountAt) ⌝ }
-    requires { ⌜ Sides n from to ⌝ }
-    requires { ⌜ n + n ≤ length (now room) ⌝ }
-    ensures { λ _. ⌜ now (room .exit) ≡ hyperIn (now (s .entry)) n from to at (now (room .entry)) ⌝ }
+    requires hyper_ok { HyperOk s.now n at }
+    requires k_value { k ≡ number 2 s.now (at + target_count_at) }
+    requires sides { Sides n from to }
+    requires n_in_bounds { n + n ≤ length room.old }
+    ensures { room.new ≡ hyper_in s.now n from to at room.old }
 {
     let stop = from + n;
     let given = targets::worst_of_many(s, n, &room[from..stop], k, at + graph::HYPER);
@@ -71,13 +70,13 @@ fn take_hypers(
     at: usize,
     room: &mut [u64],
 ) -> usize
-    requires { ⌜ Sound (hyperLayout (now s) n) k at ⌝ }
-    requires { ⌜ Sides n from to ⌝ }
-    requires { ⌜ n + n ≤ length (now room) ⌝ }
-    ensures { λ r. ⌜ r ≡ end (hyperLayout (now (s .entry)) n) k at ⌝ }
-    ensures { λ _. ⌜ Done n from to (now (room .entry)) (now (room .exit)) (λ v.
-        min (getD (now (room .entry)) (to + v) 0)
-        (stored (rules.best (held (half n from (now (room .entry)))) v (items (hyperLayout (now (s .entry)) n) k at)))) ⌝ }
+    requires sound { Sound (hyper_layout s.now n) k at }
+    requires sides { Sides n from to }
+    requires n_in_bounds { n + n ≤ length room.old }
+    ensures value { result ≡ end (hyper_layout s.now n) k at }
+    ensures done { Done n from to room.old room.new (λ v.
+        min (get_or room.old (to + v) 0)
+        (stored (rules.best (held (half n from room.old)) v (items (hyper_layout s.now n) k at)))) }
 {
     let mut i = k;
     let mut p = at;
@@ -104,12 +103,12 @@ fn take_hypers(
 
 // Takes k cover edges at a position into the n values of the next round.
 fn take_covers(s: &[u8], n: usize, from: usize, to: usize, k: u32, at: usize, room: &mut [u64])
-    requires { ⌜ Sound (coverLayout (now s) n) k at ⌝ }
-    requires { ⌜ Sides n from to ⌝ }
-    requires { ⌜ n + n ≤ length (now room) ⌝ }
-    ensures { λ _. ⌜ Done n from to (now (room .entry)) (now (room .exit)) (λ v.
-        cond (rules.covered (held (half n from (now (room .entry)))) v (items (coverLayout (now (s .entry)) n) k at)) 0
-        (getD (now (room .entry)) (to + v) 0)) ⌝ }
+    requires sound { Sound (cover_layout s.now n) k at }
+    requires sides { Sides n from to }
+    requires n_in_bounds { n + n ≤ length room.old }
+    ensures { Done n from to room.old room.new (λ v.
+        cond (rules.covered (held (half n from room.old)) v (items (cover_layout s.now n) k at)) 0
+        (get_or room.old (to + v) 0)) }
 {
     let mut i = k;
     let mut p = at;
@@ -129,12 +128,12 @@ fn take_covers(s: &[u8], n: usize, from: usize, to: usize, k: u32, at: usize, ro
 
 // Takes the cover edges from number a to before number z into the second half from the first; c of them stand at `middle`.
 fn take_marked(s: &[u8], n: usize, c: u32, middle: usize, a: u32, z: u32, room: &mut [u64])
-    requires { ⌜ Sound (coverLayout (now s) n) c middle ⌝ }
-    requires { ⌜ z ≤ c ⌝ }
-    requires { ⌜ n + n ≤ length (now room) ⌝ }
-    ensures { λ _. ⌜ Done n 0 n (now (room .entry)) (now (room .exit)) (λ v.
-        cond (rules.covered (held (half n 0 (now (room .entry)))) v (items (coverLayout (now (s .entry)) n) (z - a) (middle + a * coverWidth))) 0
-        (getD (now (room .entry)) (n + v) 0)) ⌝ }
+    requires sound { Sound (cover_layout s.now n) c middle }
+    requires z_le_c { z ≤ c }
+    requires n_in_bounds { n + n ≤ length room.old }
+    ensures { Done n 0 n room.old room.new (λ v.
+        cond (rules.covered (held (half n 0 room.old)) v (items (cover_layout s.now n) (z - a) (middle + a * cover_width))) 0
+        (get_or room.old (n + v) 0)) }
 {
     if a < z {
         let at = middle + (a as usize) * graph::COVER;
@@ -154,14 +153,14 @@ pub fn next_round(
     z: u32,
     room: &mut [u64],
 ) -> usize
-    requires { ⌜ Sound (hyperLayout (now s) n) k at ⌝ }
-    requires { ⌜ Sound (coverLayout (now s) n) c middle ⌝ }
-    requires { ⌜ z ≤ c ⌝ }
-    requires { ⌜ n + n ≤ length (now room) ⌝ }
-    ensures { λ r. ⌜ r ≡ end (hyperLayout (now (s .entry)) n) k at ⌝ }
-    ensures { λ _. ⌜ Done n 0 n (now (room .entry)) (now (room .exit)) (λ v.
-        min (getD (now (room .entry)) (n + v) 0)
-        (stored (rules.round (partOf (now (s .entry)) n k at (z - a) (middle + a * coverWidth)) (held (half n 0 (now (room .entry)))) v))) ⌝ }
+    requires sound { Sound (hyper_layout s.now n) k at }
+    requires sound_2 { Sound (cover_layout s.now n) c middle }
+    requires z_le_c { z ≤ c }
+    requires n_in_bounds { n + n ≤ length room.old }
+    ensures value { result ≡ end (hyper_layout s.now n) k at }
+    ensures done { Done n 0 n room.old room.new (λ v.
+        min (get_or room.old (n + v) 0)
+        (stored (rules.round (part_of s.now n k at (z - a) (middle + a * cover_width)) (held (half n 0 room.old)) v))) }
 {
     let past = take_hypers(s, n, 0, n, k, at, room);
     take_marked(s, n, c, middle, a, z, room);
@@ -170,11 +169,11 @@ pub fn next_round(
 
 // Takes a hyperedge of k targets at a position into the second half from a first half that is infinite: only one without targets gives anything.
 fn take_first(s: &[u8], n: usize, k: u32, at: usize, room: &mut [u64])
-    requires { ⌜ HyperOk (now s) n at ⌝ }
-    requires { ⌜ k ≡ number 2 (now s) (at + targetCountAt) ⌝ }
-    requires { ⌜ n + n ≤ length (now room) ⌝ }
-    requires { ⌜ ((v : ℕ) → v < n → getD (now room) v 0 ≡ infinite) ⌝ }
-    ensures { λ _. ⌜ now (room .exit) ≡ hyperIn (now (s .entry)) n 0 n at (now (room .entry)) ⌝ }
+    requires hyper_ok { HyperOk s.now n at }
+    requires k_value { k ≡ number 2 s.now (at + target_count_at) }
+    requires n_in_bounds { n + n ≤ length room.old }
+    requires by_index { (v : ℕ) → v < n → get_or room.old v 0 ≡ infinite }
+    ensures { room.new ≡ hyper_in s.now n 0 n at room.old }
 {
     if k == 0 {
         let source = wire::number_at(s, at, Width::Two) as usize;
@@ -185,13 +184,13 @@ fn take_first(s: &[u8], n: usize, k: u32, at: usize, room: &mut [u64])
 
 // Takes all hyperedges into the second half from an infinite first, and gives the position past them. No target is read.
 pub fn first_round(s: &[u8], n: usize, h: u32, room: &mut [u64]) -> usize
-    requires { ⌜ Sound (hyperLayout (now s) n) h graphHeader ⌝ }
-    requires { ⌜ n + n ≤ length (now room) ⌝ }
-    requires { ⌜ ((v : ℕ) → v < n → getD (now room) v 0 ≡ infinite) ⌝ }
-    ensures { λ r. ⌜ r ≡ end (hyperLayout (now (s .entry)) n) h graphHeader ⌝ }
-    ensures { λ _. ⌜ Done n 0 n (now (room .entry)) (now (room .exit)) (λ v.
-        min (getD (now (room .entry)) (n + v) 0)
-        (stored (rules.best (held (half n 0 (now (room .entry)))) v (items (hyperLayout (now (s .entry)) n) h graphHeader)))) ⌝ }
+    requires sound { Sound (hyper_layout s.now n) h graph_header }
+    requires n_in_bounds { n + n ≤ length room.old }
+    requires by_index { (v : ℕ) → v < n → get_or room.old v 0 ≡ infinite }
+    ensures value { result ≡ end (hyper_layout s.now n) h graph_header }
+    ensures done { Done n 0 n room.old room.new (λ v.
+        min (get_or room.old (n + v) 0)
+        (stored (rules.best (held (half n 0 room.old)) v (items (hyper_layout s.now n) h graph_header)))) }
 {
     let mut i = h;
     let mut p: usize = graph::HEADER;

@@ -1,14 +1,18 @@
 // What a question answers, and the graph of an accepted one built and settled.
-ghost use mathlib.Core.Path.{_≡_};
-ghost use Rattle·transitions.specs.Held.{HoldsModel, HoldsRows};
-ghost use Rattle·questions.specs.Asking.{heldQuestion};
-ghost use Rattle·settling·specs.specs.Answer.{verdictNumber, answerNumber, answerOffset, answerVerdict, answerCount, answerLength, allNumber, allOffset, allCount, allLength, roomed, allOf, bytesOf, valuesOf};
+#![tactic(auto)]
+
+ghost use Rattle.std.specs.Prelude.{◌≡◌};
+ghost use Rattle.transitions.specs.Held.{HoldsModel, HoldsRows};
+ghost use Rattle.questions.specs.Asking.{held_question};
+ghost use Rattle.settling.specs.Answer.{verdict_number, answer_number, answer_offset, answer_verdict, answer_count, answer_length, all_number, all_offset, all_count, all_length, roomed, all_of, bytes_of, values_of};
+
 use build::Built;
 use refusal::Fault;
 use rounds::Outcome;
 use wire::Width;
 
 // Yes, no, or none where there is no verdict.
+#[derive(Clone, Copy)]
 pub enum Verdict {
     Yes,
     No,
@@ -16,6 +20,7 @@ pub enum Verdict {
 }
 
 // A verdict, with the count of rounds and the length of the graph; the budget spent, with both; or refused.
+#[derive(Clone, Copy)]
 pub enum Answer {
     Decided(Verdict, u32, usize),
     Spent(u32, usize),
@@ -24,6 +29,7 @@ pub enum Answer {
 
 // All states at once: settled, with the count of rounds, the length of the graph, the node of state 0, and how many states;
 // the budget spent; or refused.
+#[derive(Clone, Copy)]
 pub enum AllStates {
     Settled(u32, usize, u32, u32),
     Spent(u32, usize),
@@ -33,7 +39,7 @@ pub enum AllStates {
 impl Verdict {
     // The number of a verdict.
     pub fn number(self) -> u8
-        ensures { λ r. ⌜ r ≡ verdictNumber self ⌝ }
+        ensures { result ≡ verdict_number self }
     {
         match self {
             Verdict::None => 0,
@@ -46,7 +52,7 @@ impl Verdict {
 impl AllStates {
     // The number that the paper gives the answer.
     pub fn number(self) -> u8
-        ensures { λ r. ⌜ r ≡ allNumber self ⌝ }
+        ensures { result ≡ all_number self }
     {
         match self {
             AllStates::Settled(_, _, _, _) => 0,
@@ -57,7 +63,7 @@ impl AllStates {
 
     // Where the field starts that was found wrong, and 0 where none was.
     pub fn offset(self) -> usize
-        ensures { λ r. ⌜ r ≡ allOffset self ⌝ }
+        ensures { result ≡ all_offset self }
     {
         match self {
             AllStates::Settled(_, _, _, _) => 0,
@@ -68,7 +74,7 @@ impl AllStates {
 
     // The reported count of rounds.
     pub fn count(self) -> u32
-        ensures { λ r. ⌜ r ≡ allCount self ⌝ }
+        ensures { result ≡ all_count self }
     {
         match self {
             AllStates::Settled(m, _, _, _) => m,
@@ -79,7 +85,7 @@ impl AllStates {
 
     // The returned length of the graph.
     pub fn length(self) -> usize
-        ensures { λ r. ⌜ r ≡ allLength self ⌝ }
+        ensures { result ≡ all_length self }
     {
         match self {
             AllStates::Settled(_, n, _, _) => n,
@@ -92,7 +98,7 @@ impl AllStates {
 impl Answer {
     // The number that the paper gives the answer.
     pub fn number(self) -> u8
-        ensures { λ r. ⌜ r ≡ answerNumber self ⌝ }
+        ensures { result ≡ answer_number self }
     {
         match self {
             Answer::Decided(_, _, _) => 0,
@@ -103,7 +109,7 @@ impl Answer {
 
     // Where the field starts that was found wrong, and 0 where none was.
     pub fn offset(self) -> usize
-        ensures { λ r. ⌜ r ≡ answerOffset self ⌝ }
+        ensures { result ≡ answer_offset self }
     {
         match self {
             Answer::Decided(_, _, _) => 0,
@@ -114,7 +120,7 @@ impl Answer {
 
     // The verdict; none with a refusal and with a spent budget.
     pub fn verdict(self) -> Verdict
-        ensures { λ r. ⌜ r ≡ answerVerdict self ⌝ }
+        ensures { result ≡ answer_verdict self }
     {
         match self {
             Answer::Decided(v, _, _) => v,
@@ -125,7 +131,7 @@ impl Answer {
 
     // The reported count of rounds.
     pub fn count(self) -> u32
-        ensures { λ r. ⌜ r ≡ answerCount self ⌝ }
+        ensures { result ≡ answer_count self }
     {
         match self {
             Answer::Decided(_, m, _) => m,
@@ -136,7 +142,7 @@ impl Answer {
 
     // The returned length of the graph.
     pub fn length(self) -> usize
-        ensures { λ r. ⌜ r ≡ answerLength self ⌝ }
+        ensures { result ≡ answer_length self }
     {
         match self {
             Answer::Decided(_, _, n) => n,
@@ -159,11 +165,11 @@ pub fn settle_question(
     bytes: &mut [u8],
     values: &mut [u64],
 ) -> AllStates
-    requires { ⌜ HoldsModel (now m) n p t ⌝ }
-    requires { ⌜ HoldsRows (now f) k p ⌝ }
-    ensures { λ r. ⌜ r ≡ allOf (roomed (heldQuestion (now (m .entry)) n p t (now (f .entry)) k) (now (bytes .entry)) (now (values .entry))) budget ⌝ }
-    ensures { λ _. ⌜ now (bytes .exit) ≡ bytesOf (roomed (heldQuestion (now (m .entry)) n p t (now (f .entry)) k) (now (bytes .entry)) (now (values .entry))) (now (bytes .entry)) ⌝ }
-    ensures { λ _. ⌜ now (values .exit) ≡ valuesOf (roomed (heldQuestion (now (m .entry)) n p t (now (f .entry)) k) (now (bytes .entry)) (now (values .entry))) budget (now (values .entry)) ⌝ }
+    requires holds_model { HoldsModel m.now n p t }
+    requires holds_rows { HoldsRows f.now k p }
+    ensures value { result ≡ all_of (roomed (held_question m.now n p t f.now k) bytes.old values.old) budget }
+    ensures bytes_after { bytes.new ≡ bytes_of (roomed (held_question m.now n p t f.now k) bytes.old values.old) bytes.old }
+    ensures values_after { values.new ≡ values_of (roomed (held_question m.now n p t f.now k) bytes.old values.old) budget values.old }
 {
     let room = values.len();
     let long = match build::build(m, n, p, t, f, k, room, bytes) {

@@ -1,22 +1,21 @@
 // How much room the graph takes, before anything is written.
-ghost use mathlib.Core.Bool.{true, not};
-ghost use mathlib.Core.Path.{_≡_};
-ghost use Prim.Native.Nat.{_+_, _≤_, _<_, min, max};
-ghost use lib.ListN.{length};
-ghost use Rattle·lists.specs.Making.{span};
-ghost use Rattle·graph.specs.Format.{graphLength};
-ghost use Rattle·model.specs.Model as model;
-ghost use Rattle·syntax.specs.declared.Quantifier.the-variants.{Some, Every};
-ghost use Rattle·reduction.specs.Built as built;
-ghost use Rattle·transitions.specs.Held.{heldModel, heldRows, HoldsModel, HoldsRows, Starts};
-ghost use Rattle·sizing·specs.specs.Size.{_⊑_, inLimits, addSize, bareSize, sizeOf, sizes, stateEdges, rowsEdges, nextSize, stepSize};
-ghost use Rattle·transitions.specs.Looked.{leafEdges};
-use syntax::Action;
-use syntax::Quantifier;
-use syntax::Row;
+#![tactic(auto)]
+
+ghost use Rattle.std.specs.Prelude.{true, not, ◌≡◌, ◌+◌, ◌≤◌, ◌<◌, min, max, length};
+ghost use Rattle.lists.specs.Making.{span};
+ghost use Rattle.graph.specs.Format.{graph_length};
+ghost use Rattle.model.specs.Model as model;
+ghost use Rattle.syntax.specs.declared.Quantifier.TheVariants.{Some, Every};
+ghost use Rattle.reduction.specs.Built as built;
+ghost use Rattle.transitions.specs.Held.{held_model, held_rows, HoldsModel, HoldsRows, Starts};
+ghost use Rattle.sizing.specs.Size.{◌⊑◌, in_limits, add_size, bare_size, size_of, sizes, state_edges, rows_edges, next_size, step_size};
+ghost use Rattle.transitions.specs.Looked.{leaf_edges};
+
+use syntax::{Action, Quantifier, Row};
 use value::Bound;
 
 // How many hyperedges, how many targets in all, and in the one with the most.
+#[derive(Clone, Copy)]
 pub struct Size {
     pub hypers: u64,
     pub targets: u64,
@@ -33,8 +32,8 @@ impl Size {
 
     // The sizes of two lists of hyperedges, one behind the other.
     fn plus(self, other: Size) -> Size
-        requires { ⌜ (self .hypers + other .hypers < 1000000000000) × (self .targets + other .targets < 1000000000000) ⌝ }
-        ensures { λ r. ⌜ r ≡ addSize self other ⌝ }
+        requires { (self.hypers + other.hypers < 1000000000000) × (self.targets + other.targets < 1000000000000) }
+        ensures { result ≡ add_size self other }
     {
         Size {
             hypers: self.hypers + other.hypers,
@@ -50,8 +49,8 @@ impl Size {
 
 // In how many states a proposition holds.
 fn count_held(m: &[u8], n: u32, p: u32, t: u32, i: u32) -> u64
-    requires { ⌜ HoldsModel (now m) n p t ⌝ }
-    ensures { λ r. ⌜ (r ≤ n) × (bareSize r ≡ sizes (λ a. sizeOf (leafEdges (model.holds (heldModel (now (m .entry)) n p t) i a))) 0 n) ⌝ }
+    requires { HoldsModel m.now n p t }
+    ensures { (result ≤ n) × (bare_size result ≡ sizes (λ a. size_of (leaf_edges (model.holds (held_model m.now n p t) i a))) 0 n) }
 {
     let mut held: u64 = 0;
     let mut a: u32 = 0;
@@ -65,7 +64,7 @@ fn count_held(m: &[u8], n: u32, p: u32, t: u32, i: u32) -> u64
 
 // The size of so many hyperedges without targets.
 fn bare(hypers: u64) -> Size
-    ensures { λ r. ⌜ r ≡ bareSize hypers ⌝ }
+    ensures { result ≡ bare_size hypers }
 {
     Size {
         hypers: hypers,
@@ -76,7 +75,7 @@ fn bare(hypers: u64) -> Size
 
 // The larger of two numbers.
 fn larger(x: u64, y: u64) -> u64
-    ensures { λ r. ⌜ r ≡ max x y ⌝ }
+    ensures { result ≡ max x y }
 {
     if x < y {
         return y;
@@ -86,7 +85,7 @@ fn larger(x: u64, y: u64) -> u64
 
 // One of any, and none of none.
 fn any_of(x: u64) -> u64
-    ensures { λ r. ⌜ r ≡ min x 1 ⌝ }
+    ensures { result ≡ min x 1 }
 {
     if x < 1 {
         return 0;
@@ -96,8 +95,8 @@ fn any_of(x: u64) -> u64
 
 // EX has a hyperedge for each transition that it looks at: those of all states are those of the model.
 fn some_next(m: &[u8], n: u32, p: u32, t: u32, action: Action, bound: Bound) -> Size
-    requires { ⌜ HoldsModel (now m) n p t ⌝ }
-    ensures { λ r. ⌜ r ≡ sizes (λ a. nextSize Some (length (built.near (heldModel (now (m .entry)) n p t) action bound a))) 0 n ⌝ }
+    requires { HoldsModel m.now n p t }
+    ensures { result ≡ sizes (λ a. next_size Some (length (built.near (held_model m.now n p t) action bound a))) 0 n }
 {
     let near = transitions::near_count(m, n, 0, t, action, bound);
     Size {
@@ -109,9 +108,9 @@ fn some_next(m: &[u8], n: u32, p: u32, t: u32, action: Action, bound: Bound) -> 
 
 // AX has a hyperedge in each state, with all transitions that it looks at.
 fn every_next(m: &[u8], n: u32, p: u32, t: u32, table: &[u32], action: Action, bound: Bound) -> Size
-    requires { ⌜ HoldsModel (now m) n p t ⌝ }
-    requires { ⌜ (n < length (now table)) × Starts (now m) n t (now table) ⌝ }
-    ensures { λ r. ⌜ r ≡ sizes (λ a. nextSize Every (length (built.near (heldModel (now (m .entry)) n p t) action bound a))) 0 n ⌝ }
+    requires holds_model { HoldsModel m.now n p t }
+    requires n_in_bounds { (n < length table.now) × Starts m.now n t table.now }
+    ensures { result ≡ sizes (λ a. next_size Every (length (built.near (held_model m.now n p t) action bound a))) 0 n }
 {
     let mut targets: u64 = 0;
     let mut most: u64 = 0;
@@ -134,8 +133,8 @@ fn every_next(m: &[u8], n: u32, p: u32, t: u32, table: &[u32], action: Action, b
 
 // E until has a hyperedge in each state, and one for each transition: those of all states are those of the model.
 fn some_until(m: &[u8], n: u32, p: u32, t: u32) -> Size
-    requires { ⌜ HoldsModel (now m) n p t ⌝ }
-    ensures { λ r. ⌜ r ≡ sizes (λ a. stepSize Some (length (built.out (heldModel (now (m .entry)) n p t) a))) 0 n ⌝ }
+    requires { HoldsModel m.now n p t }
+    ensures { result ≡ sizes (λ a. step_size Some (length (built.out (held_model m.now n p t) a))) 0 n }
 {
     let all = n as u64;
     let many = t as u64;
@@ -148,9 +147,9 @@ fn some_until(m: &[u8], n: u32, p: u32, t: u32) -> Size
 
 // A until has a hyperedge in each state, and one more where there are transitions, with all of them.
 fn every_until(m: &[u8], n: u32, p: u32, t: u32, table: &[u32]) -> Size
-    requires { ⌜ HoldsModel (now m) n p t ⌝ }
-    requires { ⌜ (n < length (now table)) × Starts (now m) n t (now table) ⌝ }
-    ensures { λ r. ⌜ r ≡ sizes (λ a. stepSize Every (length (built.out (heldModel (now (m .entry)) n p t) a))) 0 n ⌝ }
+    requires holds_model { HoldsModel m.now n p t }
+    requires n_in_bounds { (n < length table.now) × Starts m.now n t table.now }
+    ensures { result ≡ sizes (λ a. step_size Every (length (built.out (held_model m.now n p t) a))) 0 n }
 {
     let mut hypers: u64 = 0;
     let mut targets: u64 = 0;
@@ -175,9 +174,9 @@ fn every_until(m: &[u8], n: u32, p: u32, t: u32, table: &[u32]) -> Size
 
 // The size of the hyperedges of a row's nodes and helpers, over all states.
 fn row_total(m: &[u8], n: u32, p: u32, t: u32, table: &[u32], row: Row) -> Size
-    requires { ⌜ HoldsModel (now m) n p t ⌝ }
-    requires { ⌜ (n < length (now table)) × Starts (now m) n t (now table) ⌝ }
-    ensures { λ r. ⌜ r ≡ sizeOf (span (stateEdges (heldModel (now (m .entry)) n p t) row) 0 n) ⌝ }
+    requires holds_model { HoldsModel m.now n p t }
+    requires n_in_bounds { (n < length table.now) × Starts m.now n t table.now }
+    ensures { result ≡ size_of (span (state_edges (held_model m.now n p t) row) 0 n) }
 {
     let all = n as u64;
     let twice = all * 2;
@@ -209,10 +208,10 @@ fn row_total(m: &[u8], n: u32, p: u32, t: u32, table: &[u32], row: Row) -> Size
 
 // No less than that, without a look at a label or a transition: the rows that are worked out have hyperedges in every state or are untils.
 fn row_most(m: &[u8], n: u32, p: u32, t: u32, table: &[u32], row: Row) -> Size
-    requires { ⌜ HoldsModel (now m) n p t ⌝ }
-    requires { ⌜ (n < length (now table)) × Starts (now m) n t (now table) ⌝ }
-    ensures { λ r. ⌜ sizeOf (span (stateEdges (heldModel (now (m .entry)) n p t) row) 0 n) ⊑ r ⌝ }
-    ensures { λ r. ⌜ (r .hypers ≤ 67108864) × (r .targets ≤ 67108864) ⌝ }
+    requires holds_model { HoldsModel m.now n p t }
+    requires n_in_bounds { (n < length table.now) × Starts m.now n t table.now }
+    ensures size_of { size_of (span (state_edges (held_model m.now n p t) row) 0 n) ⊑ result }
+    ensures hypers_bound { (result.hypers ≤ 67108864) × (result.targets ≤ 67108864) }
 {
     let all = n as u64;
     let many = t as u64;
@@ -237,10 +236,10 @@ fn row_most(m: &[u8], n: u32, p: u32, t: u32, table: &[u32], row: Row) -> Size
 
 // The size of all hyperedges of the graph.
 pub fn total_size(m: &[u8], n: u32, p: u32, t: u32, table: &[u32], f: &[u8], k: u32) -> Size
-    requires { ⌜ HoldsModel (now m) n p t ⌝ }
-    requires { ⌜ (n < length (now table)) × Starts (now m) n t (now table) ⌝ }
-    requires { ⌜ HoldsRows (now f) k p ⌝ }
-    ensures { λ r. ⌜ r ≡ sizeOf (rowsEdges (heldModel (now (m .entry)) n p t) (heldRows (now (f .entry)) k)) ⌝ }
+    requires holds_model { HoldsModel m.now n p t }
+    requires n_in_bounds { (n < length table.now) × Starts m.now n t table.now }
+    requires holds_rows { HoldsRows f.now k p }
+    ensures { result ≡ size_of (rows_edges (held_model m.now n p t) (held_rows f.now k)) }
 {
     let mut sum = Size::NONE;
     let mut at = syntax::HEADER;
@@ -256,10 +255,10 @@ pub fn total_size(m: &[u8], n: u32, p: u32, t: u32, table: &[u32], f: &[u8], k: 
 
 // No less than the size of all hyperedges of the graph.
 pub fn total_most(m: &[u8], n: u32, p: u32, t: u32, table: &[u32], f: &[u8], k: u32) -> Size
-    requires { ⌜ HoldsModel (now m) n p t ⌝ }
-    requires { ⌜ (n < length (now table)) × Starts (now m) n t (now table) ⌝ }
-    requires { ⌜ HoldsRows (now f) k p ⌝ }
-    ensures { λ r. ⌜ sizeOf (rowsEdges (heldModel (now (m .entry)) n p t) (heldRows (now (f .entry)) k)) ⊑ r ⌝ }
+    requires holds_model { HoldsModel m.now n p t }
+    requires n_in_bounds { (n < length table.now) × Starts m.now n t table.now }
+    requires holds_rows { HoldsRows f.now k p }
+    ensures { size_of (rows_edges (held_model m.now n p t) (held_rows f.now k)) ⊑ result }
 {
     let mut sum = Size::NONE;
     let mut at = syntax::HEADER;
@@ -275,8 +274,8 @@ pub fn total_most(m: &[u8], n: u32, p: u32, t: u32, table: &[u32], f: &[u8], k: 
 
 // How many until rows there are.
 pub fn count_untils(f: &[u8], k: u32, p: u32) -> u32
-    requires { ⌜ HoldsRows (now f) k p ⌝ }
-    ensures { λ r. ⌜ r ≡ length (built.untils (heldRows (now (f .entry)) k)) ⌝ }
+    requires { HoldsRows f.now k p }
+    ensures { result ≡ length (built.untils (held_rows f.now k)) }
 {
     let mut untils: u32 = 0;
     let mut at = syntax::HEADER;
@@ -294,7 +293,7 @@ pub fn count_untils(f: &[u8], k: u32, p: u32) -> u32
 
 // Whether the graph would pass a limit: there are no more cover edges than nodes.
 pub fn too_large(nodes: u32, size: Size) -> bool
-    ensures { λ r. ⌜ r ≡ not (inLimits nodes size) ⌝ }
+    ensures { result ≡ not (in_limits nodes size) }
 {
     if 4096 < nodes {
         return true;
@@ -310,8 +309,8 @@ pub fn too_large(nodes: u32, size: Size) -> bool
 
 // The length of the message of a graph of this size, with so many cover edges.
 pub fn message_length(size: Size, covers: u32) -> usize
-    requires { ⌜ inLimits covers size ≡ true ⌝ }
-    ensures { λ r. ⌜ r ≡ graphLength (size .hypers) (size .targets) covers ⌝ }
+    requires { in_limits covers size ≡ true }
+    ensures { result ≡ graph_length size.hypers size.targets covers }
 {
     graph::HEADER
         + (size.hypers as usize) * graph::HYPER

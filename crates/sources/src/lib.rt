@@ -1,20 +1,22 @@
 // Between which sources some of a graph's records stand, whose sources never fall.
-ghost use mathlib.Core.Path.{_≡_};
-ghost use Prim.Native.Nat.{ℕ, _<_, _≤_, min, max};
-ghost use Rattle·wire.specs.Bytes.{number};
-ghost use Rattle·wire.specs.Layout.{end, Sound};
-ghost use Rattle·graph.specs.Format.{graphHeader};
-ghost use Rattle·graph.specs.Layouts.{hyperLayout, coverLayout};
-ghost use Rattle·graph.specs.Ready.{Climbs};
+#![tactic(auto)]
+
+ghost use Rattle.std.specs.Prelude.{◌≡◌, ℕ, ◌<◌, ◌≤◌, min, max};
+ghost use Rattle.wire.specs.Bytes.{number};
+ghost use Rattle.wire.specs.Layout.{end, Sound};
+ghost use Rattle.graph.specs.Format.{graph_header};
+ghost use Rattle.graph.specs.Layouts.{hyper_layout, cover_layout};
+ghost use Rattle.graph.specs.Ready.{Climbs};
+
 use wire::Width;
 
 // The sources of the hyperedges from number a, at a position, to before number z, at another, are from the first on ..
 pub fn hypers_from(s: &[u8], n: usize, h: u32, a: u32, z: u32, at: usize) -> usize
-    requires { ⌜ Sound (hyperLayout (now s) n) h graphHeader ⌝ }
-    requires { ⌜ Climbs (now s) (hyperLayout (now s) n) h graphHeader ⌝ }
-    requires { ⌜ z ≤ h ⌝ }
-    requires { ⌜ (a < z → at ≡ end (hyperLayout (now s) n) a graphHeader) ⌝ }
-    ensures { λ r. ⌜ (r ≤ n) × ((j : ℕ) → a ≤ j → j < z → r ≤ number 2 (now (s .entry)) (end (hyperLayout (now (s .entry)) n) j graphHeader)) ⌝ }
+    requires sound { Sound (hyper_layout s.now n) h graph_header }
+    requires climbs { Climbs s.now (hyper_layout s.now n) h graph_header }
+    requires z_le_h { z ≤ h }
+    requires at_value { a < z → at ≡ end (hyper_layout s.now n) a graph_header }
+    ensures { (result ≤ n) × ((j : ℕ) → a ≤ j → j < z → result ≤ number 2 s.now (end (hyper_layout s.now n) j graph_header)) }
 {
     if a < z {
         return wire::number_at(s, at, Width::Two) as usize;
@@ -24,11 +26,11 @@ pub fn hypers_from(s: &[u8], n: usize, h: u32, a: u32, z: u32, at: usize) -> usi
 
 // .. and before what this gives.
 pub fn hypers_to(s: &[u8], n: usize, h: u32, a: u32, z: u32, past: usize) -> usize
-    requires { ⌜ Sound (hyperLayout (now s) n) h graphHeader ⌝ }
-    requires { ⌜ Climbs (now s) (hyperLayout (now s) n) h graphHeader ⌝ }
-    requires { ⌜ z ≤ h ⌝ }
-    requires { ⌜ (a < z → past ≡ end (hyperLayout (now s) n) z graphHeader) ⌝ }
-    ensures { λ r. ⌜ (r ≤ n) × ((j : ℕ) → a ≤ j → j < z → number 2 (now (s .entry)) (end (hyperLayout (now (s .entry)) n) j graphHeader) < r) ⌝ }
+    requires sound { Sound (hyper_layout s.now n) h graph_header }
+    requires climbs { Climbs s.now (hyper_layout s.now n) h graph_header }
+    requires z_le_h { z ≤ h }
+    requires past_value { a < z → past ≡ end (hyper_layout s.now n) z graph_header }
+    ensures { (result ≤ n) × ((j : ℕ) → a ≤ j → j < z → number 2 s.now (end (hyper_layout s.now n) j graph_header) < result) }
 {
     if z <= a {
         return 0;
@@ -42,10 +44,10 @@ pub fn hypers_to(s: &[u8], n: usize, h: u32, a: u32, z: u32, past: usize) -> usi
 
 // The same of cover edges.
 pub fn covers_from(s: &[u8], n: usize, c: u32, middle: usize, a: u32, z: u32) -> usize
-    requires { ⌜ Sound (coverLayout (now s) n) c middle ⌝ }
-    requires { ⌜ Climbs (now s) (coverLayout (now s) n) c middle ⌝ }
-    requires { ⌜ z ≤ c ⌝ }
-    ensures { λ r. ⌜ (r ≤ n) × ((j : ℕ) → a ≤ j → j < z → r ≤ number 2 (now (s .entry)) (end (coverLayout (now (s .entry)) n) j middle)) ⌝ }
+    requires sound { Sound (cover_layout s.now n) c middle }
+    requires climbs { Climbs s.now (cover_layout s.now n) c middle }
+    requires z_le_c { z ≤ c }
+    ensures { (result ≤ n) × ((j : ℕ) → a ≤ j → j < z → result ≤ number 2 s.now (end (cover_layout s.now n) j middle)) }
 {
     if a < z {
         let at = middle + (a as usize) * graph::COVER;
@@ -55,10 +57,10 @@ pub fn covers_from(s: &[u8], n: usize, c: u32, middle: usize, a: u32, z: u32) ->
 }
 
 pub fn covers_to(s: &[u8], n: usize, c: u32, middle: usize, a: u32, z: u32) -> usize
-    requires { ⌜ Sound (coverLayout (now s) n) c middle ⌝ }
-    requires { ⌜ Climbs (now s) (coverLayout (now s) n) c middle ⌝ }
-    requires { ⌜ z ≤ c ⌝ }
-    ensures { λ r. ⌜ (r ≤ n) × ((j : ℕ) → a ≤ j → j < z → number 2 (now (s .entry)) (end (coverLayout (now (s .entry)) n) j middle) < r) ⌝ }
+    requires sound { Sound (cover_layout s.now n) c middle }
+    requires climbs { Climbs s.now (cover_layout s.now n) c middle }
+    requires z_le_c { z ≤ c }
+    ensures { (result ≤ n) × ((j : ℕ) → a ≤ j → j < z → number 2 s.now (end (cover_layout s.now n) j middle) < result) }
 {
     if z <= a {
         return 0;
@@ -70,7 +72,7 @@ pub fn covers_to(s: &[u8], n: usize, c: u32, middle: usize, a: u32, z: u32) -> u
 
 // The lesser and the greater of two numbers.
 pub fn nearer(a: usize, b: usize) -> usize
-    ensures { λ r. ⌜ r ≡ min a b ⌝ }
+    ensures { result ≡ min a b }
 {
     if a < b {
         return a;
@@ -79,7 +81,7 @@ pub fn nearer(a: usize, b: usize) -> usize
 }
 
 pub fn farther(a: usize, b: usize) -> usize
-    ensures { λ r. ⌜ r ≡ max a b ⌝ }
+    ensures { result ≡ max a b }
 {
     if a < b {
         return b;

@@ -1,67 +1,66 @@
 -- The graph of a question alone: what the builder answers and leaves where values enough are lent, and what the customer is promised of it.
 -- Assumes nothing.
-use Prim.Native.Nat.{ℕ, _+_}
-use mathlib.Core.List.{List, _++_}
+use Prim.Native.Nat.{ℕ, ◌+◌}
+use mathlib.Core.List.{List, ◌++◌}
 use mathlib.Core.Bool.{Bool, true, false, cond, and-true}
-use mathlib.Core.Path.{_≡_, refl, _∙_}
+use mathlib.Core.Path.{◌≡◌, refl, ◌∙◌}
 use lib.ListN.{length, drop}
 use lib.Dec.{leb}
 use borrow.Author.Tests.{le-leb}
 use native.Mathlib.Omega.{arith}
-use Rattle·lists.proofs.Tests.{by-test}
-use Rattle·refusal.specs.Number.{nowhere, unplaced}
-use Rattle·refusal.specs.declared.Fault.{Fault}
-use Rattle·refusal.specs.declared.Refusal.the-variants.{Room, Size}
-use Rattle·refusal.proofs.Numbers.{number-above}
-use Rattle·wire.specs.Bytes.{Bytes}
-use Rattle·wire.specs.Read.{Read, good, bad, _>>=_, _>>_, unless, demand}
-use Rattle·wire.proofs.Reading.{good-then, bad-then}
-use Rattle·rules.specs.Graph.{Graph}
-use Rattle·graph.specs.Write.{writeGraph}
-use Rattle·build.specs.declared.Built.{Built}
-use Rattle·build.specs.declared.Built.the-variants as Built
-use Rattle·build.specs.Built.{fits, roomy, builtOf, builtRoom}
-use Rattle·build.proofs.Writing.{fits-each}
-use Rattle·questions.specs.Question.{Question, readQuestion, graphFor}
-use Rattle·questions.specs.Asking.{heldQuestion, Held}
-use Rattle·settling.specs.Answer.{sized, readBuilt, builtAlone, bytesOf}
-use Rattle·states·specs.specs.Promise.{Asks, PromiseGraph}
-use Rattle·states·proofs.proofs.Fitting.{stands}
-use Rattle·states·proofs.proofs.Promised.{asks}
+use Rattle.lists.proofs.Tests.{by_test}
+use Rattle.refusal.specs.Number.{nowhere, unplaced}
+use Rattle.refusal.specs.declared.Fault.{Fault}
+use Rattle.refusal.specs.declared.Refusal.TheVariants.{Room, Size}
+use Rattle.refusal.proofs.Numbers.{number_above}
+use Rattle.wire.specs.Bytes.{Bytes}
+use Rattle.wire.specs.Read.{Read, good, bad, ◌>>=◌, ◌>>◌, unless, demand}
+use Rattle.wire.proofs.Reading.{good_then, bad_then}
+use Rattle.rules.specs.Graph.{Graph}
+use Rattle.graph.specs.Write.{write_graph}
+use Rattle.build.specs.declared.Built.{Built}
+use Rattle.build.specs.Built.{fits, roomy, built_of, built_room}
+use Rattle.build.proofs.Writing.{fits_each}
+use Rattle.questions.specs.Question.{Question, read_question, graph_for}
+use Rattle.questions.specs.Asking.{held_question, Held}
+use Rattle.settling.specs.Answer.{sized, read_built, built_alone, bytes_of}
+use Rattle.states.specs.Promise.{Asks, PromiseGraph}
+use Rattle.states.proofs.Fitting.{stands}
+use Rattle.states.proofs.Promised.{asks}
 
 -- a graph that passes no limit has room for two rounds in 8,192 values, so only its message has to fit
-enough-values : (g : Graph) (b : List ℕ) → fits g ≡ true → roomy g b 8192 ≡ leb (length (writeGraph g)) (length b)
+enough_values : (g : Graph) (b : List ℕ) → fits g ≡ true → roomy g b 8192 ≡ leb (length (write_graph g)) (length b)
 unfolding roomy
-enough-values g b e = rw (le-leb (g .nodes + g .nodes) 8192 (omega (arith, fits-each g e .nodes-fit))) (and-true _)
+enough_values g b e = rw (le-leb (g.nodes + g.nodes) 8192 (omega (arith, (fits_each g e).nodes_fit))) (and-true _)
 
 -- a refusal's number is not OK's
 refused : (m f b : List ℕ) (e : Fault) → PromiseGraph m f b b (Built.Refused e)
-refused m f b e = let above = number-above (e .refusal) in record { builds = λ z. absurd (omega arith); refuses = λ z. (refl, refl) }
+refused m f b e = let above = number_above e.refusal in record { builds = λ z. absurd (omega arith); refuses = λ z. (refl, refl) }
 
 module _ (q : Question) (b : List ℕ) where
   abbrev g : Graph
-  g = graphFor q
+  g = graph_for q
 
   abbrev w : List ℕ
-  w = writeGraph g
+  w = write_graph g
 
-  built-is : (builtOf g b 8192 ≡ builtAlone (sized q b)) × (builtRoom g b 8192 ≡ bytesOf (sized q b) b)
-  unfolding builtOf builtRoom builtAlone bytesOf sized _>>_ unless
-  built-is = by-test (fits g) (λ e. rw (e, enough-values g b e) (fitting (leb (length w) (length b)))) (λ e. rw e (refl, refl))
+  built_is : (built_of g b 8192 ≡ built_alone (sized q b)) × (built_room g b 8192 ≡ bytes_of (sized q b) b)
+  unfolding built_of built_room built_alone bytes_of sized ◌>>◌ unless
+  built_is = by_test (fits g) (λ e. rw (e, enough_values g b e) (fitting (leb (length w) (length b)))) (λ e. rw e (refl, refl))
     where
-      fitting : (u : Bool) → (cond u (Built.Graph (length w)) (Built.Refused (unplaced Room)) ≡ builtAlone (demand u Room nowhere >> good q))
-          × (cond u (w ++ drop (length w) b) b ≡ bytesOf (demand u Room nowhere >> good q) b)
+      fitting : (u : Bool) → (cond u (Built.Graph (length w)) (Built.Refused (unplaced Room)) ≡ built_alone (demand u Room nowhere >> good q))
+          × (cond u (w ++ drop (length w) b) b ≡ bytes_of (demand u Room nowhere >> good q) b)
       fitting true = (refl, refl)
       fitting false = (refl, refl)
 
   -- what is promised of it
-  kept-sized : (m f : List ℕ) → Asks m f q → PromiseGraph m f b (bytesOf (sized q b) b) (builtAlone (sized q b))
-  unfolding builtAlone bytesOf sized _>>_ unless
-  kept-sized m f asked = go (fits g) (leb (length w) (length b)) refl
+  kept_sized : (m f : List ℕ) → Asks m f q → PromiseGraph m f b (bytes_of (sized q b) b) (built_alone (sized q b))
+  unfolding built_alone bytes_of sized ◌>>◌ unless
+  kept_sized m f asked = go (fits g) (leb (length w) (length b)) refl
     where
-      go : (t u : Bool) → fits g ≡ t → let x = demand t Size nowhere >> (demand u Room nowhere >> good q) in PromiseGraph m f b (bytesOf x b) (builtAlone x)
+      go : (t u : Bool) → fits g ≡ t → let x = demand t Size nowhere >> (demand u Room nowhere >> good q) in PromiseGraph m f b (bytes_of x b) (built_alone x)
       go true true e = record {
-        builds = λ z. record { question = q; asked = asked; graph = stands q (asked .model-fits) (asked .formula-fits) e b refl refl };
+        builds = λ z. record { question = q; asked = asked; graph = stands q asked.model_fits asked.formula_fits e b refl refl };
         refuses = λ z. absurd (omega arith);
       }
       go true false e = refused m f b (unplaced Room)
@@ -69,31 +68,31 @@ module _ (q : Question) (b : List ℕ) where
 
 -- whatever is read
 module _ (m f : List ℕ) (mb : Bytes m) (fb : Bytes f) (b : List ℕ) where
-  kept-graph : let x = readBuilt m f b in PromiseGraph m f b (bytesOf x b) (builtAlone x)
-  unfolding builtAlone bytesOf readBuilt
-  kept-graph = read (readQuestion m f) refl
+  kept_graph : let x = read_built m f b in PromiseGraph m f b (bytes_of x b) (built_alone x)
+  unfolding built_alone bytes_of read_built
+  kept_graph = read (read_question m f) refl
     where
-      read : (x : Read Question) → readQuestion m f ≡ x → let y = x >>= λ q. sized q b in PromiseGraph m f b (bytesOf y b) (builtAlone y)
-      read (good q) e = rw (good-then q (λ q. sized q b)) (kept-sized q b m f (asks m f q mb fb e))
-      read (bad r) e = rw (bad-then r (λ q. sized q b)) (refused m f b r)
+      read : (x : Read Question) → read_question m f ≡ x → let y = x >>= λ q. sized q b in PromiseGraph m f b (bytes_of y b) (built_alone y)
+      read (good q) e = rw (good_then q (λ q. sized q b)) (kept_sized q b m f (asks m f q mb fb e))
+      read (bad r) e = rw (bad_then r (λ q. sized q b)) (refused m f b r)
 
   -- what is shown of a call
   abbrev pub ShownGraph : Built → List ℕ → Type 0
-  ShownGraph r b′ = let x = readBuilt m f b in (r ≡ builtAlone x) × ((b′ ≡ bytesOf x b) × PromiseGraph m f b b′ r)
+  ShownGraph r b' = let x = read_built m f b in (r ≡ built_alone x) × ((b' ≡ bytes_of x b) × PromiseGraph m f b b' r)
 
-  shown : (r : Built) (b′ : List ℕ) → r ≡ builtAlone (readBuilt m f b) → b′ ≡ bytesOf (readBuilt m f b) b → ShownGraph r b′
-  shown r b′ p s = (p, (s, rw (p, s) kept-graph))
+  shown : (r : Built) (b' : List ℕ) → r ≡ built_alone (read_built m f b) → b' ≡ bytes_of (read_built m f b) b → ShownGraph r b'
+  shown r b' p s = (p, (s, rw (p, s) kept_graph))
 
   -- the model or the formula is refused
-  pub graph-refused : {e : Fault} → readQuestion m f ≡ bad e → ShownGraph (Built.Refused e) b
-  unfolding builtAlone bytesOf readBuilt
-  graph-refused {e} h = let is : readBuilt m f b ≡ bad e = rw h (bad-then _ _) in shown _ _ (rw is) (rw is)
+  pub graph_refused : {e : Fault} → read_question m f ≡ bad e → ShownGraph (Built.Refused e) b
+  unfolding built_alone bytes_of read_built
+  graph_refused {e} h = let is : read_built m f b ≡ bad e = rw h (bad_then _ _) in shown _ _ (rw is) (rw is)
 
   -- both are accepted
-  pub graph-built : {n p t k : ℕ} {r : Built} {b′ : List ℕ} → Held m f n p t k
-      → let g = graphFor (heldQuestion m n p t f k) in (r ≡ builtOf g b 8192) × (b′ ≡ builtRoom g b 8192) → ShownGraph r b′
-  unfolding readBuilt
-  graph-built {n} {p} {t} {k} held s =
-      let q = heldQuestion m n p t f k in
-      let is : readBuilt m f b ≡ sized q b = rw (held .reads) (good-then _ _) in
-      shown _ _ (rw is (s .0 ∙ built-is q b .0)) (rw is (s .1 ∙ built-is q b .1))
+  pub graph_built : {n p t k : ℕ} {r : Built} {b' : List ℕ} → Held m f n p t k
+      → let g = graph_for (held_question m n p t f k) in (r ≡ built_of g b 8192) × (b' ≡ built_room g b 8192) → ShownGraph r b'
+  unfolding read_built
+  graph_built {n} {p} {t} {k} held s =
+      let q = held_question m n p t f k in
+      let is : read_built m f b ≡ sized q b = rw held.reads (good_then _ _) in
+      shown _ _ (rw is (s.0 ∙ (built_is q b).0)) (rw is (s.1 ∙ (built_is q b).1))

@@ -1,150 +1,144 @@
 -- What the customer is promised of a verdict, in the words of the demands. A name with a stroke is a room after the call; `reported` is
 -- the count and `returned` the length that are given back.
-use Prim.Native.Nat.{ℕ, _+_, _≤_, _<_}
-use mathlib.Core.List.{List, _++_}
-use mathlib.Core.Path.{_≡_}
-use mathlib.Core.Logic.{_↔_}
-use lib.ListN.{length, getD, take, drop}
-use Rattle·refusal.specs.Number.{ok, overBudget}
-use Rattle·wire.specs.Read.{good}
-use Rattle·graph.specs.Message.{readGraph}
-use Rattle·graph.specs.Write.{writeGraph}
-use Rattle·turns.specs.Outcome.{filled}
-use Rattle·rounds.specs.Promise.{SettledAt, SpentAt}
-use Rattle·model.specs.Write.{writeModel}
-use Rattle·model.specs.WellFormed as models
-use Rattle·syntax.specs.Formula.{rootOf}
-use Rattle·syntax.specs.Write.{writeFormula}
-use Rattle·syntax.specs.WellFormed as formulas
-use Rattle·runs.specs.Systems.{systemOf}
-use Rattle·runs.specs.Sat.{Sat}
-use Rattle·build.specs.Built.{builtNumber, builtLength}
-use Rattle·build.specs.declared.Built.{Built}
-use Rattle·settling.specs.declared.Verdict.{Verdict}
-use Rattle·settling.specs.declared.Verdict.the-variants as Verdict
-use Rattle·settling.specs.declared.Answer.{Answer}
-use Rattle·settling.specs.declared.AllStates.{AllStates}
-use Rattle·settling.specs.declared.AllStates.the-variants as AllStates
-use Rattle·questions.specs.Question.{Question, graphFor, ruledFor, rootNode}
-use Rattle·settling.specs.Answer.{answerNumber, answerVerdict, answerCount, answerLength, allNumber, allCount, allLength}
+use Rattle.std.specs.Prelude.{ℕ, ◌+◌, ◌≤◌, ◌<◌, List, ◌++◌, ◌≡◌, ◌↔◌, length, get_or, take, drop}
+use Rattle.refusal.specs.Number.{ok, over_budget}
+use Rattle.wire.specs.Read.{good}
+use Rattle.graph.specs.Message.{read_graph}
+use Rattle.graph.specs.Write.{write_graph}
+use Rattle.turns.specs.Outcome.{filled}
+use Rattle.rounds.specs.Promise.{SettledAt, SpentAt}
+use Rattle.model.specs.Write.{write_model}
+use Rattle.model.specs.WellFormed as models
+use Rattle.syntax.specs.Formula.{root_of}
+use Rattle.syntax.specs.Write.{write_formula}
+use Rattle.syntax.specs.WellFormed as formulas
+use Rattle.runs.specs.Systems.{system_of}
+use Rattle.runs.specs.Sat.{Sat}
+use Rattle.build.specs.Built.{built_number, built_length}
+use Rattle.build.specs.declared.Built.{Built}
+use Rattle.settling.specs.declared.Verdict.{Verdict}
+use Rattle.settling.specs.declared.Answer.{Answer}
+use Rattle.settling.specs.declared.AllStates.{AllStates}
+use Rattle.questions.specs.Question.{Question, graph_for, ruled_for, root_node}
+use Rattle.settling.specs.Answer.{answer_number, answer_verdict, answer_count, answer_length, all_number, all_count, all_length}
 
 -- the messages are the writings of a well-formed model and of rows that are well-formed with its p
 pub record Asks (model formula : List ℕ) (question : Question) : Type 0 where
-  pub model-written : model ≡ writeModel (question .model)
-  pub model-fits : models.WellFormed (question .model)
-  pub formula-written : formula ≡ writeFormula (question .rows)
-  pub formula-fits : formulas.WellFormed (question .model .propositions) (question .rows)
+  pub model_written : model ≡ write_model question.model
+  pub model_fits : models.WellFormed question.model
+  pub formula_written : formula ≡ write_formula question.rows
+  pub formula_fits : formulas.WellFormed question.model.propositions question.rows
 
 -- the state satisfies the formula by its maximal runs
 abbrev pub Satisfies : Question → (state : ℕ) → Type 0
-Satisfies question state = Sat (systemOf (question .model)) (rootOf (question .rows)) state
+Satisfies question state = Sat (system_of question.model) (root_of question.rows) state
 
 -- the graph of the question stands in its room
-pub record Stands (question : Question) (bytes bytes′ : List ℕ) (returned : ℕ) : Type 0 where
+pub record Stands (question : Question) (bytes bytes' : List ℕ) (returned : ℕ) : Type 0 where
   -- the returned length is that of the graph
-  pub long : returned ≡ length (writeGraph (graphFor question))
+  pub long : returned ≡ length (write_graph (graph_for question))
   -- it stands at the front, the rest untouched
-  pub front : bytes′ ≡ writeGraph (graphFor question) ++ drop returned bytes
+  pub front : bytes' ≡ write_graph (graph_for question) ++ drop returned bytes
   -- these bytes are accepted as a graph, and are read as this one
-  pub reads : readGraph (take returned bytes′) ≡ good (graphFor question)
+  pub reads : read_graph (take returned bytes') ≡ good (graph_for question)
 
 -- what a verdict or a spent budget leaves in the two rooms
-pub record Leaves (question : Question) (bytes values bytes′ values′ : List ℕ) (reported returned : ℕ) : Type 0 where
+pub record Leaves (question : Question) (bytes values bytes' values' : List ℕ) (reported returned : ℕ) : Type 0 where
   -- the graph stands at the front of its room
-  pub graph : Stands question bytes bytes′ returned
+  pub graph : Stands question bytes bytes' returned
   -- the values are the reported round and the next, the rest as it came
-  pub two-rounds : values′ ≡ filled (ruledFor question) reported values
+  pub two_rounds : values' ≡ filled (ruled_for question) reported values
 
 -- a verdict: yes exactly when the state satisfies the formula by its maximal runs, else no
-pub record Decides (model formula : List ℕ) (state budget : ℕ) (bytes values bytes′ values′ : List ℕ) (verdict : Verdict) (reported returned : ℕ) : Type 0 where
+pub record Decides (model formula : List ℕ) (state budget : ℕ) (bytes values bytes' values' : List ℕ) (verdict : Verdict) (reported returned : ℕ) : Type 0 where
   -- the model and the formula
   pub question : Question
   -- the messages are their writings
   pub asked : Asks model formula question
   -- the state exists
-  pub named : state < question .model .states
+  pub named : state < question.model.states
   -- yes exactly when it satisfies the formula
   pub yes : (verdict ≡ Verdict.Yes) ↔ Satisfies question state
   -- no exactly when it does not
   pub otherwise : (verdict ≡ Verdict.No) ↔ (¬ Satisfies question state)
   -- the count is the first unchanged round, and the values are settled, as for rounds on the graph
-  pub settled : SettledAt (ruledFor question) budget values′ reported
+  pub settled : SettledAt (ruled_for question) budget values' reported
   -- the count is at most n
-  pub soon : reported ≤ ruledFor question .nodes
+  pub soon : reported ≤ (ruled_for question).nodes
   -- the graph and the last two rounds stand in the rooms
-  pub leaves : Leaves question bytes values bytes′ values′ reported returned
+  pub leaves : Leaves question bytes values bytes' values' reported returned
 
 -- all states' answers stand in one settled room, one after another from the root row's node of state 0 on
-pub record DecidesAll (model formula : List ℕ) (budget : ℕ) (bytes values bytes′ values′ : List ℕ) (answer : AllStates) : Type 0 where
+pub record DecidesAll (model formula : List ℕ) (budget : ℕ) (bytes values bytes' values' : List ℕ) (answer : AllStates) : Type 0 where
   -- the model and the formula
   pub question : Question
   -- the messages are their writings
   pub asked : Asks model formula question
   -- the answer says where, and how many states there are
-  pub says : answer ≡ AllStates.Settled (allCount answer) (allLength answer) (rootNode question 0) (question .model .states)
+  pub says : answer ≡ AllStates.Settled (all_count answer) (all_length answer) (root_node question 0) question.model.states
   -- each has a number in the room
-  pub inside : rootNode question 0 + question .model .states ≤ length values′
+  pub inside : root_node question 0 + question.model.states ≤ length values'
   -- it is 0 exactly for a state that satisfies the formula
-  pub yes : (state : ℕ) → state < question .model .states → (getD values′ (rootNode question 0 + state) 0 ≡ 0) ↔ Satisfies question state
+  pub yes : (state : ℕ) → state < question.model.states → (get_or values' (root_node question 0 + state) 0 ≡ 0) ↔ Satisfies question state
   -- the count is the first unchanged round, and the values are settled, as for rounds on the graph
-  pub settled : SettledAt (ruledFor question) budget values′ (allCount answer)
+  pub settled : SettledAt (ruled_for question) budget values' (all_count answer)
   -- the count is at most n
-  pub soon : allCount answer ≤ ruledFor question .nodes
+  pub soon : all_count answer ≤ (ruled_for question).nodes
   -- the graph and the last two rounds stand in the rooms
-  pub leaves : Leaves question bytes values bytes′ values′ (allCount answer) (allLength answer)
+  pub leaves : Leaves question bytes values bytes' values' (all_count answer) (all_length answer)
 
 -- the budget is spent
-pub record Spends (model formula : List ℕ) (budget : ℕ) (bytes values bytes′ values′ : List ℕ) (reported returned : ℕ) : Type 0 where
+pub record Spends (model formula : List ℕ) (budget : ℕ) (bytes values bytes' values' : List ℕ) (reported returned : ℕ) : Type 0 where
   -- the model and the formula
   pub question : Question
   -- the messages are their writings
   pub asked : Asks model formula question
   -- the budget is the reported count, and the first unchanged round comes later, as for rounds on the graph
-  pub spent : SpentAt (ruledFor question) budget values′ reported
+  pub spent : SpentAt (ruled_for question) budget values' reported
   -- the graph and the last two rounds stand in the rooms
-  pub leaves : Leaves question bytes values bytes′ values′ reported returned
+  pub leaves : Leaves question bytes values bytes' values' reported returned
 
 -- the budget is spent on a question about a state
-pub record SpendsOn (model formula : List ℕ) (state budget : ℕ) (bytes values bytes′ values′ : List ℕ) (verdict : Verdict) (reported returned : ℕ) : Type 0 where
+pub record SpendsOn (model formula : List ℕ) (state budget : ℕ) (bytes values bytes' values' : List ℕ) (verdict : Verdict) (reported returned : ℕ) : Type 0 where
   -- there is no verdict
   pub none : verdict ≡ Verdict.None
   -- the budget is spent, as for all states
-  pub spends : Spends model formula budget bytes values bytes′ values′ reported returned
+  pub spends : Spends model formula budget bytes values bytes' values' reported returned
   -- the state exists
-  pub named : state < spends .question .model .states
+  pub named : state < spends.question.model.states
 
 -- a refusal has count 0 and returned length 0, and leaves both rooms as they came
-pub record Refuses (bytes values bytes′ values′ : List ℕ) (reported returned : ℕ) : Type 0 where
-  pub no-count : reported ≡ 0
-  pub no-length : returned ≡ 0
-  pub bytes-stay : bytes′ ≡ bytes
-  pub values-stay : values′ ≡ values
+pub record Refuses (bytes values bytes' values' : List ℕ) (reported returned : ℕ) : Type 0 where
+  pub no_count : reported ≡ 0
+  pub no_length : returned ≡ 0
+  pub bytes_stay : bytes' ≡ bytes
+  pub values_stay : values' ≡ values
 
 -- the graph alone was built
-pub record Builds (model formula bytes bytes′ : List ℕ) (returned : ℕ) : Type 0 where
+pub record Builds (model formula bytes bytes' : List ℕ) (returned : ℕ) : Type 0 where
   -- the model and the formula
   pub question : Question
   -- the messages are their writings
   pub asked : Asks model formula question
   -- the graph stands at the front of its room
-  pub graph : Stands question bytes bytes′ returned
+  pub graph : Stands question bytes bytes' returned
 
 -- by the number, verdict, count and length that the paper gives the answer: OK, BUDGET, or a refusal, which has verdict none
-pub record Promise (model formula : List ℕ) (state budget : ℕ) (bytes values bytes′ values′ : List ℕ) (answer : Answer) : Type 0 where
-  pub decides : answerNumber answer ≡ ok
-      → Decides model formula state budget bytes values bytes′ values′ (answerVerdict answer) (answerCount answer) (answerLength answer)
-  pub spends : answerNumber answer ≡ overBudget
-      → SpendsOn model formula state budget bytes values bytes′ values′ (answerVerdict answer) (answerCount answer) (answerLength answer)
-  pub refuses : overBudget < answerNumber answer
-      → (answerVerdict answer ≡ Verdict.None) × Refuses bytes values bytes′ values′ (answerCount answer) (answerLength answer)
+pub record Promise (model formula : List ℕ) (state budget : ℕ) (bytes values bytes' values' : List ℕ) (answer : Answer) : Type 0 where
+  pub decides : answer_number answer ≡ ok
+      → Decides model formula state budget bytes values bytes' values' (answer_verdict answer) (answer_count answer) (answer_length answer)
+  pub spends : answer_number answer ≡ over_budget
+      → SpendsOn model formula state budget bytes values bytes' values' (answer_verdict answer) (answer_count answer) (answer_length answer)
+  pub refuses : over_budget < answer_number answer
+      → (answer_verdict answer ≡ Verdict.None) × Refuses bytes values bytes' values' (answer_count answer) (answer_length answer)
 
 -- of all states at once
-pub record PromiseAll (model formula : List ℕ) (budget : ℕ) (bytes values bytes′ values′ : List ℕ) (answer : AllStates) : Type 0 where
-  pub decides : allNumber answer ≡ ok → DecidesAll model formula budget bytes values bytes′ values′ answer
-  pub spends : allNumber answer ≡ overBudget → Spends model formula budget bytes values bytes′ values′ (allCount answer) (allLength answer)
-  pub refuses : overBudget < allNumber answer → Refuses bytes values bytes′ values′ (allCount answer) (allLength answer)
+pub record PromiseAll (model formula : List ℕ) (budget : ℕ) (bytes values bytes' values' : List ℕ) (answer : AllStates) : Type 0 where
+  pub decides : all_number answer ≡ ok → DecidesAll model formula budget bytes values bytes' values' answer
+  pub spends : all_number answer ≡ over_budget → Spends model formula budget bytes values bytes' values' (all_count answer) (all_length answer)
+  pub refuses : over_budget < all_number answer → Refuses bytes values bytes' values' (all_count answer) (all_length answer)
 
 -- of the graph alone
-pub record PromiseGraph (model formula bytes bytes′ : List ℕ) (answer : Built) : Type 0 where
-  pub builds : builtNumber answer ≡ ok → Builds model formula bytes bytes′ (builtLength answer)
-  pub refuses : ok < builtNumber answer → (builtLength answer ≡ 0) × (bytes′ ≡ bytes)
+pub record PromiseGraph (model formula bytes bytes' : List ℕ) (answer : Built) : Type 0 where
+  pub builds : built_number answer ≡ ok → Builds model formula bytes bytes' (built_length answer)
+  pub refuses : ok < built_number answer → (built_length answer ≡ 0) × (bytes' ≡ bytes)

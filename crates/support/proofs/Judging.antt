@@ -1,84 +1,84 @@
 -- What the numbers that were read say of an edge: whether it is fair to the claims, and whether it backs its source. Assumes nothing.
-use Prim.Native.Nat.{ℕ, _*_, _≤_, _<_}
+use Prim.Native.Nat.{ℕ, ◌*◌, ◌≤◌, ◌<◌}
 use mathlib.Core.Bool.{Bool, true, false}
 use mathlib.Core.List.{List}
-use mathlib.Core.Path.{_≡_, sym, ap, _∙_}
+use mathlib.Core.Path.{◌≡◌, sym, ap, ◌∙◌}
 use native.Mathlib.Omega.{arith}
-use Rattle·lists.specs.Lists.{_∈_}
-use Rattle·lists.proofs.Tests.{clash}
-use Rattle·value.specs.Value.{Value, fin, inf, finite}
-use Rattle·value.specs.Stored.{stored, meaning, infinite}
-use Rattle·value.proofs.Stored.{meaning-infinite, meaning-finite, stored-meaning}
-use Rattle·wire.specs.Bytes.{number}
-use Rattle·wire.specs.Field.{longWidth}
-use Rattle·rules.specs.Graph.{Target, Hyper, Cover}
-use Rattle·rules.specs.Rounds.{worst, coverHolds}
-use Rattle·support·specs.specs.Claims.{claimWidth, claimedValue, claimedRank}
-use Rattle·support·specs.specs.Backing.{HyperFair, HyperBacks, CoverFair, CoverBacks}
+use Rattle.lists.specs.Lists.{◌∈◌}
+use Rattle.lists.proofs.Tests.{clash}
+use Rattle.value.specs.Value.{Value, fin, inf, finite}
+use Rattle.value.specs.Stored.{stored, meaning, infinite}
+use Rattle.value.proofs.Stored.{meaning_infinite, meaning_finite, stored_meaning}
+use Rattle.wire.specs.Bytes.{number}
+use Rattle.wire.specs.Field.{long_width}
+use Rattle.rules.specs.Graph.{Target, Hyper, Cover}
+use Rattle.rules.specs.Rounds.{worst, cover_holds}
+use Rattle.support.specs.Claims.{claim_width, claimed_value, claimed_rank}
+use Rattle.support.specs.Backing.{HyperFair, HyperBacks, CoverFair, CoverBacks}
 
 -- a value whose stored number is not infinity's is what that number means
-stored-exact : (w : Value) {a : ℕ} → a ≡ stored w → ¬ (a ≡ infinite) → w ≡ meaning a
+stored_exact : (w : Value) {a : ℕ} → a ≡ stored w → ¬ (a ≡ infinite) → w ≡ meaning a
 unfolding stored
-stored-exact (fin w) {a} e h = let q : w ≡ a = omega arith in ap fin q ∙ sym (meaning-finite h)
-stored-exact inf e h = absurd (h e)
+stored_exact (fin w) {a} e h = let q : w ≡ a = omega arith in ap fin q ∙ sym (meaning_finite h)
+stored_exact inf e h = absurd (h e)
 
 -- what was read of a hyperedge: the stored value that its source claims, and the one that it gives
 pub record HyperRead (claims : List ℕ) (h : Hyper) (claimed given : ℕ) : Type 0 where
-  pub claimed-is : claimed ≡ number longWidth claims (h .source * claimWidth)
+  pub claimed_is : claimed ≡ number long_width claims (h.source * claim_width)
   pub fits : claimed ≤ infinite
-  pub given-is : given ≡ stored (worst (claimedValue claims) (h .targets))
+  pub given_is : given ≡ stored (worst (claimed_value claims) h.targets)
 
 module _ {claims : List ℕ} {h : Hyper} {claimed given : ℕ} (r : HyperRead claims h claimed given) where
   -- the source's value is what was read
-  source-is : claimedValue claims (h .source) ≡ meaning claimed
-  source-is = ap meaning (sym (r .claimed-is))
+  source_is : claimed_value claims h.source ≡ meaning claimed
+  source_is = ap meaning (sym r.claimed_is)
 
-  source-stored : stored (claimedValue claims (h .source)) ≡ claimed
-  source-stored = ap stored source-is ∙ stored-meaning claimed (r .fits)
+  source_stored : stored (claimed_value claims h.source) ≡ claimed
+  source_stored = ap stored source_is ∙ stored_meaning claimed r.fits
 
-  pub hyper-fair : claimed ≤ given → HyperFair (claimedValue claims) h
-  hyper-fair l = omega (arith, source-stored, r .given-is)
+  pub hyper_fair : claimed ≤ given → HyperFair (claimed_value claims) h
+  hyper_fair l = omega (arith, source_stored, r.given_is)
 
-  pub hyper-breaks : given < claimed → ¬ HyperFair (claimedValue claims) h
-  hyper-breaks l fair = omega (arith, source-stored, r .given-is)
+  pub hyper_breaks : given < claimed → ¬ HyperFair (claimed_value claims) h
+  hyper_breaks l fair = omega (arith, source_stored, r.given_is)
 
-  pub hyper-more : claimed < given → ¬ HyperBacks (claimedValue claims) (claimedRank claims) h
-  hyper-more l b = omega (arith, source-stored, r .given-is, ap stored (b .exact))
+  pub hyper_more : claimed < given → ¬ HyperBacks (claimed_value claims) (claimed_rank claims) h
+  hyper_more l b = omega (arith, source_stored, r.given_is, ap stored b.exact)
 
-  pub hyper-other : ¬ (given ≡ claimed) → ¬ HyperBacks (claimedValue claims) (claimedRank claims) h
-  hyper-other n b = n (r .given-is ∙ ap stored (b .exact) ∙ source-stored)
+  pub hyper_other : ¬ (given ≡ claimed) → ¬ HyperBacks (claimed_value claims) (claimed_rank claims) h
+  hyper_other n b = n (r.given_is ∙ ap stored b.exact ∙ source_stored)
 
-  pub hyper-infinite : claimed ≡ infinite → ¬ HyperBacks (claimedValue claims) (claimedRank claims) h
-  hyper-infinite e b = clash (b .settled) (ap finite (source-is ∙ meaning-infinite e))
+  pub hyper_infinite : claimed ≡ infinite → ¬ HyperBacks (claimed_value claims) (claimed_rank claims) h
+  hyper_infinite e b = clash b.settled (ap finite (source_is ∙ meaning_infinite e))
 
-  pub hyper-backs : claimed ≤ given → given ≤ claimed → ¬ (claimed ≡ infinite)
-      → ((t : Target) → t ∈ h .targets → claimedRank claims (t .node) < claimedRank claims (h .source))
-      → HyperBacks (claimedValue claims) (claimedRank claims) h
-  hyper-backs l k n lower = record {
-    settled = ap finite (source-is ∙ meaning-finite n);
-    exact = stored-exact _ (omega (arith, r .given-is)) n ∙ sym source-is;
+  pub hyper_backs : claimed ≤ given → given ≤ claimed → ¬ (claimed ≡ infinite)
+      → ((t : Target) → t ∈ h.targets → claimed_rank claims t.node < claimed_rank claims h.source)
+      → HyperBacks (claimed_value claims) (claimed_rank claims) h
+  hyper_backs l k n lower = record {
+    settled = ap finite (source_is ∙ meaning_finite n);
+    exact = stored_exact _ (omega (arith, r.given_is)) n ∙ sym source_is;
     lower = lower;
   }
 
 -- what was read of a cover edge: whether it holds, and the stored value that its source claims
 pub record CoverRead (claims : List ℕ) (c : Cover) (holds : Bool) : Type 0 where
-  pub holds-is : holds ≡ coverHolds (claimedValue claims) c
+  pub holds_is : holds ≡ cover_holds (claimed_value claims) c
 
 module _ {claims : List ℕ} {c : Cover} {holds : Bool} (r : CoverRead claims c holds) where
-  pub cover-idle : holds ≡ false → CoverFair (claimedValue claims) c × ¬ CoverBacks (claimedValue claims) (claimedRank claims) c
-  cover-idle e = (λ h. clash h (sym (r .holds-is) ∙ e), λ b. clash (b .holds) (sym (r .holds-is) ∙ e))
+  pub cover_idle : holds ≡ false → CoverFair (claimed_value claims) c × ¬ CoverBacks (claimed_value claims) (claimed_rank claims) c
+  cover_idle e = (λ h. clash h (sym r.holds_is ∙ e), λ b. clash b.holds (sym r.holds_is ∙ e))
 
-  module _ (met : holds ≡ true) {claimed : ℕ} (claimed-is : claimed ≡ number longWidth claims (c .source * claimWidth)) (fits : claimed ≤ infinite) where
-    pub cover-breaks : 0 < claimed → ¬ CoverFair (claimedValue claims) c
+  module _ (met : holds ≡ true) {claimed : ℕ} (claimed_is : claimed ≡ number long_width claims (c.source * claim_width)) (fits : claimed ≤ infinite) where
+    pub cover_breaks : 0 < claimed → ¬ CoverFair (claimed_value claims) c
     unfolding stored
-    cover-breaks l fair =
-        let zero : stored (meaning claimed) ≡ 0 = ap stored (ap meaning claimed-is ∙ fair (sym (r .holds-is) ∙ met)) in
-        omega (arith, stored-meaning claimed fits)
+    cover_breaks l fair =
+        let zero : stored (meaning claimed) ≡ 0 = ap stored (ap meaning claimed_is ∙ fair (sym r.holds_is ∙ met)) in
+        omega (arith, stored_meaning claimed fits)
 
-    pub cover-fair : claimed ≤ 0 → claimedValue claims (c .source) ≡ fin 0
-    cover-fair l =
-        let none : claimed ≡ 0 = omega arith in ap meaning (sym claimed-is ∙ none) ∙ meaning-finite (λ e. omega arith)
+    pub cover_fair : claimed ≤ 0 → claimed_value claims c.source ≡ fin 0
+    cover_fair l =
+        let none : claimed ≡ 0 = omega arith in ap meaning (sym claimed_is ∙ none) ∙ meaning_finite (λ e. omega arith)
 
-    pub cover-backs : claimed ≤ 0 → claimedRank claims (c .target) < claimedRank claims (c .source)
-        → CoverBacks (claimedValue claims) (claimedRank claims) c
-    cover-backs l lower = record { holds = sym (r .holds-is) ∙ met; zero = cover-fair l; lower = lower }
+    pub cover_backs : claimed ≤ 0 → claimed_rank claims c.target < claimed_rank claims c.source
+        → CoverBacks (claimed_value claims) (claimed_rank claims) c
+    cover_backs l lower = record { holds = sym r.holds_is ∙ met; zero = cover_fair l; lower = lower }

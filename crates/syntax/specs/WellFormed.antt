@@ -1,14 +1,12 @@
 -- The rows that messages say: within the limit, every name of a proposition or an earlier row, and each row but the last used exactly once.
-use Prim.Native.Nat.{ℕ, suc, _≤_, _<_}
-use mathlib.Core.List.{List}
-use mathlib.Core.Option.{some}
-use mathlib.Core.Path.{_≡_}
-use lib.ListN.{length, getElem?}
-use Rattle·lists.specs.Lists.{_∈_}
-use Rattle·value.specs.Coded.{Sayable}
-use Rattle·syntax·specs.specs.declared.Row.{Row}
-use Rattle·syntax·specs.specs.declared.Row.the-variants.{True, False, Proposition, Negation, And, Or, Next, Until}
-use Rattle·syntax·specs.specs.Rows.{operands, propositions, actions, uses}
+use Rattle.std.specs.Prelude.{ℕ, suc, ◌≤◌, ◌<◌, List, ◌≡◌, length}
+use Rattle.std.proofs.Math.Option.{some}
+use Rattle.std.proofs.Math.ListN.{get_elem?}
+use Rattle.lists.specs.Lists.{◌∈◌}
+use Rattle.value.specs.Coded.{Sayable}
+use Rattle.syntax.specs.declared.Row.{Row}
+use Rattle.syntax.specs.declared.Row.TheVariants.{True, False, Proposition, Negation, And, Or, Next, Until}
+use Rattle.syntax.specs.Rows.{operands, propositions, actions, uses}
 
 -- a row's bound, where it has one, is one that 4 bytes can say
 abbrev pub SayableRow : Row → Type 0
@@ -23,17 +21,17 @@ SayableRow (Until q l r b) = Sayable b
 
 -- the row at a place
 abbrev pub RowAt : List Row → ℕ → Row → Type 0
-RowAt rows i row = getElem? rows i ≡ some row
+RowAt rows i row = get_elem? rows i ≡ some row
 
 pub record WellFormed (p : ℕ) (rows : List Row) : Type 0 where
-  pub propositions-fit : p ≤ 32
-  pub some-row : 1 ≤ length rows
-  pub rows-fit : length rows ≤ 64
+  pub propositions_fit : p ≤ 32
+  pub some_row : 1 ≤ length rows
+  pub rows_fit : length rows ≤ 64
   -- a proposition exists below p, and an operand is an earlier row
-  pub propositions-named : (i : ℕ) {row : Row} → RowAt rows i row → {q : ℕ} → q ∈ propositions row → q < p
+  pub propositions_named : (i : ℕ) {row : Row} → RowAt rows i row → {q : ℕ} → q ∈ propositions row → q < p
   pub earlier : (i : ℕ) {row : Row} → RowAt rows i row → {l : ℕ} → l ∈ operands row → l < i
   pub sayable : {row : Row} → row ∈ rows → SayableRow row
   -- an action is a number of a byte
-  pub actions-fit : {row : Row} → row ∈ rows → {k : ℕ} → k ∈ actions row → k < 256
+  pub actions_fit : {row : Row} → row ∈ rows → {k : ℕ} → k ∈ actions row → k < 256
   -- every row but the last is an operand exactly once
-  pub used-once : (i : ℕ) → suc i < length rows → uses i rows ≡ 1
+  pub used_once : (i : ℕ) → suc i < length rows → uses i rows ≡ 1

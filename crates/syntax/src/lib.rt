@@ -1,10 +1,11 @@
 // Rows of formula messages: what each says, and the row that stands at a position of an accepted message.
-ghost use mathlib.Core.Path.{_≡_};
-ghost use Prim.Native.Nat.{_+_, _≤_};
-ghost use lib.ListN.{length};
-ghost use Rattle·syntax·specs.specs.Rows as rows;
-ghost use Rattle·syntax·specs.specs.Layouts.{rowAt};
-ghost use Rattle·syntax·specs.specs.Format.{rowWidth};
+#![tactic(auto)]
+
+ghost use Rattle.std.specs.Prelude.{◌≡◌, ◌+◌, ◌≤◌, length};
+ghost use Rattle.syntax.specs.Rows as rows;
+ghost use Rattle.syntax.specs.Layouts.{row_at};
+ghost use Rattle.syntax.specs.Format.{row_width};
+
 use value::Bound;
 use wire::Width;
 
@@ -23,12 +24,14 @@ pub const BOUND_AT: usize = ZERO_AT + 1;
 pub const ROW: usize = BOUND_AT + 4;
 
 // On some run, or on every run; some transition, or every transition.
+#[derive(Clone, Copy)]
 pub enum Quantifier {
     Some,
     Every,
 }
 
 // Which transitions EX and AX look at: those of any action, or only those of one.
+#[derive(Clone, Copy)]
 pub enum Action {
     Any,
     Only(u32),
@@ -37,7 +40,7 @@ pub enum Action {
 impl Action {
     // Whether a transition of this action is looked at.
     pub fn allows(self, action: u32) -> bool
-        ensures { λ r. ⌜ r ≡ rows.allows self action ⌝ }
+        ensures { result ≡ rows.allows self action }
     {
         match self {
             Action::Any => true,
@@ -47,6 +50,7 @@ impl Action {
 }
 
 // A row: an operator, with propositions or earlier rows for its operands.
+#[derive(Clone, Copy)]
 pub enum Row {
     True,
     False,
@@ -60,7 +64,7 @@ pub enum Row {
 
 // The row of these fields; the last operator also stands for those that don't exist.
 fn row_of(operator: u32, left: u32, right: u32, bound: u32) -> Row
-    ensures { λ r. ⌜ r ≡ rows.rowOf operator left right bound ⌝ }
+    ensures { result ≡ rows.row_of operator left right bound }
 {
     let within = Bound::coded(bound);
     match operator {
@@ -81,8 +85,8 @@ fn row_of(operator: u32, left: u32, right: u32, bound: u32) -> Row
 
 // The row that stands at a position of an accepted message.
 pub fn row_at(s: &[u8], at: usize) -> Row
-    requires { ⌜ at + rowWidth ≤ length (now s) ⌝ }
-    ensures { λ r. ⌜ r ≡ rowAt (now (s .entry)) at ⌝ }
+    requires { at + row_width ≤ length s.now }
+    ensures { result ≡ row_at s.now at }
 {
     let operator = wire::number_at(s, at, Width::One);
     let left = wire::number_at(s, at + LEFT_AT, Width::One);

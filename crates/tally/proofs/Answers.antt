@@ -1,63 +1,63 @@
 -- What entering answers, case by case, and what the code has to know for it. Assumes nothing.
-use Prim.Native.Nat.{ℕ, _+_, _-_, _^_, _<_}
+use Prim.Native.Nat.{ℕ, ◌+◌, ◌-◌, ◌^◌, ◌<◌}
 use mathlib.Core.Bool.{true, false}
-use mathlib.Core.Path.{_≡_, sym, _∙_}
+use mathlib.Core.Path.{◌≡◌, sym, ◌∙◌}
 use native.Mathlib.Omega.{arith}
 use lib.Dec.{ltb, leb}
 use borrow.Author.Tests.{le-leb, lt-leb, ltb-true, ltb-false, leb-true}
-use Rattle·lists.proofs.Tests.{by-test, and-left, and-right}
-use Rattle·refusal.specs.declared.Refusal.the-variants.{Name, Limit}
-use Rattle·entries.specs.declared.Entry.{Entry}
-use Rattle·entries.specs.declared.Entry.the-variants.{Yes, No, Refused}
-use Rattle·tally·specs.specs.declared.Tally.{Tally}
-use Rattle·tally·specs.specs.declared.Answer.the-variants as Answer
-use Rattle·entries.specs.Entries.{isEntry, roundsOf, places, countPlace}
-use Rattle·tally·specs.specs.Tally.{mostAccepted, together, countedAt, takesMore}
-use Rattle·tally·specs.specs.Entered.{turnedAway, enterOf}
+use Rattle.lists.proofs.Tests.{by_test, and_left, and_right}
+use Rattle.refusal.specs.declared.Refusal.TheVariants.{Name, Limit}
+use Rattle.entries.specs.declared.Entry.{Entry}
+use Rattle.entries.specs.declared.Entry.TheVariants.{Yes, No, Refused}
+use Rattle.tally.specs.declared.Tally.{Tally}
+use Rattle.tally.specs.declared.Answer.TheVariants as Answer
+use Rattle.entries.specs.Entries.{is_entry, rounds_of, places, count_place}
+use Rattle.tally.specs.Tally.{most_accepted, together, counted_at, takes_more}
+use Rattle.tally.specs.Entered.{turned_away, enter_of}
 
 -- an entry of the table has a place
-pub has-place : (e : Entry) → isEntry e ≡ true → countPlace e < places
-has-place (Yes r) h = omega arith
-has-place (No r) h = omega arith
-has-place (Refused n r) h = omega (arith, leb-true n 11 (and-right (leb 1 n) (leb n 11) h))
+pub has_place : (e : Entry) → is_entry e ≡ true → count_place e < places
+has_place (Yes r) h = omega arith
+has_place (No r) h = omega arith
+has_place (Refused n r) h = omega (arith, leb-true n 11 (and_right (leb 1 n) (leb n 11) h))
 
 -- ---- where there is room for one more
 
 -- the sum's test, as it is made without passing 64 bits
-pub sum-test : (sum rounds : ℕ) → sum < 2 ^ 64 → leb rounds (18446744073709551615 - sum) ≡ ltb (sum + rounds) (2 ^ 64)
-sum-test sum rounds h =
-    by-test (ltb (sum + rounds) (2 ^ 64))
+pub sum_test : (sum rounds : ℕ) → sum < 2 ^ 64 → leb rounds (18446744073709551615 - sum) ≡ ltb (sum + rounds) (2 ^ 64)
+sum_test sum rounds h =
+    by_test (ltb (sum + rounds) (2 ^ 64))
     (λ e. le-leb rounds (18446744073709551615 - sum) (omega (arith, ltb-true (sum + rounds) (2 ^ 64) e)) ∙ sym e)
     (λ e. lt-leb rounds (18446744073709551615 - sum) (omega (arith, ltb-false (sum + rounds) (2 ^ 64) e)) ∙ sym e)
 
-pub takes-none : (t : Tally) (rounds : ℕ) → ltb (together (t .counts)) mostAccepted ≡ false → takesMore t rounds ≡ false
-unfolding takesMore
-takes-none t rounds e = rw e
+pub takes_none : (t : Tally) (rounds : ℕ) → ltb (together t.counts) most_accepted ≡ false → takes_more t rounds ≡ false
+unfolding takes_more
+takes_none t rounds e = rw e
 
-pub takes-sum : (t : Tally) (rounds : ℕ) → ltb (together (t .counts)) mostAccepted ≡ true → takesMore t rounds ≡ ltb (t .sum + rounds) (2 ^ 64)
-unfolding takesMore
-takes-sum t rounds e = rw e
+pub takes_sum : (t : Tally) (rounds : ℕ) → ltb (together t.counts) most_accepted ≡ true → takes_more t rounds ≡ ltb (t.sum + rounds) (2 ^ 64)
+unfolding takes_more
+takes_sum t rounds e = rw e
 
 -- what room says
-pub takes-counts : (t : Tally) (rounds : ℕ) → takesMore t rounds ≡ true → together (t .counts) < mostAccepted
-unfolding takesMore
-takes-counts t rounds e = ltb-true _ _ (and-left (ltb (together (t .counts)) mostAccepted) (ltb (t .sum + rounds) (2 ^ 64)) e)
+pub takes_counts : (t : Tally) (rounds : ℕ) → takes_more t rounds ≡ true → together t.counts < most_accepted
+unfolding takes_more
+takes_counts t rounds e = ltb-true _ _ (and_left (ltb (together t.counts) most_accepted) (ltb (t.sum + rounds) (2 ^ 64)) e)
 
-pub takes-fits : (t : Tally) (rounds : ℕ) → takesMore t rounds ≡ true → t .sum + rounds < 2 ^ 64
-unfolding takesMore
-takes-fits t rounds e = ltb-true _ _ (and-right (ltb (together (t .counts)) mostAccepted) (ltb (t .sum + rounds) (2 ^ 64)) e)
+pub takes_fits : (t : Tally) (rounds : ℕ) → takes_more t rounds ≡ true → t.sum + rounds < 2 ^ 64
+unfolding takes_more
+takes_fits t rounds e = ltb-true _ _ (and_right (ltb (together t.counts) most_accepted) (ltb (t.sum + rounds) (2 ^ 64)) e)
 
 -- ---- the three answers
 
 module _ (t : Tally) (e : Entry) where
-  pub no-entry : isEntry e ≡ false → enterOf t e ≡ turnedAway t Name
-  unfolding enterOf
-  no-entry h = rw h
+  pub no_entry : is_entry e ≡ false → enter_of t e ≡ turned_away t Name
+  unfolding enter_of
+  no_entry h = rw h
 
-  pub at-end : isEntry e ≡ true → takesMore t (roundsOf e) ≡ false → enterOf t e ≡ turnedAway t Limit
-  unfolding enterOf
-  at-end h k = rw (h, k)
+  pub at_end : is_entry e ≡ true → takes_more t (rounds_of e) ≡ false → enter_of t e ≡ turned_away t Limit
+  unfolding enter_of
+  at_end h k = rw (h, k)
 
-  pub entry-counted : isEntry e ≡ true → takesMore t (roundsOf e) ≡ true → enterOf t e ≡ record { tally = countedAt t (countPlace e) (roundsOf e); answer = Answer.Accepted }
-  unfolding enterOf
-  entry-counted h k = rw (h, k)
+  pub entry_counted : is_entry e ≡ true → takes_more t (rounds_of e) ≡ true → enter_of t e ≡ record { tally = counted_at t (count_place e) (rounds_of e); answer = Answer.Accepted }
+  unfolding enter_of
+  entry_counted h k = rw (h, k)

@@ -1,45 +1,45 @@
 -- A list by its places: what stands at each, one behind the other. Assumes nothing.
-use Prim.Native.Nat.{ℕ, zero, suc, _+_, _<_, _≤_}
-use mathlib.Core.List.{List, [], _∷_}
-use mathlib.Core.Path.{_≡_, refl, sym, ap, ap₂, _∙_}
+use Prim.Native.Nat.{ℕ, zero, suc, ◌+◌, ◌<◌}
+use mathlib.Core.List.{List, [], ◌∷◌}
+use mathlib.Core.Path.{◌≡◌, refl, sym, ap, ap₂, ◌∙◌}
 use native.Mathlib.Omega.{arith}
-use lib.ListN.{length, getD, set, drop}
+use lib.ListN.{length, get_or, set, drop}
 use lib.Seq.{drop-cons}
-use Rattle·lists.specs.Making.{span}
-use Rattle·lists.proofs.Making.{span-agree}
-use Rattle·lines.proofs.Lines.{past-end}
+use Rattle.lists.specs.Making.{span}
+use Rattle.lists.proofs.Making.{span_agree}
+use Rattle.lines.proofs.Lines.{past_end}
 
 -- f 0, f 1, .. for n places
 abbrev pub spread : (ℕ → ℕ) → ℕ → ℕ → List ℕ
 spread f = span (λ i. f i ∷ [])
 
 -- what stands at the places from i on
-pub spelled : (l : List ℕ) (i k : ℕ) → i + k ≡ length l → spread (λ j. getD l j 0) i k ≡ drop i l
+pub spelled : (l : List ℕ) (i k : ℕ) → i + k ≡ length l → spread (λ j. get_or l j 0) i k ≡ drop i l
 unfolding span
-spelled l i zero h = sym (past-end l i (omega arith))
-spelled l i (suc k) h = ap (λ (r : List ℕ). getD l i 0 ∷ r) (spelled l (suc i) k (omega arith)) ∙ sym (drop-cons l i 0 (omega arith))
+spelled l i zero h = sym (past_end l i (omega arith))
+spelled l i (suc k) h = ap (λ (r : List ℕ). get_or l i 0 ∷ r) (spelled l (suc i) k (omega arith)) ∙ sym (drop-cons l i 0 (omega arith))
 
 -- ---- one more at a place
 
 -- where two functions differ at q alone, by one more, so do the lists of what they give
-pub spread-more : (f g : ℕ → ℕ) (q : ℕ) → g q ≡ f q + 1 → ((k : ℕ) → (k ≡ q → ⊥) → g k ≡ f k) → (a n p : ℕ) → p < n → q ≡ a + p
-    → spread g a n ≡ set (spread f a n) p (getD (spread f a n) p 0 + 1)
+pub spread_more : (f g : ℕ → ℕ) (q : ℕ) → g q ≡ f q + 1 → ((k : ℕ) → (k ≡ q → ⊥) → g k ≡ f k) → (a n p : ℕ) → p < n → q ≡ a + p
+    → spread g a n ≡ set (spread f a n) p (get_or (spread f a n) p 0 + 1)
 unfolding span
-spread-more f g q more same a zero p h e = absurd (omega arith)
-spread-more f g q more same a (suc n) zero h e =
+spread_more f g q more same a zero p h e = absurd (omega arith)
+spread_more f g q more same a (suc n) zero h e =
     let here : q ≡ a = omega arith in
     let head : g a ≡ f a + 1 = ap g (sym here) ∙ more ∙ ap (λ (k : ℕ). f k + 1) here in
-    ap₂ (λ (b : ℕ) (r : List ℕ). b ∷ r) head (span-agree (λ i. g i ∷ []) (λ i. f i ∷ []) (suc a) n (λ k low high. ap (λ (b : ℕ). b ∷ []) (same k (λ w. absurd (omega arith)))))
-spread-more f g q more same a (suc n) (suc p) h e =
-    ap₂ (λ (b : ℕ) (r : List ℕ). b ∷ r) (same a (λ w. absurd (omega arith))) (spread-more f g q more same (suc a) n p (omega arith) (omega arith))
+    ap₂ (λ (b : ℕ) (r : List ℕ). b ∷ r) head (span_agree (λ i. g i ∷ []) (λ i. f i ∷ []) (suc a) n (λ k low high. ap (λ (b : ℕ). b ∷ []) (same k (λ w. absurd (omega arith)))))
+spread_more f g q more same a (suc n) (suc p) h e =
+    ap₂ (λ (b : ℕ) (r : List ℕ). b ∷ r) (same a (λ w. absurd (omega arith))) (spread_more f g q more same (suc a) n p (omega arith) (omega arith))
 
-pub spread-length : (f : ℕ → ℕ) (a n : ℕ) → length (spread f a n) ≡ n
+pub spread_length : (f : ℕ → ℕ) (a n : ℕ) → length (spread f a n) ≡ n
 unfolding span
-spread-length f a zero = refl
-spread-length f a (suc n) = ap suc (spread-length f (suc a) n)
+spread_length f a zero = refl
+spread_length f a (suc n) = ap suc (spread_length f (suc a) n)
 
-pub spread-at : (f : ℕ → ℕ) (a n i : ℕ) → i < n → (k : ℕ) → k ≡ a + i → getD (spread f a n) i 0 ≡ f k
+pub spread_at : (f : ℕ → ℕ) (a n i : ℕ) → i < n → (k : ℕ) → k ≡ a + i → get_or (spread f a n) i 0 ≡ f k
 unfolding span
-spread-at f a zero i h k e = absurd (omega arith)
-spread-at f a (suc n) zero h k e = let here : a ≡ k = omega arith in ap f here
-spread-at f a (suc n) (suc i) h k e = spread-at f (suc a) n i (omega arith) k (omega arith)
+spread_at f a zero i h k e = absurd (omega arith)
+spread_at f a (suc n) zero h k e = let here : a ≡ k = omega arith in ap f here
+spread_at f a (suc n) (suc i) h k e = spread_at f (suc a) n i (omega arith) k (omega arith)

@@ -1,59 +1,54 @@
 -- A history of entries: what a tally is after it, which of them were accepted, and the sheet of those.
-use Prim.Native.Nat.{ℕ, _+_, _^_, _<_, max}
-use mathlib.Core.List.{List, [], _∷_}
-use mathlib.Core.Bool.{Bool, true, false, cond}
-use lib.Dec.{eqb}
-use lib.ListN.{length, take}
-use Rattle·lists.specs.Making.{keep, span}
-use Rattle·entries.specs.declared.Entry.{Entry}
-use Rattle·entries.specs.declared.Entry.the-variants.{Yes, No, Refused}
-use Rattle·tally·specs.specs.declared.Tally.{Tally}
-use Rattle·tally·specs.specs.declared.Answer.{Answer}
-use Rattle·tally·specs.specs.declared.Answer.the-variants as Answer
-use Rattle·entries.specs.Entries.{isEntry, roundsOf, places, countPlace}
-use Rattle·tally·specs.specs.Tally.{mostAccepted}
-use Rattle·tally·specs.specs.Entered.{enterOf}
+use Rattle.std.specs.Prelude.{ℕ, ◌+◌, ◌^◌, ◌<◌, max, List, [], ◌∷◌, Bool, true, false, cond, eqb, length, take}
+use Rattle.lists.specs.Making.{keep, span}
+use Rattle.entries.specs.declared.Entry.{Entry}
+use Rattle.entries.specs.declared.Entry.TheVariants.{Yes, No, Refused}
+use Rattle.tally.specs.declared.Tally.{Tally}
+use Rattle.tally.specs.declared.Answer.{Answer}
+use Rattle.entries.specs.Entries.{is_entry, rounds_of, places, count_place}
+use Rattle.tally.specs.Tally.{most_accepted}
+use Rattle.tally.specs.Entered.{enter_of}
 
 -- the tally after a sequence of entries
-unfoldable pub tallyAfter : Tally → List Entry → Tally
-tallyAfter t [] = t
-tallyAfter t (e ∷ h) = tallyAfter (enterOf t e .tally) h
+unfoldable pub tally_after : Tally → List Entry → Tally
+tally_after t [] = t
+tally_after t (e ∷ h) = tally_after (enter_of t e).tally h
 
 -- the entries that were accepted on the way
-abbrev pub isAccepted : Answer → Bool
-isAccepted Answer.Accepted = true
-isAccepted (Answer.Refused e) = false
+abbrev pub is_accepted : Answer → Bool
+is_accepted Answer.Accepted = true
+is_accepted (Answer.Refused e) = false
 
-unfoldable pub acceptedFrom : Tally → List Entry → List Entry
-acceptedFrom t [] = []
-acceptedFrom t (e ∷ h) = cond (isAccepted (enterOf t e .answer)) (e ∷ acceptedFrom (enterOf t e .tally) h) (acceptedFrom (enterOf t e .tally) h)
+unfoldable pub accepted_from : Tally → List Entry → List Entry
+accepted_from t [] = []
+accepted_from t (e ∷ h) = cond (is_accepted (enter_of t e).answer) (e ∷ accepted_from (enter_of t e).tally h) (accepted_from (enter_of t e).tally h)
 
 -- the same from zero, without a tally: those that the table has, the first 4,294,967,295 of them
-unfoldable pub firstEntries : List Entry → List Entry
-firstEntries h = take mostAccepted (keep isEntry h)
+unfoldable pub first_entries : List Entry → List Entry
+first_entries h = take most_accepted (keep is_entry h)
 
 -- how many of a history have a place, the sum of its rounds, and the largest
-unfoldable pub countAt : List Entry → ℕ → ℕ
-countAt h place = length (keep (λ e. eqb (countPlace e) place) h)
+unfoldable pub count_at : List Entry → ℕ → ℕ
+count_at h place = length (keep (λ e. eqb (count_place e) place) h)
 
-unfoldable pub sumRounds : List Entry → ℕ
-sumRounds [] = 0
-sumRounds (e ∷ h) = roundsOf e + sumRounds h
+unfoldable pub sum_rounds : List Entry → ℕ
+sum_rounds [] = 0
+sum_rounds (e ∷ h) = rounds_of e + sum_rounds h
 
-unfoldable pub largestRounds : List Entry → ℕ
-largestRounds [] = 0
-largestRounds (e ∷ h) = max (roundsOf e) (largestRounds h)
+unfoldable pub largest_rounds : List Entry → ℕ
+largest_rounds [] = 0
+largest_rounds (e ∷ h) = max (rounds_of e) (largest_rounds h)
 
 -- the sheet of a history of accepted entries
-unfoldable pub sheetOf : List Entry → Tally
-sheetOf h = record { counts = span (λ place. countAt h place ∷ []) 0 places; sum = sumRounds h; largest = largestRounds h }
+unfoldable pub sheet_of : List Entry → Tally
+sheet_of h = record { counts = span (λ place. count_at h place ∷ []) 0 places; sum = sum_rounds h; largest = largest_rounds h }
 
 -- what is handed in: rounds of 4 bytes
-abbrev pub handedIn : Entry → ℕ
-handedIn (Yes r) = r
-handedIn (No r) = r
-handedIn (Refused n r) = r
+abbrev pub handed_in : Entry → ℕ
+handed_in (Yes r) = r
+handed_in (No r) = r
+handed_in (Refused n r) = r
 
 unfoldable pub FourBytes : List Entry → Type 0
 FourBytes [] = Unit
-FourBytes (e ∷ h) = (handedIn e < 2 ^ 32) × FourBytes h
+FourBytes (e ∷ h) = (handed_in e < 2 ^ 32) × FourBytes h

@@ -1,18 +1,18 @@
 // The nightly sheet: one running tally that each verdict is entered into. The tally goes in by value and comes back.
-ghost use mathlib.Core.Path.{_≡_};
-ghost use Prim.Native.Nat.{_+_, _<_, _^_};
-ghost use lib.ListN.{getD};
-ghost use lib.Dec.{ltb};
-ghost use Rattle·tally·specs.specs.Tally.{mostAccepted, together, atZero, takesMore, countedAt};
-ghost use Rattle·tally·specs.specs.Entered.{answerNumber, enterOf};
-ghost use Rattle·tally·specs.specs.Report.{numbersOf};
+#![tactic(auto)]
+
+ghost use Rattle.std.specs.Prelude.{◌≡◌, ◌+◌, ◌<◌, ◌^◌, get_or, ltb};
+ghost use Rattle.tally.specs.Tally.{most_accepted, together, at_zero, takes_more, counted_at};
+ghost use Rattle.tally.specs.Entered.{answer_number, enter_of};
+ghost use Rattle.tally.specs.Report.{numbers_of};
+
 pub use entries::Entry;
-pub use lines::Reported;
-pub use lines::report;
+pub use lines::{Reported, report};
 use refusal::Refusal;
 
 // How many entries were yes, no, and each refusal number from 1 to 11; the sum of their rounds, and the largest.
 #[repr(C)]
+#[derive(Clone, Copy)]
 pub struct Tally {
     pub counts: [u64; 13],
     pub sum: u64,
@@ -20,12 +20,14 @@ pub struct Tally {
 }
 
 // Whether an entry was taken.
+#[derive(Clone, Copy)]
 pub enum Answer {
     Accepted,
     Refused(Refusal),
 }
 
 // The tally after an entry, and the answer.
+#[derive(Clone, Copy)]
 pub struct Entered {
     pub tally: Tally,
     pub answer: Answer,
@@ -34,7 +36,7 @@ pub struct Entered {
 impl Answer {
     // The number that the paper gives the answer.
     pub fn number(self) -> u8
-        ensures { λ r. ⌜ r ≡ answerNumber self ⌝ }
+        ensures { result ≡ answer_number self }
     {
         match self {
             Answer::Accepted => 0,
@@ -45,7 +47,7 @@ impl Answer {
 
 // Whether fewer than 4,294,967,295 are counted. What is left is counted down, so that no content of the counts can pass 64 bits.
 fn below_most(counts: [u64; 13]) -> bool
-    ensures { λ r. ⌜ r ≡ ltb (together counts) mostAccepted ⌝ }
+    ensures { result ≡ ltb (together counts) most_accepted }
 {
     let mut left: u64 = 4294967295;
     let mut i = 0;
@@ -63,7 +65,7 @@ fn below_most(counts: [u64; 13]) -> bool
 impl Tally {
     // Where every tally starts.
     pub fn zero() -> Self
-        ensures { λ r. ⌜ r ≡ atZero ⌝ }
+        ensures { result ≡ at_zero }
     {
         Tally {
             counts: [0; 13],
@@ -74,7 +76,7 @@ impl Tally {
 
     // Whether one entry more with these rounds can be counted.
     fn takes_more(self, rounds: u64) -> bool
-        ensures { λ r. ⌜ r ≡ takesMore self rounds ⌝ }
+        ensures { result ≡ takes_more self rounds }
     {
         let counts = self.counts;
         if !below_most(counts) {
@@ -85,8 +87,8 @@ impl Tally {
 
     // One more at a place, with these rounds.
     fn counted(mut self, at: usize, rounds: u64) -> Self
-        requires { ⌜ (at < 13) × (getD (self .counts) at 0 + 1 < 2 ^ 64) × (self .sum + rounds < 2 ^ 64) ⌝ }
-        ensures { λ r. ⌜ r ≡ countedAt self at rounds ⌝ }
+        requires { (at < 13) × (get_or self.counts at 0 + 1 < 2 ^ 64) × (self.sum + rounds < 2 ^ 64) }
+        ensures { result ≡ counted_at self at rounds }
     {
         let many = self.counts[at];
         self.counts[at] = many + 1;
@@ -99,7 +101,7 @@ impl Tally {
 
     // The tally after an entry: NAME, then LIMIT, leave it as it came.
     pub fn enter(self, entry: Entry) -> Entered
-        ensures { λ r. ⌜ r ≡ enterOf self entry ⌝ }
+        ensures { result ≡ enter_of self entry }
     {
         if !entry.is_entry() {
             return Entered {
@@ -123,7 +125,7 @@ impl Tally {
 
     // The numbers of the report, in its order.
     pub fn numbers(self) -> [u64; 15]
-        ensures { λ r. ⌜ r ≡ numbersOf self ⌝ }
+        ensures { result ≡ numbers_of self }
     {
         let c = self.counts;
         [

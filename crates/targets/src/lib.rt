@@ -1,24 +1,25 @@
 // What the targets of a hyperedge give: the greatest weight plus value over them.
-ghost use mathlib.Core.Path.{_≡_};
-ghost use Prim.Native.Nat.{ℕ, _+_, _*_, _≤_, min};
-ghost use lib.ListN.{length};
-ghost use Rattle·wire.specs.Bytes.{number};
-ghost use Rattle·wire.specs.Layout.{items, Sound};
-ghost use Rattle·value.specs.Value.{plus};
-ghost use Rattle·value.specs.Stored.{stored};
-ghost use Rattle·rules.specs.Rounds as rules;
-ghost use Rattle·graph.specs.Format.{nodeAt, targetWidth};
-ghost use Rattle·graph.specs.Layouts.{targetLayout, TargetOk};
-ghost use Rattle·halves.specs.Held.{held};
-ghost use Rattle·targets·specs.specs.Below.{below};
+#![tactic(auto)]
+
+ghost use Rattle.std.specs.Prelude.{◌≡◌, ℕ, ◌+◌, ◌*◌, ◌≤◌, min, length};
+ghost use Rattle.wire.specs.Bytes.{number};
+ghost use Rattle.wire.specs.Layout.{items, Sound};
+ghost use Rattle.value.specs.Value.{plus};
+ghost use Rattle.value.specs.Stored.{stored};
+ghost use Rattle.rules.specs.Rounds as rules;
+ghost use Rattle.graph.specs.Format.{node_at, target_width};
+ghost use Rattle.graph.specs.Layouts.{target_layout, TargetOk};
+ghost use Rattle.halves.specs.Held.{held};
+ghost use Rattle.targets.specs.Below.{below};
+
 use value::Value;
 use wire::Width;
 
 // Weight plus value of the target at a position.
 fn target_sum(s: &[u8], n: usize, x: &[u64], at: usize) -> Value
-    requires { ⌜ TargetOk (now s) n at ⌝ }
-    requires { ⌜ n ≤ length (now x) ⌝ }
-    ensures { λ r. ⌜ r .0 ≡ stored (plus (number 4 (now (s .entry)) at) (held (now (x .entry)) (number 2 (now (s .entry)) (at + nodeAt)))) ⌝ }
+    requires target_ok { TargetOk s.now n at }
+    requires n_in_bounds { n ≤ length x.now }
+    ensures { result.0 ≡ stored (plus (number 4 s.now at) (held x.now (number 2 s.now (at + node_at)))) }
 {
     let weight = wire::number_at(s, at, Width::Four);
     let node = wire::number_at(s, at + graph::NODE_AT, Width::Two) as usize;
@@ -29,9 +30,9 @@ fn target_sum(s: &[u8], n: usize, x: &[u64], at: usize) -> Value
 // The greatest weight plus value over k targets at a position; 0 with none. The first stands before the loop: many have no other.
 // Once one is infinite so is the greatest, and the targets left are not read.
 pub fn worst(s: &[u8], n: usize, x: &[u64], k: u32, at: usize) -> Value
-    requires { ⌜ Sound (targetLayout (now s) n) k at ⌝ }
-    requires { ⌜ n ≤ length (now x) ⌝ }
-    ensures { λ r. ⌜ r .0 ≡ stored (rules.worst (held (now (x .entry))) (items (targetLayout (now (s .entry)) n) k at)) ⌝ }
+    requires sound { Sound (target_layout s.now n) k at }
+    requires n_in_bounds { n ≤ length x.now }
+    ensures { result.0 ≡ stored (rules.worst (held x.now) (items (target_layout s.now n) k at)) }
 {
     if k == 0 {
         return Value(0);
@@ -53,9 +54,9 @@ pub fn worst(s: &[u8], n: usize, x: &[u64], k: u32, at: usize) -> Value
 
 // How far weight plus value of the target at a position stays below infinity; 0 where it is infinite.
 fn below_infinite(s: &[u8], n: usize, x: &[u64], at: usize) -> u64
-    requires { ⌜ TargetOk (now s) n at ⌝ }
-    requires { ⌜ n ≤ length (now x) ⌝ }
-    ensures { λ r. ⌜ r ≡ below (held (now (x .entry))) (items (targetLayout (now (s .entry)) n) 1 at) ⌝ }
+    requires target_ok { TargetOk s.now n at }
+    requires n_in_bounds { n ≤ length x.now }
+    ensures { result ≡ below (held x.now) (items (target_layout s.now n) 1 at) }
 {
     let weight = wire::number_at(s, at, Width::Four) as u64;
     let node = wire::number_at(s, at + graph::NODE_AT, Width::Two) as usize;
@@ -69,7 +70,7 @@ fn below_infinite(s: &[u8], n: usize, x: &[u64], at: usize) -> u64
 
 // The lesser of two numbers.
 fn lesser(a: u64, b: u64) -> u64
-    ensures { λ r. ⌜ r ≡ min a b ⌝ }
+    ensures { result ≡ min a b }
 {
     if b < a {
         return b;
@@ -80,9 +81,9 @@ fn lesser(a: u64, b: u64) -> u64
 // How far the greatest of four targets stays below infinity: the least of the four. Each is tested for 0, so that the compiler leaves off
 // where `below_infinite` finds one infinite.
 fn below_four(s: &[u8], n: usize, x: &[u64], at: usize) -> u64
-    requires { ⌜ Sound (targetLayout (now s) n) 4 at ⌝ }
-    requires { ⌜ n ≤ length (now x) ⌝ }
-    ensures { λ r. ⌜ r ≡ below (held (now (x .entry))) (items (targetLayout (now (s .entry)) n) 4 at) ⌝ }
+    requires sound { Sound (target_layout s.now n) 4 at }
+    requires n_in_bounds { n ≤ length x.now }
+    ensures { result ≡ below (held x.now) (items (target_layout s.now n) 4 at) }
 {
     let second = at + graph::TARGET;
     let third = second + graph::TARGET;
@@ -113,9 +114,9 @@ const FOUR: usize = 4 * graph::TARGET;
 
 // The same of all targets from a position to an end, where they are so many fours. Once it is 0 the others are not read.
 fn least_of_fours(s: &[u8], n: usize, x: &[u64], at: usize, end: usize) -> u64
-    requires { ⌜ ((k : ℕ) × (at + k * (4 * targetWidth) ≡ end) × Sound (targetLayout (now s) n) (k * 4) at) ⌝ }
-    requires { ⌜ n ≤ length (now x) ⌝ }
-    ensures { λ r. ⌜ ((k : ℕ) → at + k * (4 * targetWidth) ≡ end → r ≡ below (held (now (x .entry))) (items (targetLayout (now (s .entry)) n) (k * 4) at)) ⌝ }
+    requires by_index { (k : ℕ) × (at + k * (4 * target_width) ≡ end) × Sound (target_layout s.now n) (k * 4) at }
+    requires n_in_bounds { n ≤ length x.now }
+    ensures { (k : ℕ) → at + k * (4 * target_width) ≡ end → result ≡ below (held x.now) (items (target_layout s.now n) (k * 4) at) }
 {
     let mut least = Value::INFINITE.0;
     let mut p = at;
@@ -132,9 +133,9 @@ fn least_of_fours(s: &[u8], n: usize, x: &[u64], at: usize, end: usize) -> u64
 
 // The same of all targets from a position to an end, or a number given where that is less.
 fn least_with(s: &[u8], n: usize, x: &[u64], at: usize, end: usize, before: u64) -> u64
-    requires { ⌜ ((k : ℕ) × (at + k * targetWidth ≡ end) × Sound (targetLayout (now s) n) k at) ⌝ }
-    requires { ⌜ n ≤ length (now x) ⌝ }
-    ensures { λ r. ⌜ ((k : ℕ) → at + k * targetWidth ≡ end → r ≡ min before (below (held (now (x .entry))) (items (targetLayout (now (s .entry)) n) k at))) ⌝ }
+    requires by_index { (k : ℕ) × (at + k * target_width ≡ end) × Sound (target_layout s.now n) k at }
+    requires n_in_bounds { n ≤ length x.now }
+    ensures { (k : ℕ) → at + k * target_width ≡ end → result ≡ min before (below (held x.now) (items (target_layout s.now n) k at)) }
 {
     let mut least = before;
     let mut p = at;
@@ -152,9 +153,9 @@ fn least_with(s: &[u8], n: usize, x: &[u64], at: usize, end: usize, before: u64)
 // The same as `worst`, for many targets. What is kept is how far the greatest stays below infinity, the least of those of the targets: a
 // processor finds a least in fewer steps than a greatest. Four are read in a turn, and those left over one by one.
 pub fn worst_of_many(s: &[u8], n: usize, x: &[u64], k: u32, at: usize) -> Value
-    requires { ⌜ Sound (targetLayout (now s) n) k at ⌝ }
-    requires { ⌜ n ≤ length (now x) ⌝ }
-    ensures { λ r. ⌜ r .0 ≡ stored (rules.worst (held (now (x .entry))) (items (targetLayout (now (s .entry)) n) k at)) ⌝ }
+    requires sound { Sound (target_layout s.now n) k at }
+    requires n_in_bounds { n ≤ length x.now }
+    ensures { result.0 ≡ stored (rules.worst (held x.now) (items (target_layout s.now n) k at)) }
 {
     let fours = k / 4;
     let left = at + (fours as usize) * FOUR;

@@ -1,11 +1,15 @@
 // The text of a formula message, written into a lent room.
-ghost use mathlib.Core.Path.{_≡_};
-ghost use Rattle·text·specs.specs.Written.{writtenNumber, writtenOffset, writtenLength, writtenOf, textRoom};
-ghost use Rattle·syntax.specs.Message.{readFormula};
+#![tactic(auto)]
+
+ghost use Rattle.std.specs.Prelude.{◌≡◌};
+ghost use Rattle.text.specs.Written.{written_number, written_offset, written_length, written_of, text_room};
+ghost use Rattle.syntax.specs.Message.{read_formula};
+
 use formula::Checked;
 use refusal::Fault;
 
 // The length of the text, or why it was not written.
+#[derive(Clone, Copy)]
 pub enum Written {
     Text(usize),
     Refused(Fault),
@@ -14,7 +18,7 @@ pub enum Written {
 impl Written {
     // The number that the paper gives the answer.
     pub fn number(self) -> u8
-        ensures { λ r. ⌜ r ≡ writtenNumber self ⌝ }
+        ensures { result ≡ written_number self }
     {
         match self {
             Written::Text(_) => 0,
@@ -24,7 +28,7 @@ impl Written {
 
     // Where the field starts that was found wrong, and 0 where none was.
     pub fn offset(self) -> usize
-        ensures { λ r. ⌜ r ≡ writtenOffset self ⌝ }
+        ensures { result ≡ written_offset self }
     {
         match self {
             Written::Text(_) => 0,
@@ -34,7 +38,7 @@ impl Written {
 
     // The returned length.
     pub fn length(self) -> usize
-        ensures { λ r. ⌜ r ≡ writtenLength self ⌝ }
+        ensures { result ≡ written_length self }
     {
         match self {
             Written::Text(n) => n,
@@ -45,8 +49,8 @@ impl Written {
 
 // Writes the text of a formula message, checked with the number of propositions it may name, where it fits.
 pub fn text(s: &[u8], p: u32, room: &mut [u8]) -> Written
-    ensures answer { λ r. ⌜ r ≡ writtenOf (readFormula p (now (s .entry))) (now (room .entry)) ⌝ }
-    ensures room { λ _. ⌜ now (room .exit) ≡ textRoom (readFormula p (now (s .entry))) (now (room .entry)) ⌝ }
+    ensures answer { result ≡ written_of (read_formula p s.now) room.old }
+    ensures room { room.new ≡ text_room (read_formula p s.now) room.old }
 {
     match formula::check(s, p) {
         Checked::Refused(e) => Written::Refused(e),

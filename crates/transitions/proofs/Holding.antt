@@ -1,95 +1,91 @@
 -- What accepted model and formula messages hold, by position. Assumes nothing.
-use Prim.Native.Nat.{ℕ, _+_}
-use mathlib.Core.List.{List}
-use mathlib.Core.Path.{_≡_, refl, sym, ap, subst, _∙_}
-use lib.ListN.{length}
-use native.Mathlib.Omega.{arith}
-use Rattle·wire.specs.Bytes.{number, Bytes}
-use Rattle·wire.specs.Read.{good}
-use Rattle·wire.specs.Layout.{items}
-use Rattle·wire.specs.declared.State.{State}
-use Rattle·wire.proofs.Fields.{value-inside, value-is}
-use Rattle·wire.proofs.Layouts.{Reads, reads-all}
-use Rattle·model.specs.Format.{modelHeader, weightAt, actionAt, toAt, labelAt, transitionAt}
-use Rattle·model.specs.Model.{Model, Transition}
-use Rattle·wire.specs.Step.{start}
-use Rattle·model.specs.Message.{readLabel, readTransition, readModel, labels, transitions}
-use Rattle·model.specs.WellFormed as model
-use Rattle·model.proofs.Good.{label-good, transition-good, header-good, model-good}
-use Rattle·model.proofs.Exact as model-exact
-use Rattle·syntax.specs.declared.Row.{Row}
-use Rattle·syntax.specs.Message.{readFormula}
-use Rattle·syntax.specs.WellFormed as formula
-use Rattle·formula.proofs.Good.{formula-good, header-good as rows-header}
-use Rattle·formula.proofs.Accepted.{accepted-holds}
-use Rattle·formula.proofs.Exact as formula-exact
-use Rattle·transitions·specs.specs.Held.{transitionLayout, labelLayout, heldModel, heldRows, HoldsModel, HoldsRows}
+use Rattle.std.proofs.Common.{◌≡◌, ℕ, ◌+◌, List, length, sym, refl, ap, ◌∙◌, subst, arith}
+use Rattle.wire.specs.Bytes.{number, Bytes}
+use Rattle.wire.specs.Read.{good}
+use Rattle.wire.specs.Layout.{items}
+use Rattle.wire.specs.declared.State.{State}
+use Rattle.wire.proofs.Fields.{value_inside, value_is}
+use Rattle.wire.proofs.Layouts.{Reads, reads_all}
+use Rattle.model.specs.Format.{model_header, weight_at, action_at, to_at, label_at, transition_at}
+use Rattle.model.specs.Model.{Model, Transition}
+use Rattle.wire.specs.Step.{start}
+use Rattle.model.specs.Message.{read_label, read_transition, read_model, labels, transitions}
+use Rattle.model.specs.WellFormed as model
+use Rattle.model.proofs.Good.{label_good, transition_good, header_good, model_good}
+use Rattle.model.proofs.Exact as model-exact
+use Rattle.syntax.specs.declared.Row.{Row}
+use Rattle.syntax.specs.Message.{read_formula}
+use Rattle.syntax.specs.WellFormed as formula
+use Rattle.formula.proofs.Good.{formula_good, header_good as rows-header}
+use Rattle.formula.proofs.Accepted.{accepted_holds}
+use Rattle.formula.proofs.Exact as formula-exact
+use Rattle.transitions.specs.Held.{transition_layout, label_layout, held_model, held_rows, HoldsModel, HoldsRows}
 
 module _ (m : List ℕ) where
-  labels-read : (p : ℕ) (st : State) (l : ℕ) → readLabel m p st ≡ good l → Reads (labelLayout m) (labels m p) st l
-  labels-read p st l e =
-      let g = label-good m p st l e in
-      record { item-is = sym (value-is 4 m _ (g .label-there)); next-is = refl; ok = value-inside 4 m _ (g .label-there) }
+  labels_read : (p : ℕ) (st : State) (l : ℕ) → read_label m p st ≡ good l → Reads (label_layout m) (labels m p) st l
+  labels_read p st l e =
+      let g = label_good m p st l e in
+      record { item_is = sym (value_is 4 m _ g.label_there); next_is = refl; ok = value_inside 4 m _ g.label_there }
 
-  transitions-read : (n : ℕ) (st : State) (u : Transition) → readTransition m n st ≡ good u → Reads (transitionLayout m) (transitions m n) st u
-  transitions-read n st u e =
-      let g = transition-good m n st u e in
-      let from : number 2 m (st .at) ≡ u .from = value-is 2 m _ (g .from-there) in
-      let weight : number 4 m (st .at + weightAt) ≡ u .weight = value-is 4 m _ (g .weight-there) in
-      let action : number 2 m (st .at + actionAt) ≡ u .action = value-is 2 m _ (g .action-there) in
-      let to : number 2 m (st .at + toAt) ≡ u .to = value-is 2 m _ (g .to-there) in
+  transitions_read : (n : ℕ) (st : State) (u : Transition) → read_transition m n st ≡ good u → Reads (transition_layout m) (transitions m n) st u
+  transitions_read n st u e =
+      let g = transition_good m n st u e in
+      let from : number 2 m st.at ≡ u.from = value_is 2 m _ g.from_there in
+      let weight : number 4 m (st.at + weight_at) ≡ u.weight = value_is 4 m _ g.weight_there in
+      let action : number 2 m (st.at + action_at) ≡ u.action = value_is 2 m _ g.action_there in
+      let to : number 2 m (st.at + to_at) ≡ u.to = value_is 2 m _ g.to_there in
       record {
-        item-is = λ i. record { from = sym from i; weight = sym weight i; action = sym action i; to = sym to i };
-        next-is = refl;
-        ok = omega (arith, value-inside 2 m (st .at + toAt) (g .to-there));
+        item_is = λ i. record { from = sym from i; weight = sym weight i; action = sym action i; to = sym to i };
+        next_is = refl;
+        ok = omega (arith, value_inside 2 m (st.at + to_at) g.to_there);
       }
 
 -- the model is the one at the positions, and a builder may rely on it
 pub record ModelHeld (m : List ℕ) (M : Model) (n p t : ℕ) : Type 0 where
-  pub is : M ≡ heldModel m n p t
+  pub is : M ≡ held_model m n p t
   pub stands : HoldsModel m n p t
 
-pub model-held : (m : List ℕ) (M : Model) → Bytes m → readModel m ≡ good M → ModelHeld m M (M .states) (M .propositions) (length (M .transitions))
-unfolding heldModel
-model-held m M bytes e =
-    let p = model-good {s = m} {M = M} e in
-    let n = M .states in
-    let head = header-good m _ (p .header) in
-    let labels-hold = reads-all (labelLayout m) (labels m (M .propositions)) (labels-read m (M .propositions)) _ (start modelHeader) _ (p .labels-there) in
-    let transitions-hold = reads-all (transitionLayout m) (transitions m n) (transitions-read m n) _ (start (labelAt n)) _ (p .transitions-there) in
-    let there : transitionAt n 0 ≡ labelAt n = omega arith in
-    let at : M ≡ heldModel m n (M .propositions) (length (M .transitions)) =
+pub model_held : (m : List ℕ) (M : Model) → Bytes m → read_model m ≡ good M → ModelHeld m M M.states M.propositions (length M.transitions)
+unfolding held_model
+model_held m M bytes e =
+    let p = model_good {s = m} {M = M} e in
+    let n = M.states in
+    let head = header_good m _ p.header in
+    let labels-hold = reads_all (label_layout m) (labels m M.propositions) (labels_read m M.propositions) _ (start model_header) _ p.labels_there in
+    let transitions-hold = reads_all (transition_layout m) (transitions m n) (transitions_read m n) _ (start (label_at n)) _ p.transitions_there in
+    let there : transition_at n 0 ≡ label_at n = omega arith in
+    let at : M ≡ held_model m n M.propositions (length M.transitions) =
     λ i. record {
       states = n;
-      propositions = M .propositions;
-      labels = labels-hold .items-are i;
-      transitions = (transitions-hold .items-are ∙ ap (items (transitionLayout m) (length (M .transitions))) (sym there)) i;
+      propositions = M.propositions;
+      labels = labels-hold.items_are i;
+      transitions = (transitions-hold.items_are ∙ ap (items (transition_layout m) (length M.transitions)) (sym there)) i;
     } in
     record {
       is = at;
       stands = record {
-        long = head .long;
-        well-formed = subst model.WellFormed at (model-exact.accepted-written m M bytes e .1);
-        transitions-fit = head .transitions-counted .no-more;
+        long = head.long;
+        well_formed = subst model.WellFormed at (model-exact.accepted_written m M bytes e).1;
+        transitions_fit = head.transitions_counted.no_more;
       };
     }
 
 -- the same of a formula's rows
 pub record RowsHeld (f : List ℕ) (rows : List Row) (k p : ℕ) : Type 0 where
-  pub is : rows ≡ heldRows f k
+  pub is : rows ≡ held_rows f k
   pub stands : HoldsRows f k p
 
-pub rows-held : (p : ℕ) (f : List ℕ) (rows : List Row) → Bytes f → readFormula p f ≡ good rows → RowsHeld f rows (length rows) p
-unfolding heldRows
-rows-held p f rows bytes e =
-    let g = formula-good p f rows e in
-    let head = rows-header f (length rows) (g .header) in
-    let are = accepted-holds p f rows e .are in
+pub rows_held : (p : ℕ) (f : List ℕ) (rows : List Row) → Bytes f → read_formula p f ≡ good rows → RowsHeld f rows (length rows) p
+unfolding held_rows
+rows_held p f rows bytes e =
+    let g = formula_good p f rows e in
+    let head = rows-header f (length rows) g.header in
+    let are = (accepted_holds p f rows e).are in
     record {
       is = are;
       stands = record {
-        long = head .long;
-        well-formed = subst (formula.WellFormed p) are (formula-exact.accepted-written p f rows bytes e .1);
-        rows-fit = head .f-counted .no-more;
+        long = head.long;
+        well_formed = subst (formula.WellFormed p) are (formula-exact.accepted_written p f rows bytes e).1;
+        rows_fit = head.f_counted.no_more;
       };
     }

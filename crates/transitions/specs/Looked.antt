@@ -1,17 +1,13 @@
 -- What a row looks at among a state's transitions, and what a leaf makes of its label.
-use Prim.Native.Nat.{ℕ, _+_, _*_, _-_, _≤_, _<_}
-use mathlib.Core.Bool.{Bool, true, cond, _&&_}
-use mathlib.Core.List.{List, [], _∷_}
-use mathlib.Core.Path.{_≡_}
-use lib.Dec.{leb}
-use Rattle·lists.specs.Making.{keep}
-use Rattle·wire.specs.Layout.{items}
-use Rattle·rules.specs.Graph.{Target}
-use Rattle·model.specs.Format.{transitionWidth}
-use Rattle·model.specs.Model.{Transition}
-use Rattle·syntax.specs.declared.Action.{Action}
-use Rattle·syntax.specs.declared.Action.the-variants.{Any, Only}
-use Rattle·transitions·specs.specs.Held.{transitionLayout}
+use Rattle.std.specs.Prelude.{◌≡◌, ℕ, ◌+◌, ◌-◌, ◌*◌, ◌<◌, ◌≤◌, Bool, true, cond, ◌&&◌, List, [], ◌∷◌, nat_le}
+use Rattle.lists.specs.Making.{keep}
+use Rattle.wire.specs.Layout.{items}
+use Rattle.rules.specs.Graph.{Target}
+use Rattle.model.specs.Format.{transition_width}
+use Rattle.model.specs.Model.{Transition}
+use Rattle.syntax.specs.declared.Action.{Action}
+use Rattle.syntax.specs.declared.Action.TheVariants.{Any, Only}
+use Rattle.transitions.specs.Held.{transition_layout}
 
 -- the least and the greatest action of a transition that it looks at
 abbrev pub lowest : Action → ℕ
@@ -23,15 +19,15 @@ highest Any = 65535
 highest (Only k) = k
 
 -- it looks at a transition: its action is from one to another, and its weight is at most the number that says the bound
-abbrev pub isNear : (low high most : ℕ) → Transition → Bool
-isNear low high most u = leb low (u .action) && (leb (u .action) high && leb (u .weight) most)
+abbrev pub is_near : (low high most : ℕ) → Transition → Bool
+is_near low high most u = nat_le low u.action && (nat_le u.action high && nat_le u.weight most)
 
 -- so many transitions, of those from a position, end with the last that passes a test
 pub record UpToLast (m : List ℕ) (test : Transition → Bool) (many at k : ℕ) : Type 0 where
   pub some : k ≤ many
-  pub all : keep test (items (transitionLayout m) k at) ≡ keep test (items (transitionLayout m) many at)
-  pub last : 0 < k → test (transitionLayout m .item (at + (k - 1) * transitionWidth)) ≡ true
+  pub all : keep test (items (transition_layout m) k at) ≡ keep test (items (transition_layout m) many at)
+  pub last : 0 < k → test ((transition_layout m).item (at + (k - 1) * transition_width)) ≡ true
 
 -- one hyperedge without targets, or none
-abbrev pub leafEdges : Bool → List (List Target)
-leafEdges b = cond b ([] ∷ []) []
+abbrev pub leaf_edges : Bool → List (List Target)
+leaf_edges b = cond b ([] ∷ []) []

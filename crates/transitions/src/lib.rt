@@ -1,14 +1,15 @@
 // What the builder reads of the model: its labels, and where each state's transitions stand.
-ghost use mathlib.Core.Path.{_≡_};
-ghost use Prim.Native.Nat.{_+_, _-_, _≤_, _<_};
-ghost use lib.ListN.{length};
-ghost use Rattle·lists.specs.Making.{keep};
-ghost use Rattle·wire.specs.Bytes.{number};
-ghost use Rattle·model.specs.Format.{actionAt, transitionWidth, transitionAt};
-ghost use Rattle·model.specs.Model as model;
-ghost use Rattle·reduction.specs.Built.{looksAt};
-ghost use Rattle·transitions·specs.specs.Looked.{isNear, UpToLast};
-ghost use Rattle·transitions·specs.specs.Held.{transitionLayout, transitionsFrom, heldModel, HoldsModel, Starts, RiseFrom, leading};
+#![tactic(auto)]
+
+ghost use Rattle.std.specs.Prelude.{◌≡◌, ◌+◌, ◌-◌, ◌<◌, ◌≤◌, length};
+ghost use Rattle.lists.specs.Making.{keep};
+ghost use Rattle.wire.specs.Bytes.{number};
+ghost use Rattle.model.specs.Format.{action_at, transition_width, transition_at};
+ghost use Rattle.model.specs.Model as model;
+ghost use Rattle.reduction.specs.Built.{looks_at};
+ghost use Rattle.transitions.specs.Looked.{is_near, UpToLast};
+ghost use Rattle.transitions.specs.Held.{transition_layout, transitions_from, held_model, HoldsModel, Starts, RiseFrom, leading};
+
 use syntax::Action;
 use value::Bound;
 use wire::Width;
@@ -21,7 +22,7 @@ const LAST_TO: u64 = wire::TWO_MORE_LONG - 1;
 
 // Whether bit i of a label is set.
 fn bit(label: u32, i: u32) -> bool
-    ensures { λ r. ⌜ r ≡ model.bit label i ⌝ }
+    ensures { result ≡ model.bit label i }
 {
     if 32 <= i {
         return false;
@@ -31,9 +32,9 @@ fn bit(label: u32, i: u32) -> bool
 
 // Whether proposition i holds in state a.
 pub fn holds(m: &[u8], n: u32, p: u32, t: u32, a: u32, i: u32) -> bool
-    requires { ⌜ HoldsModel (now m) n p t ⌝ }
-    requires { ⌜ a < n ⌝ }
-    ensures { λ r. ⌜ r ≡ model.holds (heldModel (now (m .entry)) n p t) i a ⌝ }
+    requires holds_model { HoldsModel m.now n p t }
+    requires a_lt_n { a < n }
+    ensures { result ≡ model.holds (held_model m.now n p t) i a }
 {
     let at = model::HEADER + (a as usize) * model::LABEL;
     bit(wire::number_at(m, at, Width::Four), i)
@@ -41,17 +42,17 @@ pub fn holds(m: &[u8], n: u32, p: u32, t: u32, a: u32, i: u32) -> bool
 
 // Where a transition of the model stands.
 pub fn transition_at(n: u32, first: u32) -> usize
-    ensures { λ r. ⌜ r ≡ transitionAt n first ⌝ }
+    ensures { result ≡ transition_at n first }
 {
     model::HEADER + (n as usize) * model::LABEL + (first as usize) * model::TRANSITION
 }
 
 // Passes 16 transitions at a time, from one on, while the last of them leaves state a: they come by rising `from`, so all of them do.
 fn pass_many(m: &[u8], n: u32, p: u32, t: u32, a: u32, first: u32) -> u32
-    requires { ⌜ HoldsModel (now m) n p t ⌝ }
-    requires { ⌜ (first ≤ t) × RiseFrom a (transitionsFrom (now m) n first (t - first)) ⌝ }
-    ensures { λ r. ⌜ (first ≤ r) × (r ≤ t) × (r + leading a (transitionsFrom (now (m .entry)) n r (t - r))
-        ≡ first + leading a (transitionsFrom (now (m .entry)) n first (t - first))) ⌝ }
+    requires holds_model { HoldsModel m.now n p t }
+    requires first_le_t { (first ≤ t) × RiseFrom a (transitions_from m.now n first (t - first)) }
+    ensures { (first ≤ result) × (result ≤ t) × (result + leading a (transitions_from m.now n result (t - result))
+        ≡ first + leading a (transitions_from m.now n first (t - first))) }
 {
     let mut i = first;
     while 16 <= t - i {
@@ -66,10 +67,10 @@ fn pass_many(m: &[u8], n: u32, p: u32, t: u32, a: u32, first: u32) -> u32
 
 // The same where states have many transitions; where they have few, asking would cost more than it passes.
 fn pass_some(m: &[u8], n: u32, p: u32, t: u32, a: u32, first: u32, dense: bool) -> u32
-    requires { ⌜ HoldsModel (now m) n p t ⌝ }
-    requires { ⌜ (first ≤ t) × RiseFrom a (transitionsFrom (now m) n first (t - first)) ⌝ }
-    ensures { λ r. ⌜ (first ≤ r) × (r ≤ t) × (r + leading a (transitionsFrom (now (m .entry)) n r (t - r))
-        ≡ first + leading a (transitionsFrom (now (m .entry)) n first (t - first))) ⌝ }
+    requires holds_model { HoldsModel m.now n p t }
+    requires first_le_t { (first ≤ t) × RiseFrom a (transitions_from m.now n first (t - first)) }
+    ensures { (first ≤ result) × (result ≤ t) × (result + leading a (transitions_from m.now n result (t - result))
+        ≡ first + leading a (transitions_from m.now n first (t - first))) }
 {
     if dense {
         return pass_many(m, n, p, t, a, first);
@@ -79,9 +80,9 @@ fn pass_some(m: &[u8], n: u32, p: u32, t: u32, a: u32, first: u32, dense: bool) 
 
 // The first transition from this one on that doesn't leave state a.
 fn past_state(m: &[u8], n: u32, p: u32, t: u32, a: u32, first: u32, dense: bool) -> u32
-    requires { ⌜ HoldsModel (now m) n p t ⌝ }
-    requires { ⌜ (first ≤ t) × RiseFrom a (transitionsFrom (now m) n first (t - first)) ⌝ }
-    ensures { λ r. ⌜ (first ≤ r) × (r ≤ t) × (r ≡ first + leading a (transitionsFrom (now (m .entry)) n first (t - first))) ⌝ }
+    requires holds_model { HoldsModel m.now n p t }
+    requires first_le_t { (first ≤ t) × RiseFrom a (transitions_from m.now n first (t - first)) }
+    ensures { (first ≤ result) × (result ≤ t) × (result ≡ first + leading a (transitions_from m.now n first (t - first))) }
 {
     let mut i = pass_some(m, n, p, t, a, first, dense);
     while i < t {
@@ -97,8 +98,8 @@ fn past_state(m: &[u8], n: u32, p: u32, t: u32, a: u32, first: u32, dense: bool)
 
 // Where each state's transitions start: they come by rising `from`, so one pass finds every range.
 pub fn starts(m: &[u8], n: u32, p: u32, t: u32) -> [u32; 257]
-    requires { ⌜ HoldsModel (now m) n p t ⌝ }
-    ensures { λ r. ⌜ (257 ≡ length r) × Starts (now (m .entry)) n t r ⌝ }
+    requires { HoldsModel m.now n p t }
+    ensures { (257 ≡ length result) × Starts m.now n t result }
 {
     let dense = 8 * n < t;
     let mut table = [0u32; 257];
@@ -115,9 +116,9 @@ pub fn starts(m: &[u8], n: u32, p: u32, t: u32) -> [u32; 257]
 
 // Whether EX or AX looks at the transition at a position: its action is in a range, and its weight is at most this.
 fn is_near(m: &[u8], at: usize, low: u32, high: u32, most: u32) -> bool
-    requires { ⌜ at + transitionWidth ≤ length (now m) ⌝ }
-    requires { ⌜ low ≤ high ⌝ }
-    ensures { λ r. ⌜ r ≡ isNear low high most (transitionLayout (now (m .entry)) .item at) ⌝ }
+    requires transition_width_in_bounds { at + transition_width ≤ length m.now }
+    requires low_le_high { low ≤ high }
+    ensures { result ≡ is_near low high most ((transition_layout m.now).item at) }
 {
     let both = wire::number_at(m, at + model::ACTION_AT, Width::Four);
     is_near_of(m, at, both, low, high, most)
@@ -127,10 +128,10 @@ fn is_near(m: &[u8], at: usize, low: u32, high: u32, most: u32) -> bool
 // the range's width just where the action is in the range (below the range it wraps): one read, and one test for both ends. In 64 bits no
 // action is too large for it. Every action is in the whole range, which is asked for most and known outside of a loop.
 pub fn is_near_of(m: &[u8], at: usize, both: u32, low: u32, high: u32, most: u32) -> bool
-    requires { ⌜ at + transitionWidth ≤ length (now m) ⌝ }
-    requires { ⌜ both ≡ number 4 (now m) (at + actionAt) ⌝ }
-    requires { ⌜ low ≤ high ⌝ }
-    ensures { λ r. ⌜ r ≡ isNear low high most (transitionLayout (now (m .entry)) .item at) ⌝ }
+    requires transition_width_in_bounds { at + transition_width ≤ length m.now }
+    requires both_value { both ≡ number 4 m.now (at + action_at) }
+    requires low_le_high { low ≤ high }
+    ensures { result ≡ is_near low high most ((transition_layout m.now).item at) }
 {
     let weight = wire::number_at(m, at + model::WEIGHT_AT, Width::Four);
     if low == 0 && MOST_ACTION <= high {
@@ -147,9 +148,9 @@ pub fn is_near_of(m: &[u8], at: usize, both: u32, low: u32, high: u32, most: u32
 
 // How many of these transitions it looks at. A count of 32 bits would have the compiler gather the weights byte by byte.
 fn count_near(m: &[u8], n: u32, first: u32, many: u32, low: u32, high: u32, most: u32) -> u64
-    requires { ⌜ transitionAt n (first + many) ≤ length (now m) ⌝ }
-    requires { ⌜ low ≤ high ⌝ }
-    ensures { λ r. ⌜ r ≡ length (keep (isNear low high most) (transitionsFrom (now (m .entry)) n first many)) ⌝ }
+    requires many_in_bounds { transition_at n (first + many) ≤ length m.now }
+    requires low_le_high { low ≤ high }
+    ensures { result ≡ length (keep (is_near low high most) (transitions_from m.now n first many)) }
 {
     let mut at = transition_at(n, first);
     let mut i = many;
@@ -168,8 +169,8 @@ fn count_near(m: &[u8], n: u32, first: u32, many: u32, low: u32, high: u32, most
 // The same, by the action and the bound; with neither it is all of them. Each kind of action has a call of its own, so that the compiler
 // leaves the test of the action out where there is none.
 pub fn near_count(m: &[u8], n: u32, first: u32, many: u32, action: Action, bound: Bound) -> u64
-    requires { ⌜ transitionAt n (first + many) ≤ length (now m) ⌝ }
-    ensures { λ r. ⌜ r ≡ length (keep (looksAt action bound) (transitionsFrom (now (m .entry)) n first many)) ⌝ }
+    requires { transition_at n (first + many) ≤ length m.now }
+    ensures { result ≡ length (keep (looks_at action bound) (transitions_from m.now n first many)) }
 {
     let most = bound.code();
     match action {
@@ -185,9 +186,9 @@ pub fn near_count(m: &[u8], n: u32, first: u32, many: u32, action: Action, bound
 
 // How many of these transitions there are up to the last that it looks at.
 pub fn near_end(m: &[u8], n: u32, first: u32, many: u32, low: u32, high: u32, most: u32) -> u32
-    requires { ⌜ transitionAt n (first + many) ≤ length (now m) ⌝ }
-    requires { ⌜ low ≤ high ⌝ }
-    ensures { λ r. ⌜ UpToLast (now (m .entry)) (isNear low high most) many (transitionAt n first) r ⌝ }
+    requires many_in_bounds { transition_at n (first + many) ≤ length m.now }
+    requires low_le_high { low ≤ high }
+    ensures { UpToLast m.now (is_near low high most) many (transition_at n first) result }
 {
     let mut at = transition_at(n, first) + (many as usize) * model::TRANSITION;
     let mut i = many;

@@ -1,40 +1,33 @@
 -- Sums over lists put together, and over a number's bytes. Assumes nothing.
-use mathlib.Core.Path.{_≡_, refl}
-use mathlib.Core.List.{List, [], _∷_, _++_}
-use Prim.Native.Nat.{ℕ, zero, suc, _+_, _-_, _/_, _%_, _<_, _≤_}
-use borrow.Author.Tests.{lt-ltb, le-ltb}
-use native.Mathlib.Numerals.{add-one, sub-one}
-use native.Mathlib.Omega.{arith}
-use lib.ListN.{length, drop, getD}
-use lib.Seq.{drop-cons}
-use Rattle·wire.specs.Bytes.{bytes}
-use Rattle·trials·specs.specs.Sums.{after, afterAll, wide, claimedValues}
+use Rattle.std.proofs.Common.{◌≡◌, ℕ, zero, suc, ◌+◌, ◌-◌, ◌/◌, ◌%◌, ◌<◌, ◌≤◌, List, [], ◌∷◌, ◌++◌, length, get_or, drop, refl, add-one, sub-one, arith, drop-cons, le-ltb, lt-ltb}
+use Rattle.wire.specs.Bytes.{bytes}
+use Rattle.trials.specs.Sums.{after, after_all, wide, claimed_values}
 
-pub after-both : (sum : ℕ) (a b : List ℕ) → afterAll sum (a ++ b) ≡ afterAll (afterAll sum a) b
-unfolding afterAll
-after-both sum [] b = refl
-after-both sum (x ∷ a) b = after-both (after sum x) a b
+pub after_both : (sum : ℕ) (a b : List ℕ) → after_all sum (a ++ b) ≡ after_all (after_all sum a) b
+unfolding after_all
+after_both sum [] b = refl
+after_both sum (x ∷ a) b = after_both (after sum x) a b
 
 -- the last byte of a number is added last
-pub after-last : (sum n k : ℕ) → 0 < k → afterAll sum (bytes k n) ≡ after (afterAll sum (bytes (k - 1) (n / 256))) (n % 256)
-unfolding afterAll bytes
-after-last sum n zero h = absurd (omega arith)
-after-last sum n (suc k) h = rw sub-one (after-both sum (bytes k (n / 256)) (n % 256 ∷ []))
+pub after_last : (sum n k : ℕ) → 0 < k → after_all sum (bytes k n) ≡ after (after_all sum (bytes (k - 1) (n / 256))) (n % 256)
+unfolding after_all bytes
+after_last sum n zero h = absurd (omega arith)
+after_last sum n (suc k) h = rw sub-one (after_both sum (bytes k (n / 256)) (n % 256 ∷ []))
 
 -- the byte at a place is added next
-pub after-next : (sum : ℕ) (s : List ℕ) (i : ℕ) → i < length s → afterAll sum (drop i s) ≡ afterAll (after sum (getD s i 0)) (drop (i + 1) s)
-unfolding afterAll
-after-next sum s i h = rw (add-one, drop-cons s i 0)
+pub after_next : (sum : ℕ) (s : List ℕ) (i : ℕ) → i < length s → after_all sum (drop i s) ≡ after_all (after sum (get_or s i 0)) (drop (i + 1) s)
+unfolding after_all
+after_next sum s i h = rw (add-one, drop-cons s i 0)
 
-pub after-next-number : (sum k : ℕ) (s : List ℕ) (i : ℕ) → i < length s → afterAll sum (wide k (drop i s)) ≡ afterAll (afterAll sum (bytes k (getD s i 0))) (wide k (drop (i + 1) s))
+pub after_next_number : (sum k : ℕ) (s : List ℕ) (i : ℕ) → i < length s → after_all sum (wide k (drop i s)) ≡ after_all (after_all sum (bytes k (get_or s i 0))) (wide k (drop (i + 1) s))
 unfolding wide
-after-next-number sum k s i h = rw (add-one, drop-cons s i 0) (after-both sum (bytes k (getD s i 0)) (wide k (drop (suc i) s)))
+after_next_number sum k s i h = rw (add-one, drop-cons s i 0) (after_both sum (bytes k (get_or s i 0)) (wide k (drop (suc i) s)))
 
 -- a byte of claims that is a value's is added next, and another is left out
-pub claimed-next : (sum : ℕ) (s : List ℕ) (i : ℕ) → i < length s → i % 16 < 8 → afterAll sum (claimedValues i (drop i s)) ≡ afterAll (after sum (getD s i 0)) (claimedValues (i + 1) (drop (i + 1) s))
-unfolding afterAll claimedValues
-claimed-next sum s i h l = rw (add-one, drop-cons s i 0, lt-ltb (i % 16) 8 l)
+pub claimed_next : (sum : ℕ) (s : List ℕ) (i : ℕ) → i < length s → i % 16 < 8 → after_all sum (claimed_values i (drop i s)) ≡ after_all (after sum (get_or s i 0)) (claimed_values (i + 1) (drop (i + 1) s))
+unfolding after_all claimed_values
+claimed_next sum s i h l = rw (add-one, drop-cons s i 0, lt-ltb (i % 16) 8 l)
 
-pub claimed-past : (sum : ℕ) (s : List ℕ) (i : ℕ) → i < length s → 8 ≤ i % 16 → afterAll sum (claimedValues i (drop i s)) ≡ afterAll sum (claimedValues (i + 1) (drop (i + 1) s))
-unfolding claimedValues
-claimed-past sum s i h l = rw (add-one, drop-cons s i 0, le-ltb (i % 16) 8 l)
+pub claimed_past : (sum : ℕ) (s : List ℕ) (i : ℕ) → i < length s → 8 ≤ i % 16 → after_all sum (claimed_values i (drop i s)) ≡ after_all sum (claimed_values (i + 1) (drop (i + 1) s))
+unfolding claimed_values
+claimed_past sum s i h l = rw (add-one, drop-cons s i 0, le-ltb (i % 16) 8 l)

@@ -1,17 +1,14 @@
 // The line of each call: its letter, and a field for each answer. A body that is past the program's limits, cut short or has
 // bytes left over has an empty line. Numbers stand at fixed places, and what is left is the last message, or the last two.
-ghost use Prim.Native.Nat.{_≤_};
-ghost use lib.ListN.{length};
-ghost use Rattle·trials·specs.specs.Lines.{Sound};
+ghost use Rattle.std.specs.Prelude.{◌≤◌, length};
+ghost use Rattle.trials.specs.Lines.{Sound};
+
 use crate::line::Line;
-use crate::rooms;
-use crate::sheet;
-use crate::sums;
+use crate::{rooms, sheet, sums};
 use claims::Judged;
 use rounds::Outcome;
 use text::Written;
-use verdict::Answer;
-use verdict::Verdict;
+use verdict::{Answer, Verdict};
 use wire::Width;
 
 // Whether these bytes are a message of that size, within the program's limit.
@@ -21,7 +18,7 @@ fn is_message(size: u32, s: &[u8]) -> bool {
 
 // The line of an answer begins with the letter, the number and the offset.
 fn checked_line(letter: u8, number: u8, offset: usize) -> Line
-    ensures { λ r. ⌜ Sound r ⌝ }
+    ensures { Sound result }
 {
     Line::new()
         .byte(letter)
@@ -31,7 +28,7 @@ fn checked_line(letter: u8, number: u8, offset: usize) -> Line
 
 // `G`: a graph.
 pub fn graph(body: &[u8]) -> Line
-    ensures { λ r. ⌜ Sound r ⌝ }
+    ensures { Sound result }
 {
     if body.len() < 4 {
         return Line::new();
@@ -46,7 +43,7 @@ pub fn graph(body: &[u8]) -> Line
 
 // `M`: a model.
 pub fn model(body: &[u8]) -> Line
-    ensures { λ r. ⌜ Sound r ⌝ }
+    ensures { Sound result }
 {
     if body.len() < 4 {
         return Line::new();
@@ -61,7 +58,7 @@ pub fn model(body: &[u8]) -> Line
 
 // `F`: how many propositions there are; a formula.
 pub fn formula(body: &[u8]) -> Line
-    ensures { λ r. ⌜ Sound r ⌝ }
+    ensures { Sound result }
 {
     if body.len() < 8 {
         return Line::new();
@@ -77,7 +74,7 @@ pub fn formula(body: &[u8]) -> Line
 
 // `T`: how many propositions there are, a room in bytes; a formula.
 pub fn text(body: &[u8], bytes: &mut [u8]) -> Line
-    ensures { λ r. ⌜ Sound r ⌝ }
+    ensures { Sound result }
 {
     if body.len() < 12 {
         return Line::new();
@@ -97,7 +94,7 @@ pub fn text(body: &[u8], bytes: &mut [u8]) -> Line
 
 // The text in a room that is filled before.
 fn text_in(message: &[u8], p: u32, room: &mut [u8]) -> Line
-    ensures { λ r. ⌜ Sound r ⌝ }
+    ensures { Sound result }
 {
     rooms::fill_bytes(room);
     let written = text::text(message, p, room);
@@ -106,7 +103,7 @@ fn text_in(message: &[u8], p: u32, room: &mut [u8]) -> Line
 
 // The number and offset, the length and the room's sum.
 fn text_line(written: Written, room: u32) -> Line
-    ensures { λ r. ⌜ Sound r ⌝ }
+    ensures { Sound result }
 {
     checked_line(b'T', written.number(), written.offset())
         .number(written.length() as u64)
@@ -115,7 +112,7 @@ fn text_line(written: Written, room: u32) -> Line
 
 // `R`: a budget, a room in numbers; a graph.
 pub fn rounds(body: &[u8], values: &mut [u64]) -> Line
-    ensures { λ r. ⌜ Sound r ⌝ }
+    ensures { Sound result }
 {
     if body.len() < 12 {
         return Line::new();
@@ -135,7 +132,7 @@ pub fn rounds(body: &[u8], values: &mut [u64]) -> Line
 
 // The rounds in a room that is filled before.
 fn rounds_in(message: &[u8], budget: u32, room: &mut [u64]) -> Line
-    ensures { λ r. ⌜ Sound r ⌝ }
+    ensures { Sound result }
 {
     rooms::fill_values(room);
     let outcome = rounds::solve(message, budget, room);
@@ -144,7 +141,7 @@ fn rounds_in(message: &[u8], budget: u32, room: &mut [u64]) -> Line
 
 // The number and offset, the count and the room's sum.
 fn rounds_line(outcome: Outcome, room: u32) -> Line
-    ensures { λ r. ⌜ Sound r ⌝ }
+    ensures { Sound result }
 {
     checked_line(b'R', outcome.number(), outcome.offset())
         .number(outcome.count() as u64)
@@ -153,7 +150,7 @@ fn rounds_line(outcome: Outcome, room: u32) -> Line
 
 // `V`: a state, a budget, a room in bytes, a room in numbers; a model, a formula.
 pub fn verdict(body: &[u8], bytes: &mut [u8], values: &mut [u64]) -> Line
-    ensures { λ r. ⌜ Sound r ⌝ }
+    ensures { Sound result }
 {
     if body.len() < 20 {
         return Line::new();
@@ -173,8 +170,8 @@ pub fn verdict(body: &[u8], bytes: &mut [u8], values: &mut [u64]) -> Line
 
 // The first message ends where its length says, and what is left is the second with its length.
 fn verdict_on(body: &[u8], bytes: &mut [u8], values: &mut [u64]) -> Line
-    requires { ⌜ 20 ≤ length (now body) ⌝ }
-    ensures { λ r. ⌜ Sound r ⌝ }
+    requires { 20 ≤ length body.now }
+    ensures { Sound result }
 {
     let state = wire::number_at(body, 0, Width::Four);
     let budget = wire::number_at(body, 4, Width::Four);
@@ -205,7 +202,7 @@ fn verdict_in(
     bytes: &mut [u8],
     values: &mut [u64],
 ) -> Line
-    ensures { λ r. ⌜ Sound r ⌝ }
+    ensures { Sound result }
 {
     rooms::fill_bytes(bytes);
     rooms::fill_values(values);
@@ -215,8 +212,8 @@ fn verdict_in(
 
 // A field: a space, and the word for a verdict.
 fn verdict_word(line: Line, verdict: Verdict) -> Line
-    requires { ⌜ Sound line ⌝ }
-    ensures { λ r. ⌜ Sound r ⌝ }
+    requires { Sound line }
+    ensures { Sound result }
 {
     match verdict {
         Verdict::Yes => line.text(b" yes"),
@@ -227,7 +224,7 @@ fn verdict_word(line: Line, verdict: Verdict) -> Line
 
 // The number and offset, the verdict, the count, the length and both rooms' sums.
 fn verdict_line(answer: Answer, bytes: u32, values: u32) -> Line
-    ensures { λ r. ⌜ Sound r ⌝ }
+    ensures { Sound result }
 {
     let line = checked_line(b'V', answer.number(), answer.offset());
     verdict_word(line, answer.verdict())
@@ -239,7 +236,7 @@ fn verdict_line(answer: Answer, bytes: u32, values: u32) -> Line
 
 // `S`: a root, a room in words; a graph.
 pub fn search(body: &[u8], words: &mut [u32]) -> Line
-    ensures { λ r. ⌜ Sound r ⌝ }
+    ensures { Sound result }
 {
     if body.len() < 12 {
         return Line::new();
@@ -259,7 +256,7 @@ pub fn search(body: &[u8], words: &mut [u32]) -> Line
 
 // The search in a room that is filled before.
 fn search_in(message: &[u8], root: u32, room: &mut [u32]) -> Line
-    ensures { λ r. ⌜ Sound r ⌝ }
+    ensures { Sound result }
 {
     rooms::fill_words(room);
     let found = search::decide(message, root, room);
@@ -268,8 +265,8 @@ fn search_in(message: &[u8], root: u32, room: &mut [u32]) -> Line
 
 // A field: a space, and the word for a search's verdict.
 fn search_word(line: Line, verdict: search::Verdict) -> Line
-    requires { ⌜ Sound line ⌝ }
-    ensures { λ r. ⌜ Sound r ⌝ }
+    requires { Sound line }
+    ensures { Sound result }
 {
     match verdict {
         search::Verdict::Yes => line.text(b" yes"),
@@ -280,7 +277,7 @@ fn search_word(line: Line, verdict: search::Verdict) -> Line
 
 // The number and offset, the verdict, how many edges were taken off the stacks, and the room's sum.
 fn search_line(found: search::Answer, room: u32) -> Line
-    ensures { λ r. ⌜ Sound r ⌝ }
+    ensures { Sound result }
 {
     let line = checked_line(b'S', found.number(), found.offset());
     search_word(line, found.verdict())
@@ -290,7 +287,7 @@ fn search_line(found: search::Answer, room: u32) -> Line
 
 // `C`: a graph, claims. The first message ends where its length says, and what is left is the second with its length.
 pub fn claims(body: &[u8]) -> Line
-    ensures { λ r. ⌜ Sound r ⌝ }
+    ensures { Sound result }
 {
     if body.len() < 4 {
         return Line::new();
@@ -316,8 +313,8 @@ pub fn claims(body: &[u8]) -> Line
 
 // A field: a space, and the word for a checker's verdict.
 fn judged_word(line: Line, judged: Judged) -> Line
-    requires { ⌜ Sound line ⌝ }
-    ensures { λ r. ⌜ Sound r ⌝ }
+    requires { Sound line }
+    ensures { Sound result }
 {
     match judged {
         Judged::Yes => line.text(b" yes"),
@@ -328,7 +325,7 @@ fn judged_word(line: Line, judged: Judged) -> Line
 
 // `W`: a room for claims in bytes, a room in numbers; a graph.
 pub fn certify(body: &[u8], bytes: &mut [u8], values: &mut [u64]) -> Line
-    ensures { λ r. ⌜ Sound r ⌝ }
+    ensures { Sound result }
 {
     if body.len() < 12 {
         return Line::new();
@@ -352,7 +349,7 @@ pub fn certify(body: &[u8], bytes: &mut [u8], values: &mut [u64]) -> Line
 
 // The writer in rooms that are filled before.
 fn certify_in(message: &[u8], room: &mut [u8], words: &mut [u64]) -> Line
-    ensures { λ r. ⌜ Sound r ⌝ }
+    ensures { Sound result }
 {
     rooms::fill_bytes(room);
     rooms::fill_values(words);
@@ -362,7 +359,7 @@ fn certify_in(message: &[u8], room: &mut [u8], words: &mut [u64]) -> Line
 
 // Where claims were written, the room holds as many as the graph has nodes, and what is behind them.
 fn certified(message: &[u8], written: ranks::Written, room: &[u8], lent: u32) -> Line
-    ensures { λ r. ⌜ Sound r ⌝ }
+    ensures { Sound result }
 {
     match written {
         ranks::Written::Claims => certified_front(message, room, lent),
@@ -374,7 +371,7 @@ fn certified(message: &[u8], written: ranks::Written, room: &[u8], lent: u32) ->
 
 // The claims are the front of the room; no graph has as many as 65,536 nodes.
 fn certified_front(message: &[u8], room: &[u8], lent: u32) -> Line
-    ensures { λ r. ⌜ Sound r ⌝ }
+    ensures { Sound result }
 {
     let graph::Checked::Graph(nodes, _, _, _) = graph::check(message) else {
         return Line::new();
@@ -386,7 +383,7 @@ fn certified_front(message: &[u8], room: &[u8], lent: u32) -> Line
 
 // The number and offset of a refusal, no verdict, no values, and the sums of both rooms.
 fn uncertified_line(number: u8, offset: usize, room: u32, lent: u32) -> Line
-    ensures { λ r. ⌜ Sound r ⌝ }
+    ensures { Sound result }
 {
     checked_line(b'W', number, offset)
         .text(b" none")
@@ -397,7 +394,7 @@ fn uncertified_line(number: u8, offset: usize, room: u32, lent: u32) -> Line
 
 // What the checker says of the claims, the sum of the claimed values, that of the rest of their room, and that of the words.
 fn certified_line(message: &[u8], claimed: &[u8], rest: u32, lent: u32) -> Line
-    ensures { λ r. ⌜ Sound r ⌝ }
+    ensures { Sound result }
 {
     let judged = claims::check(message, claimed);
     let values = sums::of_claimed(claimed);
@@ -409,7 +406,7 @@ fn certified_line(message: &[u8], claimed: &[u8], rest: u32, lent: u32) -> Line
 
 // `N`: entries, into one tally that starts at zero.
 pub fn entries(body: &[u8]) -> Line
-    ensures { λ r. ⌜ Sound r ⌝ }
+    ensures { Sound result }
 {
     if body.len() < 4 {
         return Line::new();

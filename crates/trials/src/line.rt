@@ -1,11 +1,14 @@
 // A line of output, gathered and then written at once.
-ghost use mathlib.Core.Path.{_≡_};
-ghost use mathlib.Core.List.{[], _∷_};
-ghost use Rattle·io.specs.Digits.{digits};
-ghost use Rattle·trials·specs.specs.Lines.{Sound, textOf, more, WithNumber};
-use libc::STDOUT_FILENO;
+ghost use Rattle.std.specs.Prelude.{◌≡◌, [], ◌∷◌, OnOk, OnErr};
+ghost use Rattle.std.specs.Io.KnownBytes.{Appends};
+ghost use Rattle.io.specs.Digits.{last_digits};
+ghost use Rattle.intake.specs.Fronts.{AppendsFront};
+ghost use Rattle.trials.specs.Lines.{Sound, text_of, more, WithNumber};
+
+use std::io::{Result, Write};
 
 // The first len bytes are the line's; what would run past the end is dropped.
+#[derive(Drop)]
 pub struct Line {
     pub bytes: [u8; 256],
     pub len: usize,
@@ -14,8 +17,8 @@ pub struct Line {
 impl Line {
     // No bytes yet.
     pub fn new() -> Self
-        ensures { λ r. ⌜ Sound r ⌝ }
-        ensures { λ r. ⌜ textOf r ≡ [] ⌝ }
+        ensures sound { Sound result }
+        ensures result_value { text_of result ≡ [] }
     {
         Line {
             bytes: [0; 256],
@@ -25,9 +28,9 @@ impl Line {
 
     // One byte more.
     pub fn byte(mut self, b: u8) -> Self
-        requires { ⌜ Sound self ⌝ }
-        ensures { λ r. ⌜ Sound r ⌝ }
-        ensures { λ r. ⌜ textOf r ≡ more (textOf self) (b ∷ []) ⌝ }
+        requires { Sound self }
+        ensures sound { Sound result }
+        ensures result_value { text_of result ≡ more (text_of self) (b ∷ []) }
     {
         let at = self.len;
         if at < 256 {
@@ -39,9 +42,9 @@ impl Line {
 
     // These bytes more.
     pub fn text(self, s: &[u8]) -> Self
-        requires { ⌜ Sound self ⌝ }
-        ensures { λ r. ⌜ Sound r ⌝ }
-        ensures { λ r. ⌜ textOf r ≡ more (textOf self) (now (s .entry)) ⌝ }
+        requires { Sound self }
+        ensures sound { Sound result }
+        ensures result_value { text_of result ≡ more (text_of self) s.now }
     {
         let mut line = self;
         let mut i = 0;
@@ -54,8 +57,8 @@ impl Line {
 
     // A field: a space, and a number in decimal.
     pub fn number(self, n: u64) -> Self
-        requires { ⌜ Sound self ⌝ }
-        ensures { λ r. ⌜ WithNumber self n r ⌝ }
+        requires { Sound self }
+        ensures { WithNumber self n result }
     {
         let mut digits = [0u8; 20];
         let k = io::decimal(n, &mut digits);
@@ -64,22 +67,24 @@ impl Line {
 
     // A field: a space, and a sum in 8 hex digits.
     pub fn sum(self, n: u32) -> Self
-        requires { ⌜ Sound self ⌝ }
-        ensures { λ r. ⌜ Sound r ⌝ }
-        ensures { λ r. ⌜ textOf r ≡ more (textOf self) (32 ∷ digits 16 8 n) ⌝ }
+        requires { Sound self }
+        ensures sound { Sound result }
+        ensures result_value { text_of result ≡ more (text_of self) (32 ∷ last_digits 16 8 n) }
     {
         let mut digits = [0u8; 16];
         let k = io::hex(n as u64, 8, &mut digits);
         self.byte(b' ').text(&digits[..k])
     }
 
-    // Writes the line with its end, and says whether that could be done.
-    pub fn write(self) -> bool
-        requires { ⌜ Sound self ⌝ }
+    // Writes the line with its end; at an error some front of it is written.
+    pub fn write<W: Write>(self, to: &mut W) -> Result<()>
+        requires { Sound self }
+        ensures ok { OnOk result (Appends (W.contents to.old) (W.contents to.new) (more (text_of self) (10 ∷ []))) }
+        ensures err { OnErr result (AppendsFront (W.contents to.old) (W.contents to.new) (more (text_of self) (10 ∷ []))) }
     {
         let whole = self.byte(b'\n');
         let bytes = whole.bytes;
         let len = whole.len;
-        io::write_all(STDOUT_FILENO, &bytes[..len])
+        intake::put(to, &bytes[..len])
     }
 }

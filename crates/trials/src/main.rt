@@ -1,18 +1,21 @@
 // Answers a batch of calls from standard input with a line for each.
+#![tactic(auto)]
+
 mod answers;
 mod line;
 mod rooms;
 mod sheet;
 mod sums;
 
-ghost use Rattle·trials·specs.specs.Lines.{Sound};
-use libc::STDIN_FILENO;
+ghost use Rattle.trials.specs.Lines.{Sound};
+
 use line::Line;
+use std::io::{Read, Result, Write};
 use wire::Width;
 
 // The line that answers a call; an empty one where there is no such call.
 fn answer(letter: u8, body: &[u8], bytes: &mut [u8], values: &mut [u64], words: &mut [u32]) -> Line
-    ensures { λ r. ⌜ Sound r ⌝ }
+    ensures { Sound result }
 {
     match letter {
         b'G' => answers::graph(body),
@@ -30,62 +33,89 @@ fn answer(letter: u8, body: &[u8], bytes: &mut [u8], values: &mut [u64], words: 
 }
 
 // Says that this is no call; nothing more is read.
-fn refuse(letter: u8) -> bool {
-    Line::new().byte(b'?').number(letter as u64).write();
-    false
+fn refuse<W: Write>(to: &mut W, letter: u8) -> Result<bool> {
+    Line::new().byte(b'?').number(letter as u64).write(to)?;
+    Ok(false)
 }
 
 // Reads the body of a call, answers the call, and says whether to go on.
-fn answer_body(
+fn answer_body<R: Read, W: Write>(
+    from: &mut R,
+    to: &mut W,
     letter: u8,
     body: &mut [u8],
     bytes: &mut [u8],
     values: &mut [u64],
     words: &mut [u32],
-) -> bool {
-    if io::read_full(STDIN_FILENO, body) < body.len() {
-        return refuse(letter);
+) -> Result<bool> {
+    if intake::fill(from, body)? < body.len() {
+        return refuse(to, letter);
     }
     let line = answer(letter, body, bytes, values, words);
     if line.len == 0 {
-        return refuse(letter);
+        return refuse(to, letter);
     }
-    line.write()
+    line.write(to)?;
+    Ok(true)
 }
 
 // Answers the next call, if there is one, and says whether to go on.
-fn answer_next(space: &mut [u8], bytes: &mut [u8], values: &mut [u64], words: &mut [u32]) -> bool {
+fn answer_next<R: Read, W: Write>(
+    from: &mut R,
+    to: &mut W,
+    space: &mut [u8],
+    bytes: &mut [u8],
+    values: &mut [u64],
+    words: &mut [u32],
+) -> Result<bool> {
     let mut head = [0u8; 5];
-    let got = io::read_full(STDIN_FILENO, &mut head);
+    let got = intake::fill(from, &mut head)?;
     if got == 0 {
-        return false;
+        return Ok(false);
     }
     let letter = head[0];
     if got < 5 {
-        return refuse(letter);
+        return refuse(to, letter);
     }
     let asked = wire::number_at(&head, 1, Width::Four);
     let size = rooms::front_of_bytes(asked, space);
     if size < asked as usize {
-        return refuse(letter);
+        return refuse(to, letter);
     }
-    answer_body(letter, &mut space[..size], bytes, values, words)
+    answer_body(from, to, letter, &mut space[..size], bytes, values, words)
 }
 
-// A proved loop has to end, and nothing says that the input does: so it counts its turns down, from a number that no run
-// uses up.
-fn answer_all(space: &mut [u8], bytes: &mut [u8], values: &mut [u64], words: &mut [u32]) {
-    let mut turns = u64::MAX;
-    while 0 < turns && answer_next(space, bytes, values, words) {
-        turns -= 1;
+// A proved loop has to end, and nothing says that the input does: so it counts its turns, up to a number that no run uses up.
+fn answer_all<R: Read, W: Write>(
+    from: &mut R,
+    to: &mut W,
+    space: &mut [u8],
+    bytes: &mut [u8],
+    values: &mut [u64],
+    words: &mut [u32],
+) -> Result<()> {
+    for _ in 0..u64::MAX {
+        if !answer_next(from, to, space, bytes, values, words)? {
+            return Ok(());
+        }
     }
+    Ok(())
 }
 
 // The largest call has 4 numbers and 2 messages; rooms are the fronts of what is lent here, and its lengths are their limits.
-fn main() {
+fn main(rt: HostRuntime) -> Result<()> {
     let mut space = [0u8; 131096];
     let mut bytes = [0u8; 65536];
     let mut values = [0u64; 32768];
     let mut words = [0u32; 262144];
-    answer_all(&mut space, &mut bytes, &mut values, &mut words);
+    let mut from = rt.stdin();
+    let mut to = rt.stdout();
+    answer_all(
+        &mut from,
+        &mut to,
+        &mut space,
+        &mut bytes,
+        &mut values,
+        &mut words,
+    )
 }

@@ -1,11 +1,11 @@
 // The rooms that calls are lent: fronts of what the program has, filled afresh.
-ghost use Prim.Native.Nat.{_+_, _%_};
-ghost use Rattle·io.specs.Counts.{Counts};
-ghost use Rattle·trials·specs.specs.Rooms.{Each};
+ghost use Rattle.std.specs.Prelude.{◌+◌, ◌%◌};
+ghost use Rattle.io.specs.Counts.{IsPrefixLen};
+ghost use Rattle.trials.specs.Rooms.{Each};
 
-// As many of the bytes as are asked for, or all. Both facts of `Counts` are asked where a front is lent.
+// As many of the bytes as are asked for, or all. Both facts of `IsPrefixLen` are asked where a front is lent.
 pub fn front_of_bytes(n: u32, s: &[u8]) -> usize
-    ensures { λ r. ⌜ Counts r (now (s .entry)) ⌝ }
+    ensures { IsPrefixLen result s.now }
 {
     let k = n as usize;
     if k < s.len() { k } else { s.len() }
@@ -13,7 +13,7 @@ pub fn front_of_bytes(n: u32, s: &[u8]) -> usize
 
 // As many of the numbers as are asked for, or all.
 pub fn front_of_values(n: u32, s: &[u64]) -> usize
-    ensures { λ r. ⌜ Counts r (now (s .entry)) ⌝ }
+    ensures { IsPrefixLen result s.now }
 {
     let k = n as usize;
     if k < s.len() { k } else { s.len() }
@@ -21,7 +21,7 @@ pub fn front_of_values(n: u32, s: &[u64]) -> usize
 
 // As many of the words as are asked for, or all.
 pub fn front_of_words(n: u32, s: &[u32]) -> usize
-    ensures { λ r. ⌜ Counts r (now (s .entry)) ⌝ }
+    ensures { IsPrefixLen result s.now }
 {
     let k = n as usize;
     if k < s.len() { k } else { s.len() }
@@ -29,7 +29,7 @@ pub fn front_of_words(n: u32, s: &[u32]) -> usize
 
 // Byte i is i mod 251.
 pub fn fill_bytes(room: &mut [u8])
-    ensures { λ _. ⌜ Each (λ i. i % 251) (now (room .exit)) ⌝ }
+    ensures { Each (λ i. i % 251) room.new }
 {
     let mut i = 0;
     while i < room.len() {
@@ -40,7 +40,7 @@ pub fn fill_bytes(room: &mut [u8])
 
 // Number i is i + 1.
 pub fn fill_values(room: &mut [u64])
-    ensures { λ _. ⌜ Each (λ i. i + 1) (now (room .exit)) ⌝ }
+    ensures { Each (λ i. i + 1) room.new }
 {
     let mut i = 0;
     while i < room.len() {
@@ -51,7 +51,7 @@ pub fn fill_values(room: &mut [u64])
 
 // Word i is i + 1; no room of the program has so many that one wouldn't fit.
 pub fn fill_words(room: &mut [u32])
-    ensures { λ _. ⌜ Each (λ i. (i + 1) % 4294967296) (now (room .exit)) ⌝ }
+    ensures { Each (λ i. (i + 1) % 4294967296) room.new }
 {
     let mut i = 0;
     while i < room.len() {

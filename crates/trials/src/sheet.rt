@@ -1,14 +1,14 @@
 // The nightly sheet of a message of entries, of 6 bytes each: kind, the refusal's number, rounds.
-ghost use Prim.Native.Nat.{_+_, _≤_};
-ghost use lib.ListN.{length};
-ghost use Rattle·trials·specs.specs.Lines.{Sound};
+ghost use Rattle.std.specs.Prelude.{◌+◌, ◌≤◌, length};
+ghost use Rattle.trials.specs.Lines.{Sound};
+
 use crate::line::Line;
 use crate::sums;
-use tally::Entry;
-use tally::Tally;
+use tally::{Entry, Tally};
 use wire::Width;
 
 // The tally after the entries, how many were accepted, and the sum of the numbers that were answered.
+#[derive(Drop)]
 struct Sheet {
     tally: Tally,
     accepted: u64,
@@ -34,7 +34,7 @@ fn are_entries(s: &[u8]) -> bool {
 
 // The entry at a position.
 fn entry_at(s: &[u8], at: usize) -> Entry
-    requires { ⌜ at + 6 ≤ length (now s) ⌝ }
+    requires { at + 6 ≤ length s.now }
 {
     let rounds = wire::number_at(s, at + 2, Width::Four);
     match s[at] {
@@ -82,7 +82,7 @@ fn note_all(s: &[u8]) -> Sheet {
 
 // How many were accepted, the sum of the answers, and the numbers of the report.
 fn sheet_line(sheet: Sheet) -> Line
-    ensures { λ r. ⌜ Sound r ⌝ }
+    ensures { Sound result }
 {
     let tally = sheet.tally;
     let numbers = tally.numbers();
@@ -100,7 +100,7 @@ fn sheet_line(sheet: Sheet) -> Line
 
 // The line of a message of entries; an empty one where it is none.
 pub fn line(message: &[u8]) -> Line
-    ensures { λ r. ⌜ Sound r ⌝ }
+    ensures { Sound result }
 {
     if !are_entries(message) {
         return Line::new();

@@ -1,9 +1,13 @@
 // How the rounds on a message end, and where each of their turns begins.
-ghost use mathlib.Core.Path.{_≡_};
-ghost use Rattle·turns·specs.specs.Outcome.{outcomeNumber, outcomeOffset, outcomeCount};
+#![tactic(auto)]
+
+ghost use Rattle.std.specs.Prelude.{◌≡◌};
+ghost use Rattle.turns.specs.Outcome.{outcome_number, outcome_offset, outcome_count};
+
 use refusal::Fault;
 
 // How the rounds on a message ended: settled, or the budget spent, after so many rounds; or refused.
+#[derive(Clone, Copy)]
 pub enum Outcome {
     Settled(u32),
     Spent(u32),
@@ -13,7 +17,7 @@ pub enum Outcome {
 impl Outcome {
     // The number that the paper gives the outcome.
     pub fn number(self) -> u8
-        ensures { λ r. ⌜ r ≡ outcomeNumber self ⌝ }
+        ensures { result ≡ outcome_number self }
     {
         match self {
             Outcome::Settled(_) => 0,
@@ -24,7 +28,7 @@ impl Outcome {
 
     // Where the field starts that was found wrong, and 0 where none was.
     pub fn offset(self) -> usize
-        ensures { λ r. ⌜ r ≡ outcomeOffset self ⌝ }
+        ensures { result ≡ outcome_offset self }
     {
         match self {
             Outcome::Settled(_) => 0,
@@ -35,7 +39,7 @@ impl Outcome {
 
     // The reported count of rounds.
     pub fn count(self) -> u32
-        ensures { λ r. ⌜ r ≡ outcomeCount self ⌝ }
+        ensures { result ≡ outcome_count self }
     {
         match self {
             Outcome::Settled(m) => m,

@@ -1,8 +1,6 @@
 -- How a value is stored in 64 bits.
-use Prim.Native.Nat.{ℕ, min}
-use mathlib.Core.Bool.{cond}
-use lib.Dec.{eqb}
-use Rattle·value·specs.specs.Value.{Value, fin, inf}
+use Rattle.std.specs.Prelude.{ℕ, min, cond, eqb}
+use Rattle.value.specs.Value.{Value, fin, inf}
 
 -- infinity is stored as 18,446,744,073,709,551,615
 abbrev pub infinite : ℕ

@@ -1,13 +1,10 @@
 -- A value is a whole number or infinity.
-use mathlib.Core.Path.{_≡_}
-use mathlib.Core.Bool.{Bool, true, false}
-use Prim.Native.Nat.{ℕ, _+_, min, max}
-use lib.Dec.{eqb, leb}
-use Rattle·value·specs.specs.declared.Bound.{Bound}
-use Rattle·value·specs.specs.declared.Bound.the-variants.{Within, Unbounded}
+use Rattle.std.specs.Prelude.{◌≡◌, Bool, true, false, ℕ, ◌+◌, min, max, eqb, leb}
+use Rattle.value.specs.declared.Bound.{Bound}
+use Rattle.value.specs.declared.Bound.TheVariants.{Within, Unbounded}
 
-infix 40 _≼_
-infix 40 _⊑_
+infix 40 ◌≼◌
+infix 40 ◌⊑◌
 pub data Value : Type 0 where
   fin : ℕ → Value
   inf : Value
@@ -30,9 +27,9 @@ least (fin a) inf = fin a
 least inf b = b
 
 -- the test whether the value is at most the number
-abbrev pub atMost : Value → ℕ → Bool
-atMost (fin a) k = leb a k
-atMost inf k = false
+abbrev pub at_most : Value → ℕ → Bool
+at_most (fin a) k = leb a k
+at_most inf k = false
 
 -- the value is a whole number
 abbrev pub finite : Value → Bool
@@ -53,13 +50,13 @@ inside Unbounded a = true
 
 -- the value is within the bound: at most its number; with no bound, finite
 abbrev pub meets : Bound → Value → Bool
-meets (Within k) a = atMost a k
+meets (Within k) a = at_most a k
 meets Unbounded a = finite a
 
 -- the value is at most the number
-pub record _≼_ (a : Value) (k : ℕ) : Type 0 where
-  pub test : atMost a k ≡ true
+pub record ◌≼◌ (a : Value) (k : ℕ) : Type 0 where
+  pub test : at_most a k ≡ true
 
 -- the order of values, infinity the largest: a is at most every number that b is at most
-pub record _⊑_ (a b : Value) : Type 0 where
+pub record ◌⊑◌ (a b : Value) : Type 0 where
   pub carries : {k : ℕ} → b ≼ k → a ≼ k

@@ -1,14 +1,13 @@
 // The whole question: a model, a formula, a state and a budget; yes, no, or a refusal. What is asked of all states at once is passed on.
-ghost use mathlib.Core.Path.{_≡_};
-ghost use Rattle·settling.specs.Answer.{readAsked, answerOf, bytesOf, valuesOf};
-ghost use Rattle·states.specs.Promise.{Promise};
+#![tactic(auto)]
+
+ghost use Rattle.std.specs.Prelude.{◌≡◌};
+ghost use Rattle.settling.specs.Answer.{read_asked, answer_of, bytes_of, values_of};
+ghost use Rattle.states.specs.Promise.{Promise};
+
 use questions::Asked;
-pub use settling::AllStates;
-pub use settling::Answer;
-pub use settling::Verdict;
-pub use states::graph;
-pub use states::nodes;
-pub use states::settle;
+pub use settling::{AllStates, Answer, Verdict};
+pub use states::{graph, nodes, settle};
 
 // The verdict on one state.
 pub fn decide(
@@ -19,11 +18,11 @@ pub fn decide(
     bytes: &mut [u8],
     values: &mut [u64],
 ) -> Answer
-    ensures { λ r. ⌜ r ≡ answerOf (readAsked (now (m .entry)) (now (f .entry)) state (now (bytes .entry)) (now (values .entry))) state budget ⌝ }
-    ensures { λ _. ⌜ now (bytes .exit) ≡ bytesOf (readAsked (now (m .entry)) (now (f .entry)) state (now (bytes .entry)) (now (values .entry))) (now (bytes .entry)) ⌝ }
-    ensures { λ _. ⌜ now (values .exit) ≡ valuesOf (readAsked (now (m .entry)) (now (f .entry)) state (now (bytes .entry)) (now (values .entry))) budget (now (values .entry)) ⌝ }
-    ensures { λ r. ⌜ Promise (now (m .entry)) (now (f .entry)) state budget (now (bytes .entry)) (now (values .entry)) (now (bytes .exit))
-        (now (values .exit)) r ⌝ }
+    ensures value { result ≡ answer_of (read_asked m.now f.now state bytes.old values.old) state budget }
+    ensures bytes_after { bytes.new ≡ bytes_of (read_asked m.now f.now state bytes.old values.old) bytes.old }
+    ensures values_after { values.new ≡ values_of (read_asked m.now f.now state bytes.old values.old) budget values.old }
+    ensures promise { Promise m.now f.now state budget bytes.old values.old bytes.new
+        values.new result }
 {
     match questions::question(m, f) {
         Asked::Refused(e) => Answer::Refused(e),

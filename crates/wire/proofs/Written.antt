@@ -1,33 +1,30 @@
 -- Records that are written one behind the other: joined, mapped, kept by a test, of each number of a span. Assumes nothing.
-use Prim.Native.Nat.{ℕ, zero, suc}
-use mathlib.Core.List.{List, [], _∷_, _++_, map, append-assoc}
-use mathlib.Core.Bool.{Bool, true, false, cond}
-use mathlib.Core.Path.{_≡_, refl, sym, ap, _∙_}
-use Rattle·lists.specs.Making.{keep, span}
-use Rattle·wire·specs.specs.Write.{writeAll}
+use Rattle.std.proofs.Common.{◌≡◌, ℕ, zero, suc, Bool, true, false, cond, List, [], ◌∷◌, ◌++◌, map, sym, refl, ap, ◌∙◌, append_assoc}
+use Rattle.lists.specs.Making.{keep, span}
+use Rattle.wire.specs.Write.{write_all}
 
-pub writeAll-append : {A : Type 0} (w : A → List ℕ) (xs ys : List A) → writeAll w (xs ++ ys) ≡ writeAll w xs ++ writeAll w ys
-unfolding writeAll
-writeAll-append w [] ys = refl
-writeAll-append w (a ∷ xs) ys = ap (λ (s : List ℕ). w a ++ s) (writeAll-append w xs ys) ∙ sym (append-assoc (w a) (writeAll w xs) (writeAll w ys))
+pub write_all_append : {A : Type 0} (w : A → List ℕ) (xs ys : List A) → write_all w (xs ++ ys) ≡ write_all w xs ++ write_all w ys
+unfolding write_all
+write_all_append w [] ys = refl
+write_all_append w (a ∷ xs) ys = ap (λ (s : List ℕ). w a ++ s) (write_all_append w xs ys) ∙ sym (append_assoc (w a) (write_all w xs) (write_all w ys))
 
-pub writeAll-map : {A B : Type 0} (w : B → List ℕ) (f : A → B) (l : List A) → writeAll w (map f l) ≡ writeAll (λ a. w (f a)) l
-unfolding writeAll
-writeAll-map w f [] = refl
-writeAll-map w f (a ∷ l) = ap (λ (s : List ℕ). w (f a) ++ s) (writeAll-map w f l)
+pub write_all_map : {A B : Type 0} (w : B → List ℕ) (f : A → B) (l : List A) → write_all w (map f l) ≡ write_all (λ a. w (f a)) l
+unfolding write_all
+write_all_map w f [] = refl
+write_all_map w f (a ∷ l) = ap (λ (s : List ℕ). w (f a) ++ s) (write_all_map w f l)
 
-pub writeAll-keep : {A : Type 0} (w : A → List ℕ) (p : A → Bool) (l : List A) → writeAll w (keep p l) ≡ writeAll (λ a. cond (p a) (w a) []) l
-unfolding writeAll keep
-writeAll-keep w p [] = refl
-writeAll-keep w p (a ∷ l) = go (p a) (writeAll-keep w p l)
+pub write_all_keep : {A : Type 0} (w : A → List ℕ) (p : A → Bool) (l : List A) → write_all w (keep p l) ≡ write_all (λ a. cond (p a) (w a) []) l
+unfolding write_all keep
+write_all_keep w p [] = refl
+write_all_keep w p (a ∷ l) = go (p a) (write_all_keep w p l)
   where
-    go : (t : Bool) → writeAll w (keep p l) ≡ writeAll (λ a. cond (p a) (w a) []) l
-        → writeAll w (cond t (a ∷ keep p l) (keep p l)) ≡ cond t (w a) [] ++ writeAll (λ a. cond (p a) (w a) []) l
+    go : (t : Bool) → write_all w (keep p l) ≡ write_all (λ a. cond (p a) (w a) []) l
+        → write_all w (cond t (a ∷ keep p l) (keep p l)) ≡ cond t (w a) [] ++ write_all (λ a. cond (p a) (w a) []) l
     go true e = ap (λ (s : List ℕ). w a ++ s) e
     go false e = e
 
 -- records of each number, written
-pub span-written : {B : Type 0} (w : B → List ℕ) (f : ℕ → List B) (a n : ℕ) → writeAll w (span f a n) ≡ span (λ c. writeAll w (f c)) a n
-unfolding span writeAll
-span-written w f a zero = refl
-span-written w f a (suc n) = writeAll-append w (f a) (span f (suc a) n) ∙ ap (λ (s : List ℕ). writeAll w (f a) ++ s) (span-written w f (suc a) n)
+pub span_written : {B : Type 0} (w : B → List ℕ) (f : ℕ → List B) (a n : ℕ) → write_all w (span f a n) ≡ span (λ c. write_all w (f c)) a n
+unfolding span write_all
+span_written w f a zero = refl
+span_written w f a (suc n) = write_all_append w (f a) (span f (suc a) n) ∙ ap (λ (s : List ℕ). write_all w (f a) ++ s) (span_written w f (suc a) n)

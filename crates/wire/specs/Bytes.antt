@@ -1,12 +1,10 @@
 -- Unsigned big-endian numbers, over the width k in bytes.
-use Prim.Native.Nat.{ℕ, zero, suc, _+_, _*_, _/_, _%_, _<_}
-use mathlib.Core.List.{List, [], _∷_, _++_}
-use lib.ListN.{getD, take, drop}
+use Rattle.std.specs.Prelude.{ℕ, zero, suc, ◌+◌, ◌*◌, ◌/◌, ◌%◌, ◌<◌, List, [], ◌∷◌, ◌++◌, take, drop, slice_index}
 
 -- the number that the k bytes at a position make
 unfoldable pub number : ℕ → List ℕ → ℕ → ℕ
 number zero s at = 0
-number (suc k) s at = number k s at * 256 + getD s (at + k) 0
+number (suc k) s at = number k s at * 256 + slice_index s (at + k)
 
 -- the k bytes of a number
 unfoldable pub bytes : ℕ → ℕ → List ℕ
@@ -19,4 +17,4 @@ put b at k n = take at b ++ bytes k n ++ drop (at + k) b
 
 -- every element is a byte
 abbrev pub Bytes : List ℕ → Type 0
-Bytes s = (i : ℕ) → getD s i 0 < 256
+Bytes s = (i : ℕ) → slice_index s i < 256

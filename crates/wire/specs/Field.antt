@@ -1,32 +1,28 @@
 -- What reading a field finds.
-use Prim.Native.Nat.{ℕ, _+_}
-use mathlib.Core.List.{List}
-use mathlib.Core.Bool.{cond}
-use lib.ListN.{length}
-use lib.Dec.{leb}
-use Rattle·refusal.specs.declared.Fault.{Fault}
-use Rattle·refusal.specs.declared.Refusal.the-variants.{Length}
-use Rattle·refusal.specs.Number.{unplaced}
-use Rattle·wire·specs.specs.Bytes.{number}
-use Rattle·wire·specs.specs.declared.Width.{Width}
-use Rattle·wire·specs.specs.declared.Width.the-variants.{One, Two, Four}
-use Rattle·wire·specs.specs.declared.Field.{Field}
-use Rattle·wire·specs.specs.declared.Field.the-variants.{Number, Refused}
+use Rattle.std.specs.Prelude.{ℕ, ◌+◌, cond, List, length, nat_le}
+use Rattle.refusal.specs.declared.Fault.{Fault}
+use Rattle.refusal.specs.declared.Refusal.TheVariants.{Length}
+use Rattle.refusal.specs.Number.{unplaced}
+use Rattle.wire.specs.Bytes.{number}
+use Rattle.wire.specs.declared.Width.{Width}
+use Rattle.wire.specs.declared.Width.TheVariants.{One, Two, Four}
+use Rattle.wire.specs.declared.Field.{Field}
+use Rattle.wire.specs.declared.Field.TheVariants.{Number, Refused}
 
 -- how many bytes a width is
-abbrev pub widthOf : Width → ℕ
-widthOf One = 1
-widthOf Two = 2
-widthOf Four = 4
+abbrev pub width_of : Width → ℕ
+width_of One = 1
+width_of Two = 2
+width_of Four = 4
 
 -- how many bytes a number of 64 bits has
-abbrev pub longWidth : ℕ
-longWidth = 8
+abbrev pub long_width : ℕ
+long_width = 8
 
 -- too few bytes are LENGTH, and no field's fault
 abbrev pub short : Fault
 short = unplaced Length
 
 -- the number that the k bytes at the position make, or LENGTH where they run past the end
-unfoldable pub fieldAt : ℕ → List ℕ → ℕ → Field
-fieldAt k s at = cond (leb (at + k) (length s)) (Number (number k s at)) (Refused short)
+unfoldable pub field_at : ℕ → List ℕ → ℕ → Field
+field_at k s at = cond (nat_le (at + k) (length s)) (Number (number k s at)) (Refused short)

@@ -1,43 +1,40 @@
 -- The start that all messages share: the total length, itself included (4 bytes), the version and the kind (a byte each).
-use Prim.Native.Nat.{ℕ, _+_}
-use mathlib.Core.List.{List}
-use lib.ListN.{length}
-use lib.Dec.{leb, eqb}
-use Rattle·refusal.specs.declared.Refusal.the-variants.{Length, Version}
-use Rattle·refusal.specs.Number.{nowhere}
-use Rattle·wire·specs.specs.Read.{Read, good, bad, _>>=_, _>>_, demand, field}
-use Rattle·wire·specs.specs.declared.Head.{Head}
-use Rattle·wire·specs.specs.declared.Opened.{Opened}
-use Rattle·wire·specs.specs.declared.Opened.the-variants.{Open, Refused}
+use Rattle.std.specs.Prelude.{ℕ, ◌+◌, List, length, ◌==◌, nat_le}
+use Rattle.refusal.specs.declared.Refusal.TheVariants.{Length, Version}
+use Rattle.refusal.specs.Number.{nowhere}
+use Rattle.wire.specs.Read.{Read, good, bad, ◌>>=◌, ◌>>◌, demand, field}
+use Rattle.wire.specs.declared.Head.{Head}
+use Rattle.wire.specs.declared.Opened.{Opened}
+use Rattle.wire.specs.declared.Opened.TheVariants.{Open, Refused}
 
 -- where the version and the kind stand, and where a header goes on behind them
-abbrev pub versionAt : ℕ
-versionAt = 4
+abbrev pub version_at : ℕ
+version_at = 4
 
-abbrev pub kindAt : ℕ
-kindAt = versionAt + 1
+abbrev pub kind_at : ℕ
+kind_at = version_at + 1
 
-abbrev pub startWidth : ℕ
-startWidth = kindAt + 1
+abbrev pub start_width : ℕ
+start_width = kind_at + 1
 
 -- a byte that may be this number only, else VERSION
 unfoldable pub only : List ℕ → (at allowed : ℕ) → Read ℕ
 only s at allowed = do
   n ← field 1 s at
-  demand (eqb n allowed) Version at
+  demand (n == allowed) Version at
   good n
 
 -- in this order: the bytes of the header, the length field, the version, the kind
-unfoldable pub readStart : List ℕ → Head → Read Unit
-readStart s head = do
-  demand (leb (head .length) (length s)) Length nowhere
+unfoldable pub read_start : List ℕ → Head → Read Unit
+read_start s head = do
+  demand (nat_le head.length (length s)) Length nowhere
   total ← field 4 s 0
-  demand (eqb total (length s)) Length nowhere
-  v ← only s versionAt (head .version)
-  k ← only s kindAt (head .kind)
+  demand (total == length s) Length nowhere
+  v ← only s version_at head.version
+  k ← only s kind_at head.kind
   good tt
 
 -- what the function that reads the start answers
-unfoldable pub openedOf : Read Unit → Opened
-openedOf (good a) = Open
-openedOf (bad e) = Refused e
+unfoldable pub opened_of : Read Unit → Opened
+opened_of (good a) = Open
+opened_of (bad e) = Refused e

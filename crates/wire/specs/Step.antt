@@ -1,9 +1,9 @@
 -- Where a reading of records begins, and what a function that reads them answers, from what the reading gives.
-use Prim.Native.Nat.{ℕ}
-use Rattle·wire·specs.specs.Read.{Read, good, bad}
-use Rattle·wire·specs.specs.declared.State.{State}
-use Rattle·wire·specs.specs.declared.Step.{Step}
-use Rattle·wire·specs.specs.declared.Step.the-variants.{Next, Refused}
+use Rattle.std.specs.Prelude.{ℕ}
+use Rattle.wire.specs.Read.{Read, good, bad}
+use Rattle.wire.specs.declared.State.{State}
+use Rattle.wire.specs.declared.Step.{Step}
+use Rattle.wire.specs.declared.Step.TheVariants.{Next, Refused}
 
 -- where the records of a list start
 abbrev pub start : ℕ → State

@@ -1,18 +1,17 @@
 // Numbers in message bytes, big-endian, over the width, and the start that all messages share.
-ghost use mathlib.Core.Path.{_≡_};
-ghost use mathlib.Core.Bool.{_&&_};
-ghost use Prim.Native.Nat.{_+_, _≤_};
-ghost use lib.Dec.{leb, ltb};
-ghost use lib.ListN.{length};
-ghost use Rattle·wire·specs.specs.Bytes.{number, put};
-ghost use Rattle·wire·specs.specs.Field.{widthOf, longWidth, fieldAt};
-ghost use Rattle·wire·specs.specs.Start.{readStart, openedOf, only};
-ghost use Rattle·wire·specs.specs.Read.{found, faultOf, below, sourceFrom};
-ghost use Rattle·wire·specs.specs.Counts.{readCount};
-use refusal::Fault;
-use refusal::Refusal;
+#![tactic(auto)]
+
+ghost use Rattle.std.specs.Prelude.{◌≡◌, ◌+◌, ◌≤◌, ◌&&◌, length, nat_le, nat_lt};
+ghost use Rattle.wire.specs.Bytes.{number, put};
+ghost use Rattle.wire.specs.Field.{width_of, long_width, field_at};
+ghost use Rattle.wire.specs.Start.{read_start, opened_of, only};
+ghost use Rattle.wire.specs.Read.{found, fault_of, below, source_from};
+ghost use Rattle.wire.specs.Counts.{read_count};
+
+use refusal::{Fault, Refusal};
 
 // How many bytes a field has.
+#[derive(Clone, Copy)]
 pub enum Width {
     One,
     Two,
@@ -22,7 +21,7 @@ pub enum Width {
 impl Width {
     // How many bytes that is.
     pub fn bytes(self) -> usize
-        ensures { λ r. ⌜ r ≡ widthOf self ⌝ }
+        ensures { result ≡ width_of self }
     {
         match self {
             Width::One => 1,
@@ -43,6 +42,7 @@ pub const TWO_MORE: u32 = 65536;
 pub const TWO_MORE_LONG: u64 = TWO_MORE as u64;
 
 // What reading a field finds: its number, or its fault.
+#[derive(Clone, Copy)]
 pub enum Field {
     Number(u32),
     Refused(Fault),
@@ -57,7 +57,7 @@ pub const SHORT: Fault = Fault {
 impl Field {
     // The fault of a field that was refused. A number has none: it is taken out before this is asked.
     pub fn fault(self) -> Fault
-        ensures { λ r. ⌜ r ≡ faultOf self ⌝ }
+        ensures { result ≡ fault_of self }
     {
         match self {
             Field::Number(_) => SHORT,
@@ -67,12 +67,14 @@ impl Field {
 }
 
 // The start of a message is as it should be, or its first fault.
+#[derive(Clone, Copy)]
 pub enum Opened {
     Open,
     Refused(Fault),
 }
 
 // The header of a kind of message: how long it is, its version and its kind.
+#[derive(Clone, Copy)]
 pub struct Head {
     pub length: usize,
     pub version: u32,
@@ -80,6 +82,7 @@ pub struct Head {
 }
 
 // A count in a header: where it stands, how wide it is, and what is allowed.
+#[derive(Clone, Copy)]
 pub struct Count {
     pub at: usize,
     pub width: Width,
@@ -96,6 +99,7 @@ pub const START: usize = 6;
 
 // Where a reading of records stands: the position, a count that the message's own rules need, and the source before. Two numbers of
 // 32 bits would share the bytes in which a step has a fault's offset, and the compiler would put them together and take them apart.
+#[derive(Clone, Copy)]
 pub struct State {
     pub at: usize,
     pub seen: usize,
@@ -103,6 +107,7 @@ pub struct State {
 }
 
 // The state past what was read, or the first fault.
+#[derive(Clone, Copy)]
 pub enum Step {
     Next(State),
     Refused(Fault),
@@ -110,8 +115,8 @@ pub enum Step {
 
 // The number of a field that is known to fit.
 pub fn number_at(s: &[u8], at: usize, width: Width) -> u32
-    requires { ⌜ at + widthOf width ≤ length (now s) ⌝ }
-    ensures { λ r. ⌜ r ≡ number (widthOf width) (now (s .entry)) at ⌝ }
+    requires { at + width_of width ≤ length s.now }
+    ensures { result ≡ number (width_of width) s.now at }
 {
     let k = width.bytes();
     let mut n: u32 = 0;
@@ -125,8 +130,8 @@ pub fn number_at(s: &[u8], at: usize, width: Width) -> u32
 
 // The number of a field of 8 bytes that is known to fit: two numbers of 4 bytes, each of which the compiler makes one load.
 pub fn long_at(s: &[u8], at: usize) -> u64
-    requires { ⌜ at + longWidth ≤ length (now s) ⌝ }
-    ensures { λ r. ⌜ r ≡ number longWidth (now (s .entry)) at ⌝ }
+    requires { at + long_width ≤ length s.now }
+    ensures { result ≡ number long_width s.now at }
 {
     let behind = at + HALF;
     let high = number_at(s, at, Width::Four) as u64;
@@ -136,7 +141,7 @@ pub fn long_at(s: &[u8], at: usize) -> u64
 
 // The field at a position. The last position where one fits does not depend on this one, so a loop needs a single test for each.
 pub fn read(s: &[u8], at: usize, width: Width) -> Field
-    ensures { λ r. ⌜ r ≡ fieldAt (widthOf width) (now (s .entry)) at ⌝ }
+    ensures { result ≡ field_at (width_of width) s.now at }
 {
     let k = width.bytes();
     if s.len() < k {
@@ -151,8 +156,8 @@ pub fn read(s: &[u8], at: usize, width: Width) -> Field
 
 // Stores the 2 bytes of a number where they fit: of the number with its bytes swapped the compiler makes one store.
 fn store_two(b: &mut [u8], at: usize, v: u32)
-    requires { ⌜ at + 2 ≤ length (now b) ⌝ }
-    ensures { λ _. ⌜ now (b .exit) ≡ put (now (b .entry)) at 2 v ⌝ }
+    requires { at + 2 ≤ length b.old }
+    ensures { b.new ≡ put b.old at 2 v }
 {
     let swapped = v % 256 * 256 + v / 256 % 256;
     b[at + 1] = (swapped / 256) as u8;
@@ -161,8 +166,8 @@ fn store_two(b: &mut [u8], at: usize, v: u32)
 
 // Stores the 4 bytes of a number where they fit, likewise.
 fn store_four(b: &mut [u8], at: usize, v: u32)
-    requires { ⌜ at + 4 ≤ length (now b) ⌝ }
-    ensures { λ _. ⌜ now (b .exit) ≡ put (now (b .entry)) at 4 v ⌝ }
+    requires { at + 4 ≤ length b.old }
+    ensures { b.new ≡ put b.old at 4 v }
 {
     let front = v % 256 * 256 + v / 256 % 256;
     let back = v / 256 / 256 % 256 * 256 + v / 256 / 256 / 256 % 256;
@@ -175,8 +180,8 @@ fn store_four(b: &mut [u8], at: usize, v: u32)
 
 // Stores a number's bytes where they fit.
 pub fn store(b: &mut [u8], at: usize, width: Width, v: u32)
-    requires { ⌜ at + widthOf width ≤ length (now b) ⌝ }
-    ensures { λ _. ⌜ now (b .exit) ≡ put (now (b .entry)) at (widthOf width) v ⌝ }
+    requires { at + width_of width ≤ length b.old }
+    ensures { b.new ≡ put b.old at (width_of width) v }
 {
     match width {
         Width::One => {
@@ -189,8 +194,8 @@ pub fn store(b: &mut [u8], at: usize, width: Width, v: u32)
 
 // Stores the 8 bytes of a number where they fit.
 pub fn store_long(b: &mut [u8], at: usize, v: u64)
-    requires { ⌜ at + longWidth ≤ length (now b) ⌝ }
-    ensures { λ _. ⌜ now (b .exit) ≡ put (now (b .entry)) at longWidth v ⌝ }
+    requires { at + long_width ≤ length b.old }
+    ensures { b.new ≡ put b.old at long_width v }
 {
     let mut i = LONG;
     let mut rest = v;
@@ -203,7 +208,7 @@ pub fn store_long(b: &mut [u8], at: usize, v: u64)
 
 // A field whose number must be below a limit, or this is its fault.
 pub fn read_below(s: &[u8], at: usize, width: Width, limit: u64, fault: Fault) -> Field
-    ensures { λ r. ⌜ r ≡ found (below (widthOf width) (now (s .entry)) at limit fault) ⌝ }
+    ensures { result ≡ found (below (width_of width) s.now at limit fault) }
 {
     let field = read(s, at, width);
     let Field::Number(n) = field else {
@@ -218,8 +223,8 @@ pub fn read_below(s: &[u8], at: usize, width: Width, limit: u64, fault: Fault) -
 // Whether a source is one of n nodes or states and not below the one before it: how far it is above that one, which is at most n, tells
 // both in one test.
 pub fn follows(source: u32, n: u32, prev: u32) -> bool
-    requires { ⌜ prev ≤ n ⌝ }
-    ensures { λ r. ⌜ r ≡ (ltb source n && leb prev source) ⌝ }
+    requires { prev ≤ n }
+    ensures { result ≡ (nat_lt source n && nat_le prev source) }
 {
     let above = std::num::wrapping_sub_u32(source, prev);
     let room = n - prev;
@@ -228,8 +233,8 @@ pub fn follows(source: u32, n: u32, prev: u32) -> bool
 
 // A source, one of n nodes or states and not below the one before it, that stands here in its message.
 pub fn read_source(s: &[u8], at: usize, n: u32, prev: u32, offset: usize) -> Field
-    requires { ⌜ prev ≤ n ⌝ }
-    ensures { λ r. ⌜ r ≡ found (sourceFrom (now (s .entry)) at n prev offset) ⌝ }
+    requires { prev ≤ n }
+    ensures { result ≡ found (source_from s.now at n prev offset) }
 {
     let field = read(s, at, Width::Two);
     let Field::Number(source) = field else {
@@ -252,7 +257,7 @@ pub fn read_source(s: &[u8], at: usize, n: u32, prev: u32, offset: usize) -> Fie
 
 // The start of a message: enough bytes for its header, its length field, version and kind.
 pub fn open(s: &[u8], head: Head) -> Opened
-    ensures { λ r. ⌜ r ≡ openedOf (readStart (now (s .entry)) head) ⌝ }
+    ensures { result ≡ opened_of (read_start s.now head) }
 {
     let length = head.length;
     if s.len() < length {
@@ -280,7 +285,7 @@ pub fn open(s: &[u8], head: Head) -> Opened
 
 // A byte that may be this number only: the version or the kind of a message.
 fn read_only(s: &[u8], at: usize, allowed: u32) -> Field
-    ensures { λ r. ⌜ r ≡ found (only (now (s .entry)) at allowed) ⌝ }
+    ensures { result ≡ found (only s.now at allowed) }
 {
     let field = read(s, at, Width::One);
     let Field::Number(n) = field else {
@@ -297,7 +302,7 @@ fn read_only(s: &[u8], at: usize, allowed: u32) -> Field
 
 // A count of a header, in what is allowed.
 pub fn read_count(s: &[u8], count: Count) -> Field
-    ensures { λ r. ⌜ r ≡ found (readCount (now (s .entry)) count) ⌝ }
+    ensures { result ≡ found (read_count s.now count) }
 {
     let at = count.at;
     let width = count.width;

@@ -1,53 +1,53 @@
 -- How long a text is: at most 19 bytes for each operator and proposition, so 1,216 for 64 rows. Assumes nothing.
-use Prim.Native.Nat.{ℕ, _*_, _≤_}
+use Prim.Native.Nat.{ℕ, ◌*◌, ◌≤◌}
 use mathlib.Core.List.{List}
 use native.Mathlib.Omega.{arith}
 use lib.ListN.{length, length-append}
-use Rattle·value.specs.declared.Bound.{Bound}
-use Rattle·value.specs.declared.Bound.the-variants.{Within, Unbounded}
-use Rattle·syntax.specs.declared.Quantifier.{Quantifier}
-use Rattle·syntax.specs.declared.Quantifier.the-variants.{Some, Every}
-use Rattle·syntax.specs.declared.Action.{Action}
-use Rattle·syntax.specs.declared.Action.the-variants.{Any, Only}
-use Rattle·syntax.specs.declared.Row.{Row}
-use Rattle·syntax.specs.Formula.{Formula, true′, false′, prop, not-prop, and, or, next, until, size, rootOf}
-use Rattle·syntax.specs.WellFormed.{WellFormed}
-use Rattle·formula.proofs.Trees.{tree-size}
-use Rattle·wording·specs.specs.Text.{boundText, quantifierText, actionText, text}
-use Rattle·decimals.proofs.Decimal.{decimal-length, decimal-short}
-use Rattle·wording·proofs.proofs.Small.{SmallAction, Small, accepted-small}
+use Rattle.value.specs.declared.Bound.{Bound}
+use Rattle.value.specs.declared.Bound.TheVariants.{Within, Unbounded}
+use Rattle.syntax.specs.declared.Quantifier.{Quantifier}
+use Rattle.syntax.specs.declared.Quantifier.TheVariants.{Some, Every}
+use Rattle.syntax.specs.declared.Action.{Action}
+use Rattle.syntax.specs.declared.Action.TheVariants.{Any, Only}
+use Rattle.syntax.specs.declared.Row.{Row}
+use Rattle.syntax.specs.Formula.{Formula, true', false', prop, not_prop, and, or, next, until, size, root_of}
+use Rattle.syntax.specs.WellFormed.{WellFormed}
+use Rattle.formula.proofs.Trees.{tree_size}
+use Rattle.wording.specs.Text.{bound_text, quantifier_text, action_text, text}
+use Rattle.decimals.proofs.Decimal.{decimal_length, decimal_short}
+use Rattle.wording.proofs.Small.{SmallAction, Small, accepted_small}
 
 -- `<=` and at most ten digits
-bound-length : (b : Bound) → length (boundText b) ≤ 12
-bound-length (Within k) = omega (arith, decimal-length 10 k)
-bound-length Unbounded = omega arith
+bound_length : (b : Bound) → length (bound_text b) ≤ 12
+bound_length (Within k) = omega (arith, decimal_length 10 k)
+bound_length Unbounded = omega arith
 
 -- `#` and at most three digits
-action-length : (A : Action) → SmallAction A → length (actionText A) ≤ 4
-action-length Any h = omega arith
-action-length (Only k) h = omega (arith, decimal-short 2 k h (omega arith))
+action_length : (A : Action) → SmallAction A → length (action_text A) ≤ 4
+action_length Any h = omega arith
+action_length (Only k) h = omega (arith, decimal_short 2 k h (omega arith))
 
-quantifier-length : (q : Quantifier) → length (quantifierText q) ≤ 1
-quantifier-length Some = omega arith
-quantifier-length Every = omega arith
+quantifier_length : (q : Quantifier) → length (quantifier_text q) ≤ 1
+quantifier_length Some = omega arith
+quantifier_length Every = omega arith
 
 -- the longest begins `EX#255<=4294967294 `
-pub text-length : (φ : Formula) → Small φ → length (text φ) ≤ 19 * size φ
+pub text_length : (φ : Formula) → Small φ → length (text φ) ≤ 19 * size φ
 unfolding text size
-text-length true′ s = omega arith
-text-length false′ s = omega arith
-text-length (prop i) s = omega (arith, decimal-length 10 i)
-text-length (not-prop i) s = omega (arith, decimal-length 10 i)
-text-length (and φ ψ) s = simp length-append (omega (arith, text-length φ (s .0), text-length ψ (s .1)))
-text-length (or φ ψ) s = simp length-append (omega (arith, text-length φ (s .0), text-length ψ (s .1)))
-text-length (next q A φ b) s =
-    simp length-append (omega (arith, text-length φ (s .1), action-length A (s .0), bound-length b, quantifier-length q))
-text-length (until q φ ψ b) s =
-    simp length-append (omega (arith, text-length φ (s .0), text-length ψ (s .1), bound-length b, quantifier-length q))
+text_length true' s = omega arith
+text_length false' s = omega arith
+text_length (prop i) s = omega (arith, decimal_length 10 i)
+text_length (not_prop i) s = omega (arith, decimal_length 10 i)
+text_length (and φ ψ) s = simp length-append (omega (arith, text_length φ s.0, text_length ψ s.1))
+text_length (or φ ψ) s = simp length-append (omega (arith, text_length φ s.0, text_length ψ s.1))
+text_length (next q A φ b) s =
+    simp length-append (omega (arith, text_length φ s.1, action_length A s.0, bound_length b, quantifier_length q))
+text_length (until q φ ψ b) s =
+    simp length-append (omega (arith, text_length φ s.0, text_length ψ s.1, bound_length b, quantifier_length q))
 
 -- an accepted formula has as many of them as it has rows, so 1,216 bytes suffice
-pub accepted-text-length : {p : ℕ} {rows : List Row} → WellFormed p rows → length (text (rootOf rows)) ≤ 1216
-accepted-text-length {rows = rows} w = omega (arith, text-length (rootOf rows) (accepted-small w), tree-size w, w .rows-fit)
+pub accepted_text_length : {p : ℕ} {rows : List Row} → WellFormed p rows → length (text (root_of rows)) ≤ 1216
+accepted_text_length {rows = rows} w = omega (arith, text_length (root_of rows) (accepted_small w), tree_size w, w.rows_fit)
 
-pub accepted-text-short : {p : ℕ} {rows : List Row} → WellFormed p rows → length (text (rootOf rows)) ≤ 2048
-accepted-text-short w = let h = accepted-text-length w in omega arith
+pub accepted_text_short : {p : ℕ} {rows : List Row} → WellFormed p rows → length (text (root_of rows)) ≤ 2048
+accepted_text_short w = let h = accepted_text_length w in omega arith

@@ -1,29 +1,27 @@
 -- The texts of the rows of an accepted message, and what the writing of one needs to know.
-use Prim.Native.Nat.{ℕ, _-_, _/_, _<_}
-use mathlib.Core.List.{List}
-use lib.ListN.{length}
-use Rattle·lists.specs.Lists.{_∈_}
-use Rattle·wire.specs.Layout.{items}
-use Rattle·syntax.specs.Format.{formulaHeader, rowWidth}
-use Rattle·syntax.specs.declared.Row.{Row}
-use Rattle·syntax.specs.Formula.{formulaOf}
-use Rattle·syntax.specs.Rows.{operands}
-use Rattle·syntax.specs.Layouts.{rowLayout}
-use Rattle·syntax.specs.WellFormed.{RowAt}
-use Rattle·wording·specs.specs.Text.{text}
+use Rattle.std.specs.Prelude.{ℕ, ◌-◌, ◌/◌, ◌<◌, List, length}
+use Rattle.lists.specs.Lists.{◌∈◌}
+use Rattle.wire.specs.Layout.{items}
+use Rattle.syntax.specs.Format.{formula_header, row_width}
+use Rattle.syntax.specs.declared.Row.{Row}
+use Rattle.syntax.specs.Formula.{formula_of}
+use Rattle.syntax.specs.Rows.{operands}
+use Rattle.syntax.specs.Layouts.{row_layout}
+use Rattle.syntax.specs.WellFormed.{RowAt}
+use Rattle.wording.specs.Text.{text}
 
 -- how many rows a message has, by its length, and the rows
-abbrev pub countOf : List ℕ → ℕ
-countOf s = (length s - formulaHeader) / rowWidth
+abbrev pub count_of : List ℕ → ℕ
+count_of s = (length s - formula_header) / row_width
 
-abbrev pub rowsOf : List ℕ → List Row
-rowsOf s = items (rowLayout s) (countOf s) formulaHeader
+abbrev pub rows_of : List ℕ → List Row
+rows_of s = items (row_layout s) (count_of s) formula_header
 
 -- the text of row i
-unfoldable pub rowText : List ℕ → ℕ → List ℕ
-rowText s i = text (formulaOf (rowsOf s) i)
+unfoldable pub row_text : List ℕ → ℕ → List ℕ
+row_text s i = text (formula_of (rows_of s) i)
 
 -- row i is there, and the operands of each row are earlier rows
 pub record Ready (s : List ℕ) (i : ℕ) : Type 0 where
-  pub there : i < countOf s
-  pub earlier : (j : ℕ) {row : Row} → RowAt (rowsOf s) j row → {l : ℕ} → l ∈ operands row → l < j
+  pub there : i < count_of s
+  pub earlier : (j : ℕ) {row : Row} → RowAt (rows_of s) j row → {l : ℕ} → l ∈ operands row → l < j

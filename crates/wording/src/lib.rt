@@ -1,21 +1,19 @@
 // The text of the rows of an accepted formula, written into a lent room.
-ghost use mathlib.Core.Path.{_≡_};
-ghost use Prim.Native.Nat.{_+_, _≤_, _<_};
-ghost use mathlib.Core.List.{_++_};
-ghost use lib.ListN.{length};
-ghost use Rattle·decimals.specs.Decimal.{word};
-ghost use Rattle·wording·specs.specs.Text as t;
-ghost use Rattle·wire.specs.Laid.{Laid};
-ghost use Rattle·wording·specs.specs.Rows.{rowText, Ready};
-use syntax::Action;
-use syntax::Quantifier;
-use syntax::Row;
+#![tactic(auto)]
+
+ghost use Rattle.std.specs.Prelude.{◌≡◌, ◌+◌, ◌≤◌, ◌<◌, ◌++◌, length};
+ghost use Rattle.decimals.specs.Decimal.{word};
+ghost use Rattle.wording.specs.Text as t;
+ghost use Rattle.wire.specs.Laid.{Laid};
+ghost use Rattle.wording.specs.Rows.{row_text, Ready};
+
+use syntax::{Action, Quantifier, Row};
 use value::Bound;
 
 // Stores a bound: no bound, no `<=`.
 fn put_bound(room: &mut [u8], at: usize, bound: Bound) -> usize
-    requires { ⌜ at + length (t.boundText bound) ≤ length (now room) ⌝ }
-    ensures { λ r. ⌜ Laid (now (room .entry)) at (t.boundText bound) (now (room .exit)) r ⌝ }
+    requires { at + length (t.bound_text bound) ≤ length room.old }
+    ensures { Laid room.old at (t.bound_text bound) room.new result }
 {
     match bound {
         Bound::Within(k) => decimals::put_number(room, at, b"<=", k),
@@ -25,7 +23,7 @@ fn put_bound(room: &mut [u8], at: usize, bound: Bound) -> usize
 
 // How long the text of a bound is.
 fn bound_length(bound: Bound) -> usize
-    ensures { λ r. ⌜ r ≡ length (t.boundText bound) ⌝ }
+    ensures { result ≡ length (t.bound_text bound) }
 {
     match bound {
         Bound::Within(k) => 2 + decimals::decimal_length(k),
@@ -35,8 +33,8 @@ fn bound_length(bound: Bound) -> usize
 
 // Stores an action: no action, no `#`.
 fn put_action(room: &mut [u8], at: usize, action: Action) -> usize
-    requires { ⌜ at + length (t.actionText action) ≤ length (now room) ⌝ }
-    ensures { λ r. ⌜ Laid (now (room .entry)) at (t.actionText action) (now (room .exit)) r ⌝ }
+    requires { at + length (t.action_text action) ≤ length room.old }
+    ensures { Laid room.old at (t.action_text action) room.new result }
 {
     match action {
         Action::Only(k) => decimals::put_number(room, at, b"#", k),
@@ -46,7 +44,7 @@ fn put_action(room: &mut [u8], at: usize, action: Action) -> usize
 
 // How long the text of an action is.
 fn action_length(action: Action) -> usize
-    ensures { λ r. ⌜ r ≡ length (t.actionText action) ⌝ }
+    ensures { result ≡ length (t.action_text action) }
 {
     match action {
         Action::Only(k) => 1 + decimals::decimal_length(k),
@@ -56,8 +54,8 @@ fn action_length(action: Action) -> usize
 
 // Stores a quantifier.
 fn put_quantifier(room: &mut [u8], at: usize, quantifier: Quantifier) -> usize
-    requires { ⌜ at < length (now room) ⌝ }
-    ensures { λ r. ⌜ Laid (now (room .entry)) at (t.quantifierText quantifier) (now (room .exit)) r ⌝ }
+    requires { at < length room.old }
+    ensures { Laid room.old at (t.quantifier_text quantifier) room.new result }
 {
     match quantifier {
         Quantifier::Some => decimals::put_word(room, at, b"E"),
@@ -67,8 +65,8 @@ fn put_quantifier(room: &mut [u8], at: usize, quantifier: Quantifier) -> usize
 
 // Stores the sign of an operator, its bound and a space.
 fn put_bounded(room: &mut [u8], at: usize, sign: &[u8], bound: Bound) -> usize
-    requires { ⌜ at + length (now sign) + length (t.boundText bound) + 1 ≤ length (now room) ⌝ }
-    ensures { λ r. ⌜ Laid (now (room .entry)) at (now (sign .entry) ++ t.boundText bound ++ word " ") (now (room .exit)) r ⌝ }
+    requires { at + length sign.now + length (t.bound_text bound) + 1 ≤ length room.old }
+    ensures { Laid room.old at (sign.now ++ t.bound_text bound ++ word " ") room.new result }
 {
     let within = decimals::put_word(room, at, sign);
     let space = put_bound(room, within, bound);
@@ -83,8 +81,8 @@ fn put_next(
     action: Action,
     bound: Bound,
 ) -> usize
-    requires { ⌜ at + length (t.actionText action) + length (t.boundText bound) + 3 ≤ length (now room) ⌝ }
-    ensures { λ r. ⌜ Laid (now (room .entry)) at (t.quantifierText quantifier ++ word "X" ++ t.actionText action ++ t.boundText bound ++ word " ") (now (room .exit)) r ⌝ }
+    requires { at + length (t.action_text action) + length (t.bound_text bound) + 3 ≤ length room.old }
+    ensures { Laid room.old at (t.quantifier_text quantifier ++ word "X" ++ t.action_text action ++ t.bound_text bound ++ word " ") room.new result }
 {
     let sign = put_quantifier(room, at, quantifier);
     let which = decimals::put_word(room, sign, b"X");
@@ -95,9 +93,9 @@ fn put_next(
 
 // How long the text of row i is, from its operands'.
 pub fn row_length(s: &[u8], i: u32) -> usize
-    requires { ⌜ Ready (now s) i ⌝ }
-    requires { ⌜ length (rowText (now s) i) ≤ 2048 ⌝ }
-    ensures { λ r. ⌜ r ≡ length (rowText (now (s .entry)) i) ⌝ }
+    requires ready { Ready s.now i }
+    requires i_len_bound { length (row_text s.now i) ≤ 2048 }
+    ensures { result ≡ length (row_text s.now i) }
 {
     let at = syntax::HEADER + (i as usize) * syntax::ROW;
     let row = syntax::row_at(s, at);
@@ -114,9 +112,9 @@ pub fn row_length(s: &[u8], i: u32) -> usize
 
 // Stores the text of row i, made of the texts of its operands; returns the position past it.
 pub fn put_row(s: &[u8], i: u32, room: &mut [u8], at: usize) -> usize
-    requires { ⌜ Ready (now s) i ⌝ }
-    requires { ⌜ at + length (rowText (now s) i) ≤ length (now room) ⌝ }
-    ensures { λ r. ⌜ Laid (now (room .entry)) at (rowText (now (s .entry)) i) (now (room .exit)) r ⌝ }
+    requires ready { Ready s.now i }
+    requires i_in_bounds { at + length (row_text s.now i) ≤ length room.old }
+    ensures { Laid room.old at (row_text s.now i) room.new result }
 {
     let row = syntax::row_at(s, syntax::HEADER + (i as usize) * syntax::ROW);
     match row {

@@ -1,0 +1,75 @@
+-- `graph::targets` meets its contract: behind the fours, whose targets name nodes, the run goes on; the targets that are left fit, end where the
+-- loop does, and their run is the run from there.
+use Prim.Native.Nat.{ℕ, ◌+◌, ◌*◌, ◌-◌, ◌/◌}
+use mathlib.Core.Path.{◌≡◌, refl, ap, ◌∙◌}
+use native.Mathlib.Omega.{arith}
+use Rattle.lists.proofs.Tests.{by}
+use Rattle.wire.specs.declared.State.{State}
+use Rattle.wire.specs.Reader.{run}
+use Rattle.wire.specs.Step.{step}
+use Rattle.wire.proofs.Turns.{step_next, turn_next, turn_refused, turn_none}
+use Rattle.graph.specs.Format.{target_width}
+use Rattle.graph.specs.Message as m
+use Rattle.graph.proofs.Good.{targets_move}
+use Rattle.graph.proofs.Names.{Passed, passed, run_past}
+use Rattle.graph.proofs.targets.Invariants.{run_to}
+use Rattle.graph.proofs.targets.Goals as goal
+use Rattle.graph.proofs.targets.Goals.{After-past_fours-at}
+
+-- the targets that were passed
+past : (c : After-past_fours-at) → let a = c.args in
+    Passed a.s.now a.n a.first.at (a.first.at + a.k * target_width) c.past_fours-at.result
+past c = let a = c.args in passed a.s.now a.n a.first.at (a.first.at + a.k * target_width) (omega arith) c.past_fours-at.ensures
+
+-- where the loop begins, and that the run from there is the whole run
+abbrev behind : After-past_fours-at → State
+behind c = let first = c.args.first in record { at = c.past_fours-at.result; prev = first.prev; seen = first.seen }
+
+joined : (c : After-past_fours-at) → let a = c.args in
+    run_to a.s.now a.n (a.first.at + a.k * target_width) (behind c) ≡ step (run (m.targets a.s.now a.n) a.k a.first)
+joined c =
+    let a = c.args in
+    let first = a.first in
+    let end : ℕ = first.at + a.k * target_width in
+    let p = past c in
+    let left : (end - c.past_fours-at.result) / target_width ≡ a.k - p.many = omega (arith, p.reached) in
+    let rest = run_past _ _ p.many a.k first (omega (arith, p.reached, p.before)) (omega (arith, p.reached, p.before)) p.named in
+    ap step ((λ i. run (m.targets a.s.now a.n) (left i) (record { at = p.reached i; prev = first.prev; seen = first.seen })) ∙ rest)
+
+pub loop-st-init : goal.loop-st-init
+loop-st-init c =
+    let a = c.args in
+    let p = past c in
+    record {
+      left = (a.first.at + a.k * target_width - c.past_fours-at.result) / target_width;
+      there = omega (arith, p.reached, p.before);
+      inside = omega arith;
+      whole = refl;
+    }
+
+pub target-read-requires : goal.target-read-requires
+target-read-requires c = let l = c.loop-st.invariant in omega (arith, l.there, l.inside)
+
+pub returns-in_default : goal.returns-in_default
+returns-in_default c =
+    let l = c.loop-st.invariant in
+    turn_refused _ _ _ _ (l.whole ∙ joined (goal.at.returns-in_default c).After-past_fours-at) (omega (arith, l.there)) c.target-read.ensures c.in_default.is
+
+pub loop-st-smaller : goal.loop-st-smaller
+loop-st-smaller c =
+    omega (arith, targets_move _ _ _ _ (step_next _ (by c.target-read.ensures c.in-Next.is)))
+
+pub loop-st-preserved : goal.loop-st-preserved
+loop-st-preserved c =
+    let l = c.loop-st.invariant in
+    let is = c.in-Next.is in
+    record {
+      left = l.left - 1;
+      there = omega (arith, l.there, targets_move _ _ _ _ (step_next _ (by c.target-read.ensures is)));
+      inside = l.inside;
+      whole = turn_next _ _ _ _ l.whole (omega (arith, l.there)) c.target-read.ensures is;
+    }
+
+pub returns : goal.returns
+returns c =
+    turn_none _ _ _ _ (c.loop-st.invariant.whole ∙ joined (goal.at.returns c).After-past_fours-at) (omega (arith, c.loop-st.invariant.there))

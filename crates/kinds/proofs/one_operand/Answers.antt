@@ -1,0 +1,14 @@
+-- `kinds::one_operand` meets its contract: left names an earlier row.
+use Rattle.lists.proofs.Tests.{by}
+use Rattle.wire.proofs.Reading.{reading, found_good, handed}
+use Rattle.kinds.specs.Kept.{kept}
+use Rattle.kinds.specs.Told.{one_operand}
+use Rattle.kinds.proofs.one_operand.Goals as goal
+
+pub returns-in_default : goal.returns-in_default
+unfolding one_operand kept
+returns-in_default c = simp (c.fault.ensures, handed _ c.left_name-first.ensures c.in_default.is, reading)
+
+pub returns : goal.returns
+unfolding one_operand kept
+returns c = simp (found_good _ (by c.left_name-first.ensures c.in-Number.is), reading)

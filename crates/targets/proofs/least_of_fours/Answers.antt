@@ -1,0 +1,83 @@
+-- `targets::least_of_fours` meets its contract: the least so far, and that over the targets left, make the whole.
+use Prim.Native.Nat.{ℕ, ◌+◌, ◌-◌, ◌*◌, ◌<◌, min}
+use mathlib.Core.Path.{◌≡◌, refl}
+use native.Mathlib.Omega.{arith}
+use Rattle.wire.specs.Layout.{items, Sound}
+use Rattle.graph.specs.Format.{target_width}
+use Rattle.graph.specs.Layouts.{target_layout}
+use Rattle.halves.specs.Held.{held}
+use Rattle.targets.specs.Below.{below}
+use Rattle.targets.proofs.Below.{sound_inside, sound_parts, below_le, below_turn, below_none}
+use Rattle.targets.proofs.least_of_fours.Goals as goal
+use Rattle.targets.proofs.least_of_fours.Goals.{After-below_four-four, In-loop-p}
+
+pub loop-p-init : goal.loop-p-init
+loop-p-init c =
+    let a = c.args in
+    let (i, e, sound) = c.requires.by_index in (
+      i,
+      e,
+      sound,
+      omega arith,
+      λ k whole.
+          let same : i ≡ k = omega arith in
+          let ts = items (target_layout a.s.now a.n) (k * 4) a.at in
+          rw same (omega (arith, below_le (held a.x.now) ts)),
+    )
+
+-- the next four are sound, and so are those behind them; there are four
+here : (c : In-loop-p) → let a = c.args in let l = c.loop-p in let L = target_layout a.s.now a.n in
+    Sound L 4 l.p × Sound L ((l.invariant.0 - 1) * 4) (l.p + 4 * target_width) × (0 < l.invariant.0)
+here c =
+    let a = c.args in
+    let l = c.loop-p in
+    let i = l.invariant.0 in
+    let some : 0 < i = omega (arith, c.loop-p-test.true, l.invariant.1) in
+    let parts = sound_parts a.s.now a.n 4 (i * 4) l.p ((i - 1) * 4) (l.p + 4 * target_width) (omega arith) refl l.invariant.2 in
+    (parts.0, parts.1, some)
+
+pub below_four-four-requires : goal.below_four-four-requires
+below_four-four-requires c = record { sound = (here c).0; n_in_bounds = c.requires.n_in_bounds }
+
+-- with them, those left make the whole
+turn : (c : After-below_four-four) (next k : ℕ) → let a = c.args in let l = c.loop-p in
+    let L = target_layout a.s.now a.n in
+    next ≡ min l.least c.below_four-four.result → a.at + k * (4 * target_width) ≡ a.end
+    → min next (below (held a.x.now) (items L ((l.invariant.0 - 1) * 4) (l.p + 4 * target_width))) ≡ below (held a.x.now) (items L (k * 4) a.at)
+turn c next k e whole =
+    let a = c.args in
+    let l = c.loop-p in
+    let i = l.invariant.0 in
+    let some = ((let it : let a = c.args in let l = c.loop-p in let L = target_layout a.s.now a.n in
+    Sound L 4 l.p × Sound L ((l.invariant.0 - 1) * 4) (l.p + 4 * target_width) × (0 < l.invariant.0) = let a = c.args in
+    let l = c.loop-p in
+    let i = l.invariant.0 in
+    let some : 0 < i = omega (arith, c.loop-p-test.true, l.invariant.1) in
+    let parts = sound_parts a.s.now a.n 4 (i * 4) l.p ((i - 1) * 4) (l.p + 4 * target_width) (omega arith) refl l.invariant.2 in
+    (parts.0, parts.1, some) in it)).2 in
+    below_turn a.s.now a.n 4 (i * 4) l.p ((i - 1) * 4) (l.p + 4 * target_width) (omega arith) refl (held a.x.now) l.least next _ (l.invariant.4 k whole) (omega (arith, e, c.below_four-four.ensures))
+
+pub returns-then-four-eq0 : goal.returns-then-four-eq0
+returns-then-four-eq0 c k whole = omega (arith, turn (goal.at.returns-then-four-eq0 c).After-below_four-four 0 k (omega (arith, c.if-four-eq0.true)) whole)
+
+pub overflow_add-p : goal.overflow_add-p
+overflow_add-p c = omega (arith, sound_inside _ _ 4 c.loop-p.p (here (goal.at.overflow_add-p c).In-loop-p).0)
+
+pub loop-p-smaller : goal.loop-p-smaller
+loop-p-smaller c = omega (arith, (here (goal.at.loop-p-smaller c).In-loop-p).2, c.loop-p.invariant.1)
+
+pub loop-p-preserved : goal.loop-p-preserved
+loop-p-preserved c =
+    let l = c.loop-p in (
+      l.invariant.0 - 1,
+      omega (arith, (here (goal.at.loop-p-preserved c).In-loop-p).2, l.invariant.1),
+      (here (goal.at.loop-p-preserved c).In-loop-p).1,
+      omega (arith, c.lesser-least.ensures, l.invariant.3),
+      λ k whole. turn (goal.at.loop-p-preserved c).After-below_four-four _ k c.lesser-least.ensures whole,
+    )
+
+pub returns : goal.returns
+returns c k whole =
+    let a = c.args in
+    let l = c.loop-p in
+    omega (arith, l.invariant.3, l.invariant.4 k whole, below_none a.s.now a.n (held a.x.now) (l.invariant.0 * 4) l.p (omega (arith, l.invariant.1)))

@@ -1,0 +1,12 @@
+-- `transitions::pass_many` meets its contract: those passed all leave the state, and the others still rise.
+use Rattle.std.proofs.Common.{◌≡◌, ◌+◌, ◌-◌, ◌≤◌}
+use Rattle.transitions.specs.Held.{transitions_from, RiseFrom, leading}
+use Rattle.transitions.proofs.pass_many.Given as goal
+
+abbrev pub invariant-loop-i : goal.invariant-loop-i
+invariant-loop-i l =
+    (l.first ≤ l.i) × (l.i ≤ l.t) × (l.i + leading l.a (transitions_from l.m l.n l.i (l.t - l.i)) ≡ l.first + leading l.a (transitions_from l.m l.n l.first (l.t - l.first)))
+    × RiseFrom l.a (transitions_from l.m l.n l.i (l.t - l.i))
+
+abbrev pub decreases-loop-i : goal.decreases-loop-i
+decreases-loop-i l = l.t - l.i
