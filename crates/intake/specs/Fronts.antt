@@ -10,3 +10,7 @@ ConsumesFront old new room = (n : ℕ) × (n ≤ length room) × Consumes old ne
 -- the writer took some front of the bytes, which may be none of them or all, and nothing else
 abbrev pub AppendsFront : Option (List ℕ) → Option (List ℕ) → List ℕ → Type 0
 AppendsFront old new bytes = (n : ℕ) × (n ≤ length bytes) × Appends old new (take n bytes)
+
+-- what the writer held stays, and something may stand behind it
+abbrev pub AppendsOnly : Option (List ℕ) → Option (List ℕ) → Type 0
+AppendsOnly old new = (bytes : List ℕ) × Appends old new bytes

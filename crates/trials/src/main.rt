@@ -7,6 +7,7 @@ mod rooms;
 mod sheet;
 mod sums;
 
+ghost use Rattle.intake.specs.Fronts.{AppendsOnly};
 ghost use Rattle.trials.specs.Lines.{Sound};
 
 use line::Line;
@@ -32,8 +33,10 @@ fn answer(letter: u8, body: &[u8], bytes: &mut [u8], values: &mut [u64], words: 
     }
 }
 
-// Says that this is no call; nothing more is read.
-fn refuse<W: Write>(to: &mut W, letter: u8) -> Result<bool> {
+// Says that this is no call; nothing more is read. Here and below an error is one of reading or writing, and what was written before stays.
+fn refuse<W: Write>(to: &mut W, letter: u8) -> Result<bool>
+    ensures { AppendsOnly (W.contents to.old) (W.contents to.new) }
+{
     Line::new().byte(b'?').number(letter as u64).write(to)?;
     Ok(false)
 }
@@ -47,7 +50,9 @@ fn answer_body<R: Read, W: Write>(
     bytes: &mut [u8],
     values: &mut [u64],
     words: &mut [u32],
-) -> Result<bool> {
+) -> Result<bool>
+    ensures { AppendsOnly (W.contents to.old) (W.contents to.new) }
+{
     if intake::fill(from, body)? < body.len() {
         return refuse(to, letter);
     }
@@ -67,7 +72,9 @@ fn answer_next<R: Read, W: Write>(
     bytes: &mut [u8],
     values: &mut [u64],
     words: &mut [u32],
-) -> Result<bool> {
+) -> Result<bool>
+    ensures { AppendsOnly (W.contents to.old) (W.contents to.new) }
+{
     let mut head = [0u8; 5];
     let got = intake::fill(from, &mut head)?;
     if got == 0 {
@@ -93,7 +100,9 @@ fn answer_all<R: Read, W: Write>(
     bytes: &mut [u8],
     values: &mut [u64],
     words: &mut [u32],
-) -> Result<()> {
+) -> Result<()>
+    ensures { AppendsOnly (W.contents to.old) (W.contents to.new) }
+{
     for _ in 0..u64::MAX {
         if !answer_next(from, to, space, bytes, values, words)? {
             return Ok(());
