@@ -26,7 +26,7 @@ ENTRIES = {
     "ranks": ("write",),
     "text": ("text",),
     "entries": ("returned",),
-    "lines": ("report",),
+    "lines": ("report", "number"),
     "tally": (),
     "build": (),
     "settling": (),

@@ -1,12 +1,14 @@
 -- The bytes of cover edges, state by state and row by row. Assumes nothing.
 use Prim.Native.Nat.{ℕ, suc, ◌+◌, ◌*◌, ◌-◌, ◌<◌, ◌≤◌}
 use mathlib.Core.List.{List, [], ◌∷◌, ◌++◌, append-nil}
-use mathlib.Core.Bool.{false}
-use mathlib.Core.Path.{◌≡◌, ap, subst, ◌∙◌}
+use mathlib.Core.Bool.{true, false}
+use mathlib.Core.Path.{◌≡◌, sym, ap, subst, ◌∙◌}
 use native.Mathlib.Nat.{mul-le-mul_left, mul-suc}
 use native.Mathlib.Numerals.{add-one}
 use native.Mathlib.Omega.{arith}
 use lib.ListN.{length, length-append}
+use Rattle.std.specs.Borrow.{MutBor}
+use Rattle.build.specs.Puts.{PutsEach}
 use Rattle.lists.specs.Making.{span}
 use Rattle.value.specs.declared.Bound.{Bound}
 use Rattle.value.specs.Coded.{code_of}
@@ -28,7 +30,7 @@ use Rattle.reduction.specs.Built.{is_until, untils}
 use Rattle.transitions.specs.Held.{held_rows, HoldsRows}
 use Rattle.records.specs.Bytes.{cover_bytes, covers_from, covers_of}
 use Rattle.transitions.proofs.Accepted.{rows_length}
-use Rattle.transitions.proofs.Counting.{passing_here, passing_there}
+use Rattle.transitions.proofs.Counting.{passing_turn}
 use Rattle.lists.proofs.Making.{span_agree}
 use Rattle.wire.proofs.Written.{span_written}
 use Rattle.sizing.proofs.Untils.{other_row}
@@ -42,6 +44,16 @@ module _ (n r h code : ℕ) where
 
   pub cover_length : (a : ℕ) → length (cover_of a) ≡ cover_width
   cover_length a = simp (length-append, length_bytes)
+
+-- a call that writes them, one for each state
+pub cover_puts : (n r h code : ℕ) → n * r + n ≤ 4096 → n * h + n ≤ 4096 → {pre : MutBor (List ℕ) → ℕ → ℕ → Type 0} {post : MutBor (List ℕ) → ℕ → ℕ → ℕ → MutBor (List ℕ) → Type 0}
+    → ((room : MutBor (List ℕ)) (at a : ℕ) → a + n * r < 4096 → a + n * h < 4096 → at + cover_width ≤ length room.now → pre room at a)
+    → ((room room' : MutBor (List ℕ)) (at a end : ℕ) → post room at a end room' → Laid room.now at (cover_of n r h code a) room'.now end)
+    → PutsEach pre post (cover_of n r h code) n
+cover_puts n r h code row helper may lays = record {
+  may = λ room at a below long. may room at a (omega arith) (omega arith) (omega (arith, cover_length n r h code a));
+  lays = λ room room' at a end below long e. lays room room' at a end e;
+}
 
 pub covers_coded : (n r h : ℕ) (b : Bound) → cover_bytes n r h b ≡ span (cover_of n r h (code_of b)) 0 n
 unfolding cover_bytes write_cover write_all
@@ -110,7 +122,7 @@ module _ (n : ℕ) (f : List ℕ) (k : ℕ) where
       -- an until: its helper's nodes are below the limit
       module _ {q : Quantifier} {l m : ℕ} {limit : Bound} (is : row_at f row_from ≡ Until q l m limit) where
         one_more : length (untils (rows_left row_from r)) ≡ 1 + length (untils rest)
-        one_more = rw less at (passing_here (row_layout f) is_until (k - r) row_from (omega arith) (ap is_until is))
+        one_more = rw less at (passing_turn (row_layout f) is_until (k - r) row_from (omega arith) true (sym (ap is_until is)))
 
         bytes_are : covers_from n r h (rows_left row_from r) ≡ cover_bytes n r h limit ++ covers_from n (r + 1) (h + 1) rest
         bytes_are = ap (covers_from n r h) here ∙ covers_until n r h (row_at f row_from) rest is
@@ -141,6 +153,6 @@ module _ (n : ℕ) (f : List ℕ) (k : ℕ) where
         readable = omega (arith, c.readable);
         behind = omega (arith, c.behind);
         near = omega (arith, c.near);
-        nodes_fit = rw (← rw less at (passing_there (row_layout f) is_until (k - r) row_from (omega arith) e)) c.nodes_fit;
+        nodes_fit = let fewer : length (untils rest) ≡ length (untils (rows_left row_from r)) = omega (arith, rw less at (passing_turn (row_layout f) is_until (k - r) row_from (omega arith) false (sym e))) in rw fewer c.nodes_fit;
         left = subst (Left b at whole b' next) (ap (covers_from n r h) here ∙ covers_other n r h (row_at f row_from) rest e) c.left;
       }

@@ -27,11 +27,14 @@ use Rattle.syntax.specs.declared.Quantifier.TheVariants.{Some, Every}
 use Rattle.syntax.specs.declared.Row.{Row}
 use Rattle.syntax.specs.declared.Row.TheVariants.{Until}
 use Rattle.syntax.specs.Layouts.{row_at, row_layout}
-use Rattle.reduction.specs.Built.{to, hyper, if_any, step_edges, helper_edges, is_until, untils, layout}
-use Rattle.transitions.specs.Held.{transition_layout, transitions_from, held_model, held_rows, HoldsModel, HoldsRows, Own}
+use Rattle.reduction.specs.Built.{to, hyper, leaving, if_any, step_edges, helper_edges, is_until, untils, layout}
+use Rattle.transitions.specs.declared.views.Out.{Out}
+use Rattle.transitions.specs.Held.{transition_layout, transitions_from, held_rows, HoldsRows}
+use Rattle.transitions.specs.Views.{list_of}
 use Rattle.records.specs.Bytes.{single_width, hypers_bytes, some_steps, every_steps, helper_list, step_bytes, steps_bytes, helper_bytes, helpers_bytes, Narrow, HelpersFit}
-use Rattle.transitions.proofs.Accepted.{out_own}
+use Rattle.transitions.proofs.Accepted.{out_many}
 use Rattle.records.proofs.Edges.{single_length, hypers_more, hypers_one, first_fits}
+use Rattle.build.specs.Puts.{helper_of}
 use Rattle.build.proofs.Nodes.{helper_are}
 use Rattle.wire.proofs.Written.{write_all_append, write_all_map, span_written}
 
@@ -74,24 +77,17 @@ module _ {q : Quantifier} (v left shift : ℕ) (us : List Transition) where
   every_stepped e = rw e (simp write_all_map)
 
 -- a state of a narrow model has not too many transitions
-pub own_narrow : {m : List ℕ} {n p t a first many : ℕ} → HoldsModel m n p t → Own m n t a first many → Narrow (held_model m n p t) → many < 65535
-unfolding held_model
-own_narrow {a = a} holds o narrow = rw (out_own holds o) at (narrow a o.state)
+pub own_narrow : (M : Model) (a : ℕ) (o : Out) → list_of o ≡ leaving M a → a < M.states → Narrow M → o.many < 65535
+own_narrow M a o are below narrow = rw (out_many M a o are) at (narrow a below)
 
 -- ---- an until row's helpers, state by state
-
--- those of state a
-abbrev pub helper_of : Model → ℕ → Quantifier → (l r a : ℕ) → List ℕ
-helper_of M h q l r a = hypers_bytes (a + M.states * h) ((to 0 (a + M.states * r) ∷ []) ∷ step_edges M q l h a)
 
 pub helper_spans : (M : Model) (h : ℕ) (q : Quantifier) (l r : ℕ) → helper_bytes M h q l r ≡ span (helper_of M h q l r) 0 M.states
 unfolding helper_bytes
 helper_spans M h q l r = span_written write_hyper (λ a. map (hyper (a + M.states * h)) ((to 0 (a + M.states * r) ∷ []) ∷ step_edges M q l h a)) 0 M.states
 
-pub helper_is : (p : ℕ) {m : List ℕ} {n t a first many : ℕ} → Own m n t a first many → (h : ℕ) (q : Quantifier) (l r : ℕ)
-    → helper_of (held_model m n p t) h q l r a ≡ hypers_bytes (a + n * h) (helper_list n a q l r h (transitions_from m n first many))
-unfolding held_model
-helper_is p {n = n} {a = a} o h q l r = ap (hypers_bytes (a + n * h)) (helper_are p o q l r h)
+pub helper_is : (M : Model) (a h : ℕ) (q : Quantifier) (l r : ℕ) → helper_of M h q l r a ≡ hypers_bytes (a + M.states * h) (helper_list M.states a q l r h (leaving M a))
+helper_is M a h q l r = ap (hypers_bytes (a + M.states * h)) (helper_are M a q l r h)
 
 -- ---- a loop over the rows that lays in the helpers of those that are untils
 

@@ -15,3 +15,4 @@ pub mod Told
 pub mod Narrow
 pub mod Writing
 pub mod One
+pub mod Puts

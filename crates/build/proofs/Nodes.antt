@@ -1,16 +1,14 @@
 -- The edges of a node of an accepted model, from its state's transitions, and what a builder of them may rely on. Assumes nothing.
 use Prim.Native.Nat.{ℕ, suc, ◌+◌, ◌*◌, ◌<◌, ◌≤◌}
 use mathlib.Core.List.{List, [], ◌∷◌, ◌++◌, map, map-map}
-use mathlib.Core.Bool.{Bool, true, false, beq}
 use mathlib.Core.Path.{◌≡◌, refl, ap, ◌∙◌}
 use native.Mathlib.Nat.{mul-le-mul_left, mul-suc}
 use native.Mathlib.Numerals.{add-one}
 use native.Mathlib.Omega.{arith}
 use lib.ListN.{length, length-append}
-use lib.Dec.{eqb}
 use Rattle.lists.specs.Lists.{◌∈◌}
 use Rattle.lists.specs.Making.{keep, span}
-use Rattle.lists.proofs.Making.{∈-keep, span_empty}
+use Rattle.lists.proofs.Making.{span_empty}
 use Rattle.value.specs.declared.Bound.{Bound}
 use Rattle.syntax.specs.declared.Action.{Action}
 use Rattle.wire.specs.Laid.{Laid}
@@ -18,7 +16,7 @@ use Rattle.wire.specs.Write.{write_all}
 use Rattle.wire.proofs.Laid.{nothing, said}
 use Rattle.graph.specs.Write.{write_hyper}
 use Rattle.graph.proofs.Exact.{hypers_length}
-use Rattle.model.specs.Model.{Model, holds}
+use Rattle.model.specs.Model.{Model}
 use Rattle.syntax.specs.Format.{formula_header, row_width, place_of}
 use Rattle.syntax.specs.declared.Quantifier.{Quantifier}
 use Rattle.syntax.specs.declared.Quantifier.TheVariants.{Some, Every}
@@ -27,15 +25,12 @@ use Rattle.syntax.specs.declared.Row.TheVariants.{Next}
 use Rattle.syntax.specs.Layouts.{row_at, row_layout}
 use Rattle.syntax.specs.Rows.{operands}
 use Rattle.syntax.specs.WellFormed.{RowAt}
-use Rattle.reduction.specs.Built.{to, end_of, hyper, out, looks_at, near, row_edges, if_any, step_edges, layout}
-use Rattle.transitions.specs.Held.{transitions_from, held_model, held_rows, HoldsModel, HoldsRows, Own, Reads}
-use Rattle.transitions.specs.Looked.{leaf_edges}
-use Rattle.build.specs.Leaf.{leaf_row}
+use Rattle.reduction.specs.Built.{to, end_of, hyper, out, looks_at, near, leaving, row_edges, if_any, step_edges, layout}
+use Rattle.transitions.specs.Held.{held_rows, HoldsRows}
 use Rattle.records.specs.Bytes.{hypers_bytes, next_edges, helper_list, row_hypers, rows_hypers, row_bytes, rows_bytes, RowFits}
 use Rattle.wire.proofs.Written.{write_all_append}
 use Rattle.wire.proofs.Written.{span_written}
 use Rattle.wire.proofs.Stride.{items_get}
-use Rattle.wire.proofs.Spans.{SpanLeft, span_begun}
 
 -- the nodes of an earlier place stand before those of a later one
 pub place_fits : (n r l : ℕ) → n * r + n ≤ 4096 → l < r → n * l + n ≤ 4096
@@ -52,44 +47,25 @@ any_map f (a ∷ l) x = refl
 pub operand_fits : {n r : ℕ} {row : Row} → RowFits n r row → (l : ℕ) → l ∈ operands row → n * l + n ≤ 4096
 operand_fits {n} {r} f l m = place_fits n r l f.node (f.operands m)
 
--- with p propositions, which don't matter here
-module _ (p : ℕ) {m : List ℕ} {n t a first many : ℕ} (o : Own m n t a first many) where
-  out_are : out (held_model m n p t) a ≡ map end_of (transitions_from m n first many)
-  unfolding out held_model
-  out_are = ap (map end_of) o.are
+-- the edges of a state's nodes, over its transitions
+module _ (M : Model) (a : ℕ) where
+  out_are : out M a ≡ map end_of (leaving M a)
+  unfolding out
+  out_are = refl
 
-  near_are : (A : Action) (b : Bound) → near (held_model m n p t) A b a ≡ map end_of (keep (looks_at A b) (transitions_from m n first many))
-  unfolding near held_model
-  near_are A b = ap (λ us. map end_of (keep (looks_at A b) us)) o.are
+  near_are : (A : Action) (b : Bound) → near M A b a ≡ map end_of (keep (looks_at A b) (leaving M a))
+  unfolding near
+  near_are A b = refl
 
-  -- EX and AX, over the state's transitions
-  pub next_are : (q : Quantifier) (A : Action) (l : ℕ) (b : Bound) → row_edges (held_model m n p t) (Next q A l b) a ≡ next_edges q (transitions_from m n first many) A b (n * l)
-  unfolding held_model
+  -- EX and AX
+  pub next_are : (q : Quantifier) (A : Action) (l : ℕ) (b : Bound) → row_edges M (Next q A l b) a ≡ next_edges q (leaving M a) A b (M.states * l)
   next_are Some A l b = rw (near_are A b, map-map)
   next_are Every A l b = rw (near_are A b, map-map)
 
-  -- an until's helper, over the state's transitions
-  pub helper_are : (q : Quantifier) (l r h : ℕ)
-      → (to 0 (a + (held_model m n p t).states * r) ∷ []) ∷ step_edges (held_model m n p t) q l h a ≡ helper_list n a q l r h (transitions_from m n first many)
-  unfolding held_model
+  -- an until's helper
+  pub helper_are : (q : Quantifier) (l r h : ℕ) → (to 0 (a + M.states * r) ∷ []) ∷ step_edges M q l h a ≡ helper_list M.states a q l r h (leaving M a)
   helper_are Some l r h = rw (out_are, map-map)
   helper_are Every l r h = rw (out_are, map-map, any_map)
-
-  -- they can be read, and lead to states
-  pub own_read : (shift : ℕ) → HoldsModel m n p t → shift + n ≤ 4096 → Reads m n first many shift
-  unfolding held_model
-  own_read shift h fits = record {
-    long = omega (arith, o.inside, h.long);
-    named = λ {u} k. h.well_formed.to_named {t = u} (∈-keep (λ u. eqb u.from a) _ (rw o.are k)).0;
-    shift_fits = fits;
-  }
-
--- a proposition and its negation, from whether the one holds
-pub leaf_are : (M : Model) (is : Bool) (i a : ℕ) (b : Bool) → b ≡ holds M i a → row_edges M (leaf_row is i) a ≡ leaf_edges (beq b is)
-leaf_are M true i a true e = rw (← e)
-leaf_are M true i a false e = rw (← e)
-leaf_are M false i a true e = rw (← e)
-leaf_are M false i a false e = rw (← e)
 
 -- ---- rows one after another
 
@@ -124,16 +100,6 @@ module _ (M : Model) where
   pub rows_none : (r : ℕ) → rows_bytes M r [] ≡ []
   unfolding rows_bytes layout write_all
   rows_none r = refl
-
--- a loop over the states that writes a row's hyperedges: what is left of them
-abbrev pub RowLeft : (m : List ℕ) (n p t r : ℕ) → Row → (b : List ℕ) (at : ℕ) → (b' : List ℕ) (next a : ℕ) → Type 0
-RowLeft m n p t r row b at b' next a =
-    let M = held_model m n p t in
-    SpanLeft (λ c. hypers_bytes (c + n * r) (row_edges M row c)) n b at (row_bytes M r row) b' next a
-
-pub row_begun : (m : List ℕ) (n p t r : ℕ) (row : Row) (b : List ℕ) (at : ℕ) → at + length (row_bytes (held_model m n p t) r row) ≤ length b → RowLeft m n p t r row b at b at 0
-unfolding held_model
-row_begun m n p t r row b at h = span_begun _ _ _ _ (row_spans (held_model m n p t) r row) h
 
 -- ---- the rows of an accepted formula
 

@@ -3,31 +3,13 @@
 use mathlib.Core.Path.{◌≡◌, sym, ◌∙◌}
 use Rattle.build.proofs.build.Reads as build
 use Rattle.build.proofs.count_nodes.Reads as count-nodes
-use Rattle.build.proofs.Built.number.Reads as Built-number
-use Rattle.build.proofs.Built.offset.Reads as Built-offset
-use Rattle.build.proofs.Built.length.Reads as Built-length
 
 -- `build::build`: the answer and the room
 pub one_build : (κs : _) (a : _) (r r' : _) (s s' : _) → build.Post κs a r s → build.Post κs a r' s'
-    → (r ≡ r') × (s.1.1.1.1.1.1.1.0.now ≡ s'.1.1.1.1.1.1.1.0.now)
+    → (r ≡ r') × (s.1.1.1.0.now ≡ s'.1.1.1.0.now)
 one_build κs a r r' s s' p q = (p.0 ∙ sym q.0, p.1 ∙ sym q.1)
 
 -- `build::count_nodes`
 pub one_count_nodes : (κs : _) (a : _) (r r' : _) (s s' : _) → count-nodes.Post κs a r s → count-nodes.Post κs a r' s'
     → r ≡ r'
 one_count_nodes κs a r r' s s' p q = p ∙ sym q
-
--- `build::Built::number`
-pub one_number : (κs : _) (a : _) (r r' : _) (s s' : _) → Built-number.Post κs a r s → Built-number.Post κs a r' s'
-    → r ≡ r'
-one_number κs a r r' s s' p q = p ∙ sym q
-
--- `build::Built::offset`
-pub one_offset : (κs : _) (a : _) (r r' : _) (s s' : _) → Built-offset.Post κs a r s → Built-offset.Post κs a r' s'
-    → r ≡ r'
-one_offset κs a r r' s s' p q = p ∙ sym q
-
--- `build::Built::length`
-pub one_length : (κs : _) (a : _) (r r' : _) (s s' : _) → Built-length.Post κs a r s → Built-length.Post κs a r' s'
-    → r ≡ r'
-one_length κs a r r' s s' p q = p ∙ sym q

@@ -15,6 +15,7 @@ use Rattle.lists.proofs.Tests.{by_test, and_left, and_right}
 use Rattle.refusal.specs.Number.{unplaced}
 use Rattle.refusal.specs.declared.Refusal.TheVariants.{Size, Room}
 use Rattle.value.specs.declared.Bound.{Bound}
+use Rattle.wire.specs.Read.{Read, Ok, Err}
 use Rattle.wire.specs.Start.{start_width}
 use Rattle.wire.specs.Bytes.{bytes}
 use Rattle.wire.specs.Laid.{laid, Laid}
@@ -29,7 +30,6 @@ use Rattle.syntax.specs.declared.Quantifier.{Quantifier}
 use Rattle.syntax.specs.declared.Row.{Row}
 use Rattle.syntax.specs.declared.Row.TheVariants.{Until}
 use Rattle.reduction.specs.Built.{if_until, is_until, untils, helper_at, layout, cover, CoverEnd, graph_of}
-use Rattle.build.specs.declared.Built.TheVariants as Built
 use Rattle.sizing.specs.declared.Size as size
 use Rattle.sizing.specs.Size.{◌⊑◌, size_of, rows_edges, in_limits}
 use Rattle.records.specs.Bytes.{rows_bytes, helpers_bytes, cover_bytes, covers_from, covers_of}
@@ -188,11 +188,11 @@ enough_less nodes covers {x} {y} bytes values less e =
 -- ---- the answers
 
 module _ (g : Graph) (b : List ℕ) (values : ℕ) where
-  pub size_refused : fits g ≡ false → (Built.Refused (unplaced Size) ≡ built_of g b values) × (b ≡ built_room g b values)
+  pub size_refused : fits g ≡ false → (◌≡◌ {A = Read ℕ} (Err (unplaced Size)) (built_of g b values)) × (b ≡ built_room g b values)
   unfolding built_of built_room
   size_refused e = (rw e, rw e)
 
-  pub room_refused : fits g ≡ true → (fits g && roomy g b values) ≡ false → (Built.Refused (unplaced Room) ≡ built_of g b values) × (b ≡ built_room g b values)
+  pub room_refused : fits g ≡ true → (fits g && roomy g b values) ≡ false → (◌≡◌ {A = Read ℕ} (Err (unplaced Room)) (built_of g b values)) × (b ≡ built_room g b values)
   unfolding built_of built_room
   room_refused e f = let short = rw e at f in (rw (e, short), rw (e, short))
 
@@ -204,7 +204,7 @@ module _ (g : Graph) (b : List ℕ) (values : ℕ) where
       room = leb-true (length (write_graph g)) (length b) (and_left _ _ (and_right (fits g) _ all));
     }
 
-    pub graph_built : {b' : List ℕ} {long : ℕ} → Laid b 0 (write_graph g) b' long → (Built.Graph long ≡ built_of g b values) × (b' ≡ built_room g b values)
+    pub graph_built : {b' : List ℕ} {long : ℕ} → Laid b 0 (write_graph g) b' long → (◌≡◌ {A = Read ℕ} (Ok long) (built_of g b values)) × (b' ≡ built_room g b values)
     unfolding built_of built_room laid
     graph_built h =
         let e = and_left (fits g) _ all in

@@ -76,7 +76,7 @@ untils_few {f} {k} h = omega (arith, keep_length is_until (held_rows f k), rows_
 pub header_length : (long n h c : ℕ) → length (write_header long n h c) ≡ graph_header
 header_length long n h c = simp (length-append, length_bytes)
 
-module _ {m : List ℕ} {n p t : ℕ} {f : List ℕ} {k u : ℕ} {b : List ℕ} (hm : HoldsModel m n p t) (hr : HoldsRows f k p)
+module _ {m : List ℕ} {n p t : ℕ} {f : List ℕ} {k q u : ℕ} {b : List ℕ} (hm : HoldsModel m n p t) (hr : HoldsRows f k q)
     (u-is : u ≡ length (untils (held_rows f k))) (w : Writable (graph_of (held_model m n p t) (held_rows f k)) b) where
   -- rows and helpers have few nodes
   pub nodes_few : n * (k + u) ≤ 4096

@@ -1,29 +1,20 @@
 -- What the builder answers, and what it leaves in the room.
 use Rattle.std.specs.Prelude.{ℕ, ◌+◌, ◌*◌, ◌≤◌, List, ◌++◌, ◌≡◌, Bool, true, cond, ◌&&◌, length, drop, leb}
 use Rattle.lists.specs.Lists.{all}
-use Rattle.refusal.specs.Number.{ok, number_of, nowhere, unplaced}
+use Rattle.refusal.specs.Number.{unplaced}
 use Rattle.refusal.specs.declared.Refusal.TheVariants.{Size, Room}
+use Rattle.wire.specs.Read.{Read, Ok, Err}
 use Rattle.rules.specs.Graph.{Graph}
 use Rattle.graph.specs.Format.{graph_length}
 use Rattle.graph.specs.WellFormed.{targets_of}
 use Rattle.graph.specs.Write.{write_graph}
 use Rattle.sizing.specs.declared.Size as size
 use Rattle.sizing.specs.Size.{in_limits}
-use Rattle.build.specs.declared.Built.{Built}
 
--- the paper's number and the returned length of an answer: a refusal has length 0
-abbrev pub built_number : Built → ℕ
-built_number (Built.Graph n) = ok
-built_number (Built.Refused e) = number_of e.refusal
-
--- where the field starts that was found wrong
-abbrev pub built_offset : Built → ℕ
-built_offset (Built.Graph n) = nowhere
-built_offset (Built.Refused e) = e.offset
-
-abbrev pub built_length : Built → ℕ
-built_length (Built.Graph n) = n
-built_length (Built.Refused e) = 0
+-- the returned length of an answer: a refusal has length 0
+abbrev pub built_length : Read ℕ → ℕ
+built_length (Ok n) = n
+built_length (Err e) = 0
 
 -- the graph passes no limit on n, h, c or targets, all together or of one hyperedge
 unfoldable pub fits : Graph → Bool
@@ -39,8 +30,8 @@ unfoldable pub roomy : Graph → List ℕ → ℕ → Bool
 roomy g b values = leb (length (write_graph g)) (length b) && leb (g.nodes + g.nodes) values
 
 -- SIZE where it would pass a limit; then ROOM where a room is too small; else the graph's length
-unfoldable pub built_of : Graph → List ℕ → ℕ → Built
-built_of g b values = cond (fits g) (cond (roomy g b values) (Built.Graph (length (write_graph g))) (Built.Refused (unplaced Room))) (Built.Refused (unplaced Size))
+unfoldable pub built_of : Graph → List ℕ → ℕ → Read ℕ
+built_of g b values = cond (fits g) (cond (roomy g b values) (Ok (length (write_graph g))) (Err (unplaced Room))) (Err (unplaced Size))
 
 -- the graph stands at the front of its room, the rest untouched; a refusal leaves the room as it came
 unfoldable pub built_room : Graph → List ℕ → ℕ → List ℕ

@@ -1,4 +1,4 @@
--- Definitions: the answer of the builder, a leaf's row for its code, and how many hyperedges so many bytes are.
+-- Definitions: the answer of the builder, what a writer lays in state by state, and how many hyperedges so many bytes are.
 pub mod Built
-pub mod Leaf
 pub mod Told
+pub mod Puts

@@ -1,175 +1,99 @@
 // The message of the graph, written part by part: the hyperedges of rows and helpers, the cover edges, and the header, with the counts.
-ghost use Rattle.std.specs.Prelude.{◌≡◌, ◌+◌, ◌*◌, ◌≤◌, ◌<◌, length};
+ghost use Rattle.std.specs.Prelude.{◌≡◌, ℕ, ◌+◌, ◌*◌, ◌≤◌, ◌<◌, List, [], ◌∷◌, ◌++◌, length};
+ghost use Rattle.wire.specs.Bytes.{bytes};
+ghost use Rattle.lists.specs.Making.{span};
+ghost use Rattle.build.specs.Puts.{PutsEach, helper_of};
 ghost use Rattle.wire.specs.Laid.{Laid};
-ghost use Rattle.graph.specs.Format.{graph_header};
+ghost use Rattle.graph.specs.Format.{graph_header, cover_width};
 ghost use Rattle.graph.specs.Write.{write_header, write_graph};
-ghost use Rattle.syntax.specs.declared.Row.TheVariants.{True, And, Or, Next};
 ghost use Rattle.reduction.specs.Built as built;
-ghost use Rattle.transitions.specs.Held.{transitions_from, held_model, held_rows, HoldsModel, HoldsRows, Starts, Reads};
-ghost use Rattle.records.specs.Bytes.{hypers_bytes, helper_list, rows_hypers, row_bytes, rows_bytes, helper_bytes, helpers_bytes, cover_bytes, covers_of, RowFits, Narrow, HelpersFit};
+ghost use Rattle.transitions.specs.Held.{LeadTo};
+ghost use Rattle.transitions.specs.Views.{model_of, rows_of, list_of};
+ghost use Rattle.records.specs.Bytes.{single_width, hypers_bytes, next_edges, helper_list, rows_hypers, row_bytes, rows_bytes, helper_bytes, helpers_bytes, cover_bytes, covers_of, RowFits, Narrow, HelpersFit};
 ghost use Rattle.build.specs.Built.{Writable};
-ghost use Rattle.build.specs.Leaf.{leaf_row};
 ghost use Rattle.build.specs.Told.{ToldHypers};
 
 use syntax::{Action, Quantifier, Row};
+use transitions::{AcceptedRows, Out, Table};
 use value::Bound;
 use wire::Width;
 
-// The hyperedges of true's nodes, over all states.
-fn put_true_states(room: &mut [u8], at: usize, m: &[u8], n: u32, p: u32, t: u32, r: u32) -> usize
-    requires row_fits { RowFits n r True }
-    requires r_in_bounds { at + length (row_bytes (held_model m.now n p t) r True) ≤ length room.old }
-    ensures { Laid room.old at (row_bytes (held_model m.now n p t) r True) room.new result }
-{
-    let mut next = at;
-    let mut a: u32 = 0;
-    while a < n {
-        next = records::put_head(room, next, a + n * r, 0);
-        a += 1;
-    }
-    next
-}
-
-// Of the nodes of a proposition, or of its negation.
-fn put_leaf_states(
+// What `put` writes for one state after another, each where the one before it ends.
+fn put_each<F: Fn(&mut [u8], usize, u32) -> usize>(
     room: &mut [u8],
     at: usize,
-    m: &[u8],
     n: u32,
-    p: u32,
-    t: u32,
-    r: u32,
-    i: u32,
-    is: bool,
+    put: F,
 ) -> usize
-    requires holds_model { HoldsModel m.now n p t }
-    requires row_fits { RowFits n r (leaf_row is i) }
-    requires i_in_bounds { at + length (row_bytes (held_model m.now n p t) r (leaf_row is i)) ≤ length room.old }
-    ensures { Laid room.old at (row_bytes (held_model m.now n p t) r (leaf_row is i)) room.new result }
+    requires { (bytes : ℕ → List ℕ) × PutsEach (F.pre put) (F.post put) bytes n × (at + length (span bytes 0 n) ≤ length room.old) }
+    ensures { (bytes : ℕ → List ℕ) → PutsEach (F.pre put) (F.post put) bytes n → at + length (span bytes 0 n) ≤ length room.old
+        → Laid room.old at (span bytes 0 n) room.new result }
 {
     let mut next = at;
-    let mut a: u32 = 0;
-    while a < n {
-        let here = transitions::holds(m, n, p, t, a, i) == is;
-        next = records::put_leaf(room, next, a + n * r, here);
-        a += 1;
+    for a in 0..n {
+        next = put(room, next, a);
     }
     next
 }
 
-// Of the nodes of an and.
-fn put_and_states(
-    room: &mut [u8],
-    at: usize,
-    m: &[u8],
-    n: u32,
-    p: u32,
-    t: u32,
-    r: u32,
-    l: u32,
-    k: u32,
-) -> usize
-    requires row_fits { RowFits n r (And l k) }
-    requires k_in_bounds { at + length (row_bytes (held_model m.now n p t) r (And l k)) ≤ length room.old }
-    ensures { Laid room.old at (row_bytes (held_model m.now n p t) r (And l k)) room.new result }
+// Two hyperedges of a node, each with one target at weight 0.
+fn put_both(room: &mut [u8], at: usize, v: u32, node: u32, other: u32) -> usize
+    requires { at + 2 * single_width ≤ length room.old }
+    ensures { Laid room.old at (hypers_bytes v ((built.to 0 node ∷ []) ∷ (built.to 0 other ∷ []) ∷ [])) room.new result }
 {
-    let mut next = at;
-    let mut a: u32 = 0;
-    while a < n {
-        next = records::put_pair(room, next, a + n * r, a + n * l, 0, a + n * k);
-        a += 1;
-    }
-    next
+    let second = records::put_single(room, at, v, node);
+    records::put_single(room, second, v, other)
 }
 
-// Of the nodes of an or.
-fn put_or_states(
+// The hyperedges of an EX or AX in state a, whose node is v.
+fn put_next(
     room: &mut [u8],
     at: usize,
-    m: &[u8],
-    n: u32,
-    p: u32,
-    t: u32,
-    r: u32,
-    l: u32,
-    k: u32,
-) -> usize
-    requires row_fits { RowFits n r (Or l k) }
-    requires k_in_bounds { at + length (row_bytes (held_model m.now n p t) r (Or l k)) ≤ length room.old }
-    ensures { Laid room.old at (row_bytes (held_model m.now n p t) r (Or l k)) room.new result }
-{
-    let mut next = at;
-    let mut a: u32 = 0;
-    while a < n {
-        let v = a + n * r;
-        let second = records::put_single(room, next, v, a + n * l);
-        next = records::put_single(room, second, v, a + n * k);
-        a += 1;
-    }
-    next
-}
-
-// Of the nodes of an EX or AX.
-fn put_next_states(
-    room: &mut [u8],
-    at: usize,
-    m: &[u8],
-    n: u32,
-    p: u32,
-    t: u32,
-    table: &[u32],
-    r: u32,
+    table: Table,
+    a: u32,
+    v: u32,
     q: Quantifier,
     action: Action,
-    l: u32,
     bound: Bound,
+    shift: u32,
 ) -> usize
-    requires holds_model { HoldsModel m.now n p t }
-    requires n_in_bounds { (n < length table.now) × Starts m.now n t table.now }
-    requires row_fits { RowFits n r (Next q action l bound) }
-    requires bound_in_bounds { at + length (row_bytes (held_model m.now n p t) r (Next q action l bound)) ≤ length room.old }
-    ensures { Laid room.old at (row_bytes (held_model m.now n p t) r (Next q action l bound)) room.new result }
+    requires state { a < table.model.states }
+    requires shift_fits { shift + table.model.states ≤ 4096 }
+    requires inside { at + length (hypers_bytes v (next_edges q (built.leaving (model_of table.model) a) action bound shift)) ≤ length room.old }
+    ensures { Laid room.old at (hypers_bytes v (next_edges q (built.leaving (model_of table.entry.model) a) action bound shift)) room.new result }
 {
-    let shift = n * l;
-    let mut next = at;
-    let mut a: u32 = 0;
-    while a < n {
-        let i = a as usize;
-        let first = table[i];
-        let many = table[i + 1] - first;
-        let v = a + n * r;
-        next = records::put_next(room, next, m, n, v, first, many, q, action, bound, shift);
-        a += 1;
-    }
-    next
+    records::put_next(room, at, v, table.out_of(a), q, action, bound, shift)
 }
 
 // The hyperedges of a row's nodes, over all states; an until's have none. Which kind of row it is, is asked once.
-fn put_row_states(
-    room: &mut [u8],
-    at: usize,
-    m: &[u8],
-    n: u32,
-    p: u32,
-    t: u32,
-    table: &[u32],
-    r: u32,
-    row: Row,
-) -> usize
-    requires holds_model { HoldsModel m.now n p t }
-    requires n_in_bounds { (n < length table.now) × Starts m.now n t table.now }
-    requires row_fits { RowFits n r row }
-    requires row_in_bounds { at + length (row_bytes (held_model m.now n p t) r row) ≤ length room.old }
-    ensures { Laid room.old at (row_bytes (held_model m.now n p t) r row) room.new result }
+fn put_row_states(room: &mut [u8], at: usize, table: Table, r: u32, row: Row) -> usize
+    requires row_fits { RowFits table.model.states r row }
+    requires inside { at + length (row_bytes (model_of table.model) r row) ≤ length room.old }
+    ensures { Laid room.old at (row_bytes (model_of table.entry.model) r row) room.new result }
 {
+    let m = table.model;
+    let n = m.states;
+    let first = n * r;
     match row {
-        Row::True => put_true_states(room, at, m, n, p, t, r),
+        Row::True => put_each(room, at, n, |room, at, a| {
+            records::put_head(room, at, a + first, 0)
+        }),
         Row::False => at,
-        Row::Proposition(i) => put_leaf_states(room, at, m, n, p, t, r, i, true),
-        Row::Negation(i) => put_leaf_states(room, at, m, n, p, t, r, i, false),
-        Row::And(l, k) => put_and_states(room, at, m, n, p, t, r, l, k),
-        Row::Or(l, k) => put_or_states(room, at, m, n, p, t, r, l, k),
-        Row::Next(q, i, l, b) => put_next_states(room, at, m, n, p, t, table, r, q, i, l, b),
+        Row::Proposition(i) => put_each(room, at, n, |room, at, a| {
+            records::put_leaf(room, at, a + first, m.holds(a, i))
+        }),
+        Row::Negation(i) => put_each(room, at, n, |room, at, a| {
+            records::put_leaf(room, at, a + first, !m.holds(a, i))
+        }),
+        Row::And(l, k) => put_each(room, at, n, |room, at, a| {
+            records::put_pair(room, at, a + first, a + n * l, 0, a + n * k)
+        }),
+        Row::Or(l, k) => put_each(room, at, n, |room, at, a| {
+            put_both(room, at, a + first, a + n * l, a + n * k)
+        }),
+        Row::Next(q, action, l, bound) => put_each(room, at, n, |room, at, a| {
+            put_next(room, at, table, a, a + first, q, action, bound, n * l)
+        }),
         Row::Until(_, _, _, _) => at,
     }
 }
@@ -197,144 +121,113 @@ struct Put {
 }
 
 // The hyperedges of all rows' nodes.
-fn put_rows(
-    room: &mut [u8],
-    at: usize,
-    m: &[u8],
-    n: u32,
-    p: u32,
-    t: u32,
-    table: &[u32],
-    f: &[u8],
-    k: u32,
-) -> Put
-    requires holds_model { HoldsModel m.now n p t }
-    requires n_in_bounds { (n < length table.now) × Starts m.now n t table.now }
-    requires holds_rows { HoldsRows f.now k p }
-    requires k_bound { n * k ≤ 4096 }
-    requires k_in_bounds { at + length (rows_bytes (held_model m.now n p t) 0 (held_rows f.now k)) ≤ length room.old }
-    ensures laid { Laid room.old at (rows_bytes (held_model m.now n p t) 0 (held_rows f.now k)) room.new result.next }
-    ensures hypers_value { result.hypers ≡ length (rows_hypers (held_model m.now n p t) 0 (held_rows f.now k)) }
+fn put_rows(room: &mut [u8], at: usize, table: Table, f: AcceptedRows) -> Put
+    requires nodes_fit { table.model.states * f.rows ≤ 4096 }
+    requires inside { at + length (rows_bytes (model_of table.model) 0 (rows_of f)) ≤ length room.old }
+    ensures laid { Laid room.old at (rows_bytes (model_of table.entry.model) 0 (rows_of f.entry)) room.new result.next }
+    ensures hypers_value { result.hypers ≡ length (rows_hypers (model_of table.entry.model) 0 (rows_of f.entry)) }
 {
     let mut next = at;
     let mut hypers: usize = 0;
-    let mut row_at = syntax::HEADER;
-    let mut r: u32 = 0;
-    while r < k {
-        let row = syntax::row_at(f, row_at);
-        let end = put_row_states(room, next, m, n, p, t, table, r, row);
-        hypers += hypers_in(row, n, end - next);
+    for r in 0..f.rows {
+        let row = f.row(r);
+        let end = put_row_states(room, next, table, r, row);
+        hypers += hypers_in(row, table.model.states, end - next);
         next = end;
-        row_at += syntax::ROW;
-        r += 1;
     }
-    Put {
-        next: next,
-        hypers: hypers,
-    }
+    Put { next, hypers }
 }
 
 // The hyperedges of the helper node of state a at place h, for an until of these operands.
 fn put_helper(
     room: &mut [u8],
     at: usize,
-    m: &[u8],
-    n: u32,
     a: u32,
     h: u32,
-    first: u32,
-    many: u32,
+    out: Out,
     q: Quantifier,
     l: u32,
     k: u32,
 ) -> usize
-    requires reads { Reads m.now n first many (n * h) }
-    requires a_lt_n { (a < n) × (n * l + n ≤ 4096) × (n * k + n ≤ 4096) × (many < 65535) }
-    requires many_in_bounds { at + length (hypers_bytes (a + n * h) (helper_list n a q l k h (transitions_from m.now n first many))) ≤ length room.old }
-    ensures { Laid room.old at (hypers_bytes (a + n * h) (helper_list n a q l k h (transitions_from m.now n first many)))
+    requires nodes_fit { (a < out.states) × (out.states * h + out.states ≤ 4096) × (out.states * l + out.states ≤ 4096) × (out.states * k + out.states ≤ 4096) }
+    requires few { out.many < 65535 }
+    requires named { LeadTo out.states (list_of out) }
+    requires inside { at + length (hypers_bytes (a + out.states * h) (helper_list out.states a q l k h (list_of out))) ≤ length room.old }
+    ensures { Laid room.old at (hypers_bytes (a + out.entry.states * h) (helper_list out.entry.states a q l k h (list_of out.entry)))
         room.new result }
 {
+    let n = out.states;
     let v = a + n * h;
     let left = a + n * l;
     let shift = n * h;
     let second = records::put_single(room, at, v, a + n * k);
     match q {
-        Quantifier::Some => records::put_steps(room, second, m, n, q, v, first, many, left, shift),
+        Quantifier::Some => records::put_steps(room, second, q, v, out, left, shift),
         Quantifier::Every => {
-            if many < 1 {
+            if out.many < 1 {
                 return second;
             }
-            let head = records::put_head(room, second, v, many + 1);
+            let head = records::put_head(room, second, v, out.many + 1);
             let targets = records::put_target(room, head, 0, left);
-            records::put_steps(room, targets, m, n, q, v, first, many, left, shift)
+            records::put_steps(room, targets, q, v, out, left, shift)
         }
     }
+}
+
+// The same, for an until whose helpers stand at place h, over the state's transitions.
+fn put_helper_state(
+    room: &mut [u8],
+    at: usize,
+    table: Table,
+    a: u32,
+    h: u32,
+    q: Quantifier,
+    l: u32,
+    k: u32,
+) -> usize
+    requires state { a < table.model.states }
+    requires nodes_fit { (table.model.states * h + table.model.states ≤ 4096) × (l < h) × (k < h) }
+    requires narrow { Narrow (model_of table.model) }
+    requires inside { at + length (helper_of (model_of table.model) h q l k a) ≤ length room.old }
+    ensures { Laid room.old at (helper_of (model_of table.entry.model) h q l k a) room.new result }
+{
+    put_helper(room, at, a, h, table.out_of(a), q, l, k)
 }
 
 // The hyperedges of an until row's helper nodes, over all states.
 fn put_helper_states(
     room: &mut [u8],
     at: usize,
-    m: &[u8],
-    n: u32,
-    p: u32,
-    t: u32,
-    table: &[u32],
+    table: Table,
     h: u32,
     q: Quantifier,
     l: u32,
     k: u32,
 ) -> usize
-    requires holds_model { HoldsModel m.now n p t }
-    requires n_in_bounds { (n < length table.now) × Starts m.now n t table.now }
-    requires n_bound { (n * h + n ≤ 4096) × (l < h) × (k < h) × Narrow (held_model m.now n p t) }
-    requires k_in_bounds { at + length (helper_bytes (held_model m.now n p t) h q l k) ≤ length room.old }
-    ensures { Laid room.old at (helper_bytes (held_model m.now n p t) h q l k) room.new result }
+    requires nodes_fit { (table.model.states * h + table.model.states ≤ 4096) × (l < h) × (k < h) }
+    requires narrow { Narrow (model_of table.model) }
+    requires inside { at + length (helper_bytes (model_of table.model) h q l k) ≤ length room.old }
+    ensures { Laid room.old at (helper_bytes (model_of table.entry.model) h q l k) room.new result }
 {
-    let mut next = at;
-    let mut a: u32 = 0;
-    while a < n {
-        let i = a as usize;
-        let first = table[i];
-        let many = table[i + 1] - first;
-        next = put_helper(room, next, m, n, a, h, first, many, q, l, k);
-        a += 1;
-    }
-    next
+    put_each(room, at, table.model.states, |room, at, a| {
+        put_helper_state(room, at, table, a, h, q, l, k)
+    })
 }
 
 // The hyperedges of all helper nodes.
-fn put_helpers(
-    room: &mut [u8],
-    at: usize,
-    m: &[u8],
-    n: u32,
-    p: u32,
-    t: u32,
-    table: &[u32],
-    f: &[u8],
-    k: u32,
-) -> usize
-    requires holds_model { HoldsModel m.now n p t }
-    requires n_in_bounds { (n < length table.now) × Starts m.now n t table.now }
-    requires holds_rows { HoldsRows f.now k p }
-    requires helpers_fit { HelpersFit (held_model m.now n p t) k (built.untils (held_rows f.now k)) }
-    requires k_in_bounds { at + length (helpers_bytes (held_model m.now n p t) k (built.untils (held_rows f.now k))) ≤ length room.old }
-    ensures { Laid room.old at (helpers_bytes (held_model m.now n p t) k (built.untils (held_rows f.now k)))
-        room.new result }
+fn put_helpers(room: &mut [u8], at: usize, table: Table, f: AcceptedRows) -> usize
+    requires helpers_fit { HelpersFit (model_of table.model) f.rows (built.untils (rows_of f)) }
+    requires inside { at + length (helpers_bytes (model_of table.model) f.rows (built.untils (rows_of f))) ≤ length room.old }
+    ensures { Laid room.old at (helpers_bytes (model_of table.entry.model) f.entry.rows (built.untils (rows_of f.entry))) room.new result }
 {
     let mut next = at;
-    let mut row_at = syntax::HEADER;
-    let mut h = k;
-    let mut i = k;
-    while 0 < i {
-        let row = syntax::row_at(f, row_at);
-        row_at += syntax::ROW;
-        i -= 1;
-        if let Row::Until(q, l, r, _) = row {
-            next = put_helper_states(room, next, m, n, p, t, table, h, q, l, r);
-            h += 1;
-        }
+    let mut h = f.rows;
+    for i in 0..f.rows {
+        let Row::Until(q, l, r, _) = f.row(i) else {
+            continue;
+        };
+        next = put_helper_states(room, next, table, h, q, l, r);
+        h += 1;
     }
     next
 }
@@ -353,77 +246,62 @@ fn put_header(room: &mut [u8], long: u32, n: u32, h: u32, c: u32) -> usize
     graph::HEADER
 }
 
+// A cover edge, with its bound as a number.
+fn put_cover(room: &mut [u8], at: usize, source: u32, code: u32, target: u32) -> usize
+    requires { at + cover_width ≤ length room.old }
+    ensures { Laid room.old at (bytes 2 source ++ bytes 4 code ++ bytes 2 target) room.new result }
+{
+    wire::store(room, at, Width::Two, source);
+    wire::store(room, at + graph::COVER_BOUND_AT, Width::Four, code);
+    wire::store(room, at + graph::COVER_TARGET_AT, Width::Two, target);
+    at + graph::COVER
+}
+
 // The cover edges of an until row's nodes, over all states.
 fn put_cover_states(room: &mut [u8], at: usize, n: u32, r: u32, h: u32, bound: Bound) -> usize
-    requires n_bound { (n * h + n ≤ 4096) × (r < h) }
-    requires bound_in_bounds { at + length (cover_bytes n r h bound) ≤ length room.old }
+    requires nodes_fit { (n * h + n ≤ 4096) × (r < h) }
+    requires inside { at + length (cover_bytes n r h bound) ≤ length room.old }
     ensures { Laid room.old at (cover_bytes n r h bound) room.new result }
 {
     let code = bound.code();
-    let mut next = at;
-    let mut a: u32 = 0;
-    while a < n {
-        wire::store(room, next, Width::Two, a + n * r);
-        wire::store(room, next + graph::COVER_BOUND_AT, Width::Four, code);
-        wire::store(room, next + graph::COVER_TARGET_AT, Width::Two, a + n * h);
-        next += graph::COVER;
-        a += 1;
-    }
-    next
+    put_each(room, at, n, |room, at, a| {
+        put_cover(room, at, a + n * r, code, a + n * h)
+    })
 }
 
 // All cover edges: one for each state and until row, to its helper.
-fn put_covers(room: &mut [u8], at: usize, n: u32, p: u32, f: &[u8], k: u32) -> usize
-    requires holds_rows { HoldsRows f.now k p }
-    requires k_bound { n * (k + length (built.untils (held_rows f.now k))) ≤ 4096 }
-    requires k_in_bounds { at + length (covers_of n (held_rows f.now k)) ≤ length room.old }
-    ensures { Laid room.old at (covers_of n (held_rows f.now k)) room.new result }
+fn put_covers(room: &mut [u8], at: usize, n: u32, f: AcceptedRows) -> usize
+    requires nodes_fit { n * (f.rows + length (built.untils (rows_of f))) ≤ 4096 }
+    requires inside { at + length (covers_of n (rows_of f)) ≤ length room.old }
+    ensures { Laid room.old at (covers_of n (rows_of f.entry)) room.new result }
 {
     let mut next = at;
-    let mut row_at = syntax::HEADER;
-    let mut h = k;
-    let mut r: u32 = 0;
-    while r < k {
-        let row = syntax::row_at(f, row_at);
-        let place = r;
-        row_at += syntax::ROW;
-        r += 1;
-        if let Row::Until(_, _, _, b) = row {
-            next = put_cover_states(room, next, n, place, h, b);
-            h += 1;
-        }
+    let mut h = f.rows;
+    for r in 0..f.rows {
+        let Row::Until(_, _, _, b) = f.row(r) else {
+            continue;
+        };
+        next = put_cover_states(room, next, n, r, h, b);
+        h += 1;
     }
     next
 }
 
 // The bytes of a graph that fits its room, and how many they are. Its header is written last, when its hyperedges are counted: those of
 // helpers have as many targets as they are, and one more for each until and transition.
-pub fn write(
-    m: &[u8],
-    n: u32,
-    p: u32,
-    t: u32,
-    table: &[u32],
-    f: &[u8],
-    k: u32,
-    untils: u32,
-    room: &mut [u8],
-) -> usize
-    requires holds_model { HoldsModel m.now n p t }
-    requires n_in_bounds { (n < length table.now) × Starts m.now n t table.now }
-    requires holds_rows { HoldsRows f.now k p }
-    requires untils_value { untils ≡ length (built.untils (held_rows f.now k)) }
-    requires writable { Writable (built.graph_of (held_model m.now n p t) (held_rows f.now k)) room.old }
-    ensures { Laid room.old 0 (write_graph (built.graph_of (held_model m.now n p t) (held_rows f.now k)))
-        room.new result }
+pub fn write(table: Table, f: AcceptedRows, untils: u32, room: &mut [u8]) -> usize
+    requires untils_value { untils ≡ length (built.untils (rows_of f)) }
+    requires writable { Writable (built.graph_of (model_of table.model) (rows_of f)) room.old }
+    ensures { Laid room.old 0 (write_graph (built.graph_of (model_of table.entry.model) (rows_of f.entry))) room.new result }
 {
-    let rows = put_rows(room, graph::HEADER, m, n, p, t, table, f, k);
-    let covers = put_helpers(room, rows.next, m, n, p, t, table, f, k);
-    let end = put_covers(room, covers, n, p, f, k);
-    let steps = ((t * untils) as usize) * graph::TARGET;
+    let n = table.model.states;
+    let rows = put_rows(room, graph::HEADER, table, f);
+    let covers = put_helpers(room, rows.next, table, f);
+    let end = put_covers(room, covers, n, f);
+    let steps = ((table.model.transitions * untils) as usize) * graph::TARGET;
     let helpers = (covers - rows.next - steps) / records::SINGLE;
     let hypers = rows.hypers + helpers;
-    let nodes = n * (k + untils);
+    let nodes = n * (f.rows + untils);
     put_header(room, end as u32, nodes, hypers as u32, n * untils);
     end
 }

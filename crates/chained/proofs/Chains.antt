@@ -1,10 +1,10 @@
 -- A turn that takes in the records of the nodes that changed, and no others: every other edge has targets that stayed. Assumes nothing.
-use Prim.Native.Nat.{ℕ, suc, ◌+◌, ◌<◌, ◌≤◌}
+use Prim.Native.Nat.{ℕ, suc, ◌+◌, ◌<◌}
 use mathlib.Core.List.Memᴰ
 use mathlib.Core.List.{List, [], ◌∷◌}
 use mathlib.Core.Logic.{◌⊎◌, inl, inr}
 use mathlib.Core.Path.{◌≡◌, refl, sym, ap, subst}
-use lib.ListN.{length, get_or, replicate, length-replicate}
+use lib.ListN.{get_or}
 use native.Mathlib.Decide.{ℕ_discrete}
 use native.Mathlib.Omega.{arith}
 use Rattle.lists.specs.Lists.{◌∈◌}
@@ -18,20 +18,14 @@ use Rattle.rules.proofs.Order.{rounds_fall}
 use Rattle.rules.proofs.Skip.{Part, IdleHyper, IdleCover, stayed_hyper, stayed_cover}
 use Rattle.graph.specs.Format.{graph_header}
 use Rattle.graph.specs.Layouts.{hyper_layout, cover_layout, decoded}
-use Rattle.links.specs.Links.{Fits, Finds, Reached, hyper_at, cover_at, Linked, Index}
+use Rattle.links.specs.declared.Place.{Place}
+use Rattle.links.specs.Links.{Finds, Reached, hyper_at, cover_at, Index}
 use Rattle.changes.specs.Listed.{Fallen, Listed}
 use Rattle.chains.specs.Taken.{Has, TakenAll}
-use Rattle.links.proofs.Linking.{linked_none, hyper_far}
+use Rattle.links.proofs.Linking.{hyper_far}
 use Rattle.graph.specs.Ready.{Ready}
 use Rattle.turns.specs.Turns.{AtRound}
 use Rattle.turns.proofs.Loop.{same_stays}
-
--- lists of zeros are what the rounds ask for: nothing is linked in them, and they are long enough
-pub in_zeros : {s : List ℕ} {n h c middle : ℕ} (most : ℕ) → most ≤ 65535 → Fits n h c middle most
-    → Linked s n middle 0 [] 0 0 (replicate most 0) (replicate most 0) × ((length (replicate {A = ℕ} most 0) ≡ most) × (most + most ≤ length (replicate {A = ℕ} (most + most) 0)))
-in_zeros most short fits =
-    let twice = length-replicate {A = ℕ} (most + most) 0 in
-    (linked_none _ _ _ most fits.nodes short, (length-replicate most 0, omega arith))
 
 -- no number of the next round is above that of this one
 pub round_fallen : (g : Graph) → Closed g → {budget i : ℕ} {b₀ b : List ℕ} → AtRound g budget i b₀ b → Fallen g.nodes b
@@ -55,8 +49,8 @@ targets_stay n b (u ∷ ts) = go (ℕ_discrete (get_or b u.node 0) (get_or b (n 
         each t (inr m) = all t m
 
 -- a turn has at hand: the graph is ready, its places are linked, the changed nodes are listed, and their records are taken in
-module _ {s : List ℕ} {n h c middle from many : ℕ} {changed heads places b b₁ b₂ : List ℕ} (ready : Ready s n h c) (behind : middle ≡ end (hyper_layout s n) h graph_header)
-    (index : Index s n h c middle heads places) (listed : Listed n n from many b changed) (all : TakenAll s n h c middle from many changed heads places b₁ b₂)
+module _ {s : List ℕ} {n h c middle most many : ℕ} {nodes heads : List ℕ} {places : List Place} {b b₁ b₂ : List ℕ} (ready : Ready s n h c) (behind : middle ≡ end (hyper_layout s n) h graph_header)
+    (index : Index s n h c middle most heads places) (listed : Listed n n many b nodes) (all : TakenAll s n h c middle many nodes heads places b₁ b₂)
     {budget i : ℕ} {b₀ : List ℕ} (w : AtRound (decoded s n h c) budget i b₀ b) where
   -- the part has every record that has a changed node as a target
   has_changed : (v : ℕ) → v < n → ¬ (get_or b v 0 ≡ get_or b (n + v) 0) → (at : ℕ) → Finds heads places v at → Has s n middle all.part at

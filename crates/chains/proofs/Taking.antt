@@ -27,7 +27,8 @@ use Rattle.halves.specs.Held.{held}
 use Rattle.halves.specs.Room.{half}
 use Rattle.scans.specs.Scan.{lowered, forth, Going, Done}
 use Rattle.scans.proofs.Going.{going_set}
-use Rattle.links.specs.Links.{link_of, spot_of, Reached, RecordAt, hyper, cover, hyper_at, cover_at}
+use Rattle.links.specs.declared.Place.{Place}
+use Rattle.links.specs.Links.{place_at, Reached, RecordAt, hyper, cover, hyper_at, cover_at}
 use Rattle.changes.proofs.Listing.{Lowers}
 use Rattle.chains.specs.Taken.{RecordOk, given_at, RecordIn, Has, Taken, Further, TakenAll}
 use Rattle.links.proofs.Linking.{reached_cases, reached_none, hyper_far}
@@ -152,41 +153,41 @@ module _ {s : List ℕ} {n h c middle at : ℕ} (sound : Scannable s n h c) (beh
   record_source (cover j l e) = (cover_ok j l e).named
 
 -- the records of a chain: those up to a place are taken in
-pub record Walking (s : List ℕ) (n h c middle : ℕ) (places : List ℕ) (head place : ℕ) (b₀ b : List ℕ) (p : Graph) : Type 0 where
+pub record Walking (s : List ℕ) (n h c middle : ℕ) (places : List Place) (head place : ℕ) (b₀ b : List ℕ) (p : Graph) : Type 0 where
   pub part : Graph
   pub taken : Taken s n h c middle b₀ b part
   pub keeps : (at : ℕ) → Has s n middle p at → Has s n middle part at
-  pub has : (q : ℕ) → Reached places q head → Has s n middle part (spot_of (get_or places q 0)) ⊎ Reached places q place
+  pub has : (q : ℕ) → Reached places q head → Has s n middle part (place_at places q).spot ⊎ Reached places q place
 
-pub walking_none : {s : List ℕ} {n h c middle : ℕ} {places : List ℕ} {head : ℕ} {b₀ b : List ℕ} {p : Graph}
+pub walking_none : {s : List ℕ} {n h c middle : ℕ} {places : List Place} {head : ℕ} {b₀ b : List ℕ} {p : Graph}
     → Taken s n h c middle b₀ b p → Walking s n h c middle places head head b₀ b p
 walking_none {p = p} d = record { part = p; taken = d; keeps = λ at m. m; has = λ q r. inr r }
 
-module _ {s : List ℕ} {n h c middle : ℕ} {places : List ℕ} {head place : ℕ} {b₀ b : List ℕ} {p : Graph} (d : Walking s n h c middle places head place b₀ b p) where
+module _ {s : List ℕ} {n h c middle : ℕ} {places : List Place} {head place : ℕ} {b₀ b : List ℕ} {p : Graph} (d : Walking s n h c middle places head place b₀ b p) where
   -- all are
   pub walking_all : place ≡ 0 → Further s n h c middle places head b₀ b p
   walking_all e = record { part = d.part; taken = d.taken; keeps = d.keeps; has = λ q r. go (d.has q r) }
     where
-      go : {q : ℕ} → Has s n middle d.part (spot_of (get_or places q 0)) ⊎ Reached places q place → Has s n middle d.part (spot_of (get_or places q 0))
+      go : {q : ℕ} → Has s n middle d.part (place_at places q).spot ⊎ Reached places q place → Has s n middle d.part (place_at places q).spot
       go (inl m) = m
       go (inr r) = reached_none e r
 
   -- with a part that has one record more
-  walking_with : (i : ℕ) → place ≡ i + 1 → {at : ℕ} → at ≡ spot_of (get_or places i 0) → {b' : List ℕ} {part : Graph} → Taken s n h c middle b₀ b' part
-      → ((k : ℕ) → Has s n middle d.part k → Has s n middle part k) → Has s n middle part at → Walking s n h c middle places head (link_of (get_or places i 0)) b₀ b' p
+  walking_with : (i : ℕ) → place ≡ i + 1 → {at : ℕ} → at ≡ (place_at places i).spot → {b' : List ℕ} {part : Graph} → Taken s n h c middle b₀ b' part
+      → ((k : ℕ) → Has s n middle d.part k → Has s n middle part k) → Has s n middle part at → Walking s n h c middle places head (place_at places i).link b₀ b' p
   walking_with i e there {part = part} taken more new = record { part = part; taken = taken; keeps = λ k m. more k (d.keeps k m); has = λ q r. go q (d.has q r) }
     where
-      go : (q : ℕ) → Has s n middle d.part (spot_of (get_or places q 0)) ⊎ Reached places q place → Has s n middle part (spot_of (get_or places q 0)) ⊎ Reached places q (link_of (get_or places i 0))
-      go q (inl m) = inl (more (spot_of (get_or places q 0)) m)
+      go : (q : ℕ) → Has s n middle d.part (place_at places q).spot ⊎ Reached places q place → Has s n middle part (place_at places q).spot ⊎ Reached places q (place_at places i).link
+      go q (inl m) = inl (more (place_at places q).spot m)
       go q (inr r) = rest (reached_cases i e r)
         where
-          rest : (q ≡ i) ⊎ Reached places q (link_of (get_or places i 0)) → Has s n middle part (spot_of (get_or places q 0)) ⊎ Reached places q (link_of (get_or places i 0))
+          rest : (q ≡ i) ⊎ Reached places q (place_at places i).link → Has s n middle part (place_at places q).spot ⊎ Reached places q (place_at places i).link
           rest (inl z) = inl (rw (z, sym there) new)
           rest (inr r') = inr r'
 
   -- the record of the next place
-  pub walking_more : Scannable s n h c → middle ≡ hyper_at s n h → n + n ≤ length b₀ → (i : ℕ) → place ≡ i + 1 → {at : ℕ} → at ≡ spot_of (get_or places i 0) → RecordAt s n h c middle at
-      → {b' : List ℕ} → RecordIn s n middle at b b' → Walking s n h c middle places head (link_of (get_or places i 0)) b₀ b' p
+  pub walking_more : Scannable s n h c → middle ≡ hyper_at s n h → n + n ≤ length b₀ → (i : ℕ) → place ≡ i + 1 → {at : ℕ} → at ≡ (place_at places i).spot → RecordAt s n h c middle at
+      → {b' : List ℕ} → RecordIn s n middle at b b' → Walking s n h c middle places head (place_at places i).link b₀ b' p
   walking_more sound behind long i e {at} there (hyper j l z) {b'} took =
       let before = hyper_before sound behind j l z in
       let member : (hyper_layout s n).item at ∈ items (hyper_layout s n) h graph_header = rw z (items-∈ (hyper_layout s n) h graph_header j l) in
@@ -201,8 +202,8 @@ module _ {s : List ℕ} {n h c middle : ℕ} {places : List ℕ} {head place : �
       (record { hyper = λ q. absurd (omega arith); cover = λ q. Memᴰ.head refl })
 
 -- the chains of the first i nodes that are listed: none, and one more
-module _ {s : List ℕ} {n h c middle from : ℕ} {changed heads places b₀ : List ℕ} where
-  pub taken_none : ((v : ℕ) → get_or b₀ v 0 ≤ infinite) → TakenAll s n h c middle from 0 changed heads places b₀ b₀
+module _ {s : List ℕ} {n h c middle : ℕ} {nodes heads : List ℕ} {places : List Place} {b₀ : List ℕ} where
+  pub taken_none : ((v : ℕ) → get_or b₀ v 0 ≤ infinite) → TakenAll s n h c middle 0 nodes heads places b₀ b₀
   unfolding round covered best any stored
   taken_none fits = record {
     part = record { nodes = n; hypers = []; covers = [] };
@@ -215,11 +216,11 @@ module _ {s : List ℕ} {n h c middle from : ℕ} {changed heads places b₀ : L
     has = λ k l. absurd (omega arith);
   }
 
-  pub taken_more : {i : ℕ} {b b' : List ℕ} (d : TakenAll s n h c middle from i changed heads places b₀ b)
-      → Further s n h c middle places (get_or heads (get_or changed (from + i) 0) 0) b₀ b' d.part → TakenAll s n h c middle from (i + 1) changed heads places b₀ b'
+  pub taken_more : {i : ℕ} {b b' : List ℕ} (d : TakenAll s n h c middle i nodes heads places b₀ b)
+      → Further s n h c middle places (get_or heads (get_or nodes i 0) 0) b₀ b' d.part → TakenAll s n h c middle (i + 1) nodes heads places b₀ b'
   taken_more {i} d f = record { part = f.part; taken = f.taken; has = λ k l q r. go k l q r (ℕ_discrete k i) }
     where
-      go : (k : ℕ) → k < i + 1 → (q : ℕ) → Reached places q (get_or heads (get_or changed (from + k) 0) 0) → Dec (k ≡ i) → Has s n middle f.part (spot_of (get_or places q 0))
+      go : (k : ℕ) → k < i + 1 → (q : ℕ) → Reached places q (get_or heads (get_or nodes k 0) 0) → Dec (k ≡ i) → Has s n middle f.part (place_at places q).spot
       go k l q r (yes e) = f.has q (rw e at r)
       go k l q r (no e) = f.keeps _ (d.has k (omega arith) q r)
 

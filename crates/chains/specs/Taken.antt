@@ -10,7 +10,8 @@ use Rattle.graph.specs.Layouts.{hyper_layout, cover_layout, HyperOk, CoverOk}
 use Rattle.halves.specs.Held.{held}
 use Rattle.halves.specs.Room.{half}
 use Rattle.scans.specs.Scan.{lowered, Done}
-use Rattle.links.specs.Links.{spot_of, Reached}
+use Rattle.links.specs.declared.Place.{Place}
+use Rattle.links.specs.Links.{place_at, Reached}
 
 -- a sound record at a position: a hyperedge before `middle`, a cover edge from there on
 pub record RecordOk (s : List ℕ) (n middle at : ℕ) : Type 0 where
@@ -39,14 +40,14 @@ pub record Taken (s : List ℕ) (n h c middle : ℕ) (b₀ b : List ℕ) (p : Gr
   pub cover_of : {x : Cover} → x ∈ p.covers → x ∈ items (cover_layout s n) c middle
 
 -- a part that has what p has, and the records of a chain
-pub record Further (s : List ℕ) (n h c middle : ℕ) (places : List ℕ) (head : ℕ) (b₀ b : List ℕ) (p : Graph) : Type 0 where
+pub record Further (s : List ℕ) (n h c middle : ℕ) (places : List Place) (head : ℕ) (b₀ b : List ℕ) (p : Graph) : Type 0 where
   pub part : Graph
   pub taken : Taken s n h c middle b₀ b part
   pub keeps : (at : ℕ) → Has s n middle p at → Has s n middle part at
-  pub has : (q : ℕ) → Reached places q head → Has s n middle part (spot_of (get_or places q 0))
+  pub has : (q : ℕ) → Reached places q head → Has s n middle part (place_at places q).spot
 
 -- a part that has the records of the chains of the nodes that are listed
-pub record TakenAll (s : List ℕ) (n h c middle from many : ℕ) (changed heads places b₀ b : List ℕ) : Type 0 where
+pub record TakenAll (s : List ℕ) (n h c middle many : ℕ) (nodes heads : List ℕ) (places : List Place) (b₀ b : List ℕ) : Type 0 where
   pub part : Graph
   pub taken : Taken s n h c middle b₀ b part
-  pub has : (k : ℕ) → k < many → (q : ℕ) → Reached places q (get_or heads (get_or changed (from + k) 0) 0) → Has s n middle part (spot_of (get_or places q 0))
+  pub has : (k : ℕ) → k < many → (q : ℕ) → Reached places q (get_or heads (get_or nodes k 0) 0) → Has s n middle part (place_at places q).spot

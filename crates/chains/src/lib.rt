@@ -3,32 +3,32 @@
 
 ghost use Rattle.std.specs.Prelude.{◌≡◌, ℕ, ◌+◌, ◌<◌, ◌≤◌, List, length, get_or};
 ghost use Rattle.wire.specs.Bytes.{number};
-ghost use Rattle.wire.specs.Layout.{end};
-ghost use Rattle.rules.specs.Graph.{Graph};
-ghost use Rattle.graph.specs.Format.{graph_header};
-ghost use Rattle.graph.specs.Layouts.{hyper_layout, Scannable};
+ghost use Rattle.rules.specs.Graph as rules;
 ghost use Rattle.halves.specs.Room.{Same};
-ghost use Rattle.links.specs.Links.{link_of, spot_of, Reached, RecordAt, Told, Index};
-ghost use Rattle.changes.specs.Listed.{Listed, Apart, Aside};
+ghost use Rattle.links.specs.Links.{Index};
+ghost use Rattle.changes.specs.Listed.{Listed};
 ghost use Rattle.chains.specs.Taken.{RecordOk, given_at, RecordIn, Taken, Further, TakenAll};
 
+use changes::Changed;
+use graph::Scanned;
+use links::Lists;
 use value::{Bound, Value};
 use wire::Width;
 
 // What the record at a position gives its source, by the numbers of a round: the cover edges stand from `middle` on. The number of the
 // target is read before the bound: behind it a compiler would take the bound's bytes apart.
-fn given(s: &[u8], n: usize, middle: usize, at: usize, x: &[u64]) -> Value
-    requires record_ok { RecordOk s.now n middle at }
-    requires n_in_bounds { n ≤ length x.now }
-    ensures { result.0 ≡ given_at s.now n middle at x.now }
+fn given(g: Scanned, at: usize, x: &[u64]) -> Value
+    requires record_ok { RecordOk g.bytes.now g.nodes g.middle at }
+    requires numbers { g.nodes ≤ length x.now }
+    ensures { result.0 ≡ given_at g.entry.bytes.now g.entry.nodes g.entry.middle at x.now }
 {
-    if at < middle {
-        let count = wire::number_at(s, at + graph::TARGET_COUNT_AT, Width::Two);
-        targets::worst(s, n, x, count, at + graph::HYPER)
+    if at < g.middle {
+        let count = wire::number_at(g.bytes, at + graph::TARGET_COUNT_AT, Width::Two);
+        targets::worst(g.bytes, g.nodes, x, count, at + graph::HYPER)
     } else {
-        let target = wire::number_at(s, at + graph::COVER_TARGET_AT, Width::Two) as usize;
+        let target = wire::number_at(g.bytes, at + graph::COVER_TARGET_AT, Width::Two) as usize;
         let value = x[target];
-        let bound = Bound::coded(wire::number_at(s, at + graph::COVER_BOUND_AT, Width::Four));
+        let bound = Bound::coded(wire::number_at(g.bytes, at + graph::COVER_BOUND_AT, Width::Four));
         if Value(value).within(bound) {
             return Value(0);
         }
@@ -36,29 +36,26 @@ fn given(s: &[u8], n: usize, middle: usize, at: usize, x: &[u64]) -> Value
     }
 }
 
-// Takes in the record at a position, and lists its source, behind `many` nodes, where the record is the first to change it.
+// Takes in the record at a position, and lists its source, behind `many` nodes, where the record is the first to change it. How many are
+// listed is handed on by value: in the list's struct it would be memory that the next node's place waits for.
 fn take_source(
-    s: &[u8],
-    n: usize,
-    middle: usize,
+    g: Scanned,
     at: usize,
     source: usize,
-    to: usize,
     many: usize,
-    changed: &mut [u16],
+    nodes: &mut [u16],
     room: &mut [u64],
 ) -> usize
-    requires record_ok { RecordOk s.now n middle at }
-    requires n_in_bounds { n + n ≤ length room.old }
-    requires source_lt_n { (source < n) × (source ≡ number 2 s.now at) }
-    requires n_bound { n ≤ 65535 }
-    requires listed { Listed n n to many room.old changed.old }
-    ensures record_in { RecordIn s.now n middle at room.old room.new }
-    ensures listed_2 { Listed n n to result room.new changed.new }
-    ensures apart { Apart n to changed.old changed.new }
+    requires record_ok { RecordOk g.bytes.now g.nodes g.middle at }
+    requires both_halves { g.nodes + g.nodes ≤ length room.old }
+    requires source_named { (source < g.nodes) × (source ≡ number 2 g.bytes.now at) }
+    requires small { g.nodes ≤ 65535 }
+    requires listed { Listed g.nodes g.nodes many room.old nodes.old }
+    ensures record_in { RecordIn g.entry.bytes.now g.entry.nodes g.entry.middle at room.old room.new }
+    ensures listed { Listed g.entry.nodes g.entry.nodes result room.new nodes.new }
 {
-    let value = given(s, n, middle, at, &room[0..n]);
-    let other = n + source;
+    let value = given(g, at, &room[0..g.nodes]);
+    let other = g.nodes + source;
     let was = room[other];
     if was <= value.0 {
         return many;
@@ -68,83 +65,65 @@ fn take_source(
     if was != this {
         return many;
     }
-    changed[to + many] = source as u16;
+    nodes[many] = source as u16;
     many + 1
 }
 
-// Takes in the records of the chain that starts at a head, and lists the nodes that they change behind `many`.
-fn take_linked(
-    s: &[u8],
-    n: usize,
-    h: u32,
-    c: u32,
-    middle: usize,
-    head: u16,
-    places: &[u64],
-    to: usize,
+// Takes in the records on the chain of a node, and lists the nodes that they change, behind `many`.
+fn take_linked<const M: usize>(
+    g: Scanned,
+    lists: &Lists<M>,
+    v: usize,
     many: usize,
-    changed: &mut [u16],
+    nodes: &mut [u16],
     room: &mut [u64],
 ) -> usize
-    requires scannable { Scannable s.now n h c }
-    requires middle_value { middle ≡ end (hyper_layout s.now n) h graph_header }
-    requires n_in_bounds { n + n ≤ length room.old }
-    requires head_in_bounds { head ≤ length places.now }
-    requires by_index { (q : ℕ) → link_of (get_or places.now q 0) ≤ q }
-    requires by_index_2 { (q : ℕ) → Reached places.now q head → RecordAt s.now n h c middle (spot_of (get_or places.now q 0)) × Told s.now places.now q }
-    requires n_bound { n ≤ 65535 }
-    requires listed { Listed n n to many room.old changed.old }
-    ensures listed_2 { Listed n n to result room.new changed.new }
-    ensures apart { Apart n to changed.old changed.new }
-    ensures by_index_3 { (b₀ : List ℕ) (p : Graph) → n + n ≤ length b₀ → Taken s.now n h c middle b₀ room.old p
-        → Further s.now n h c middle places.now head b₀ room.new p }
+    requires both_halves { g.nodes + g.nodes ≤ length room.old }
+    requires index { Index g.bytes.now g.nodes g.hypers g.covers g.middle M lists.now.heads lists.now.places }
+    requires named { (v < g.nodes) × (g.nodes ≤ M) }
+    requires listed { Listed g.nodes g.nodes many room.old nodes.old }
+    ensures listed { Listed g.entry.nodes g.entry.nodes result room.new nodes.new }
+    ensures further { (b₀ : List ℕ) (p : rules.Graph) → g.entry.nodes + g.entry.nodes ≤ length b₀
+        → Taken g.entry.bytes.now g.entry.nodes g.entry.hypers g.entry.covers g.entry.middle b₀ room.old p
+        → Further g.entry.bytes.now g.entry.nodes g.entry.hypers g.entry.covers g.entry.middle lists.now.places (get_or lists.now.heads v 0) b₀ room.new p }
 {
-    let mut k = many;
-    let mut place = head as usize;
-    while 0 < place {
-        let i = place - 1;
-        let told = places[i];
-        let p = links::spot_of(told);
-        let source = links::source_of(told);
-        k = take_source(s, n, middle, p, source, to, k, changed, room);
-        place = links::link_of(told);
+    let mut listed = many;
+    let mut link = lists.heads[v];
+    while let Some(i) = link.checked_sub(1) {
+        let place = lists.places[i as usize];
+        listed = take_source(
+            g,
+            place.spot as usize,
+            place.source as usize,
+            listed,
+            nodes,
+            room,
+        );
+        link = place.link;
     }
-    k
+    listed
 }
 
-// Takes in the records that have one of the nodes that are listed in one half as a target, and lists the nodes that they change in the other.
-pub fn take_changed(
-    s: &[u8],
-    n: usize,
-    h: u32,
-    c: u32,
-    middle: usize,
-    heads: &[u16],
-    places: &[u64],
-    from: usize,
-    many: usize,
-    to: usize,
-    changed: &mut [u16],
+// Takes in the records that have one of the nodes that are listed as a target, and lists the nodes that they change in another list.
+pub fn take_changed<const M: usize, const K: usize>(
+    g: Scanned,
+    lists: &Lists<M>,
+    now: &Changed<K>,
+    next: &mut Changed<K>,
     room: &mut [u64],
-) -> usize
-    requires scannable { Scannable s.now n h c }
-    requires middle_value { middle ≡ end (hyper_layout s.now n) h graph_header }
-    requires n_in_bounds { n + n ≤ length room.old }
-    requires index { Index s.now n h c middle heads.now places.now }
-    requires n_bound { (n ≤ 65535) × Aside n from to × (from + n ≤ length changed.old) × (to + n ≤ length changed.old) }
-    requires many_le_n { (many ≤ n) × ((k : ℕ) → k < many → get_or changed.old (from + k) 0 < n) }
-    requires same { Same n room.old }
-    ensures listed { Listed n n to result room.new changed.new }
-    ensures taken_all { TakenAll s.now n h c middle from many changed.old heads.now places.now
-        room.old room.new }
+)
+    requires both_halves { g.nodes + g.nodes ≤ length room.old }
+    requires index { Index g.bytes.now g.nodes g.hypers g.covers g.middle M lists.now.heads lists.now.places }
+    requires room_for_all { (g.nodes ≤ M) × (g.nodes ≤ K) × (g.nodes ≤ length now.now.nodes) × (g.nodes ≤ length next.old.nodes) }
+    requires named { (now.now.many ≤ g.nodes) × ((k : ℕ) → k < now.now.many → get_or now.now.nodes k 0 < g.nodes) }
+    requires same { Same g.nodes room.old }
+    ensures listed { Listed g.entry.nodes g.entry.nodes next.new.many room.new next.new.nodes }
+    ensures taken_all { TakenAll g.entry.bytes.now g.entry.nodes g.entry.hypers g.entry.covers g.entry.middle now.now.many now.now.nodes
+        lists.now.heads lists.now.places room.old room.new }
 {
-    let mut k: usize = 0;
-    let mut i: usize = 0;
-    while i < many {
-        let v = changed[from + i] as usize;
-        let chain = heads[v];
-        k = take_linked(s, n, h, c, middle, chain, places, to, k, changed, room);
-        i += 1;
+    let mut many = 0;
+    for node in now.listed() {
+        many = take_linked(g, lists, *node as usize, many, &mut next.nodes, room);
     }
-    k
+    next.many = many;
 }

@@ -1,16 +1,17 @@
 -- The nodes that changed, listed: one more of a pass, and a record that changes its source or does not. Assumes nothing.
-use Prim.Native.Nat.{ℕ, zero, suc, ◌+◌, ◌-◌, ◌<◌, ◌≤◌}
+use Prim.Native.Nat.{ℕ, zero, suc, ◌+◌, ◌<◌, ◌≤◌}
 use mathlib.Core.List.{List}
 use mathlib.Core.Logic.{◌⊎◌, inl, inr}
 use mathlib.Core.Path.{◌≡◌, refl, sym, ◌∙◌}
-use lib.ListN.{length, get_or, set, drop, length-set}
+use lib.ListN.{length, get_or, set, take, drop, length-set}
+use Rattle.std.proofs.lemmas.List.{get_or-take, length-take-le}
 use lib.Seq.{get_or-set_same, get_or-set_other, drop-set-lt}
 use borrow.Author.Tests.{eq-eqb, ne_eqb}
 use native.Mathlib.Decide.{ℕ_discrete}
 use native.Mathlib.Omega.{arith}
 use native.Mathlib.Numerals.{add-one}
 use Rattle.halves.specs.Room.{Same, Raised}
-use Rattle.changes.specs.Listed.{Fallen, changes, Listed, Apart, Aside, forth, back}
+use Rattle.changes.specs.Listed.{Fallen, changes, Listed}
 
 -- what a record does to the numbers of the nodes: that of its source may fall in the next round
 pub record Lowers (n source : ℕ) (b b' : List ℕ) : Type 0 where
@@ -78,27 +79,27 @@ module _ (n : ℕ) (b b' : List ℕ) where
       go (no e) before = rest (ℕ_discrete (get_or b i 0) (get_or b (n + i) 0)) (ℕ_discrete (get_or b' i 0) (get_or b' (n + i) 0)) (before (omega arith))
 
 -- nothing is listed yet: of no node, and where the halves are the same
-pub listed_none : {n from : ℕ} {b changed : List ℕ} → from + n ≤ length changed → Fallen n b → Listed n 0 from 0 b changed
+pub listed_none : {n : ℕ} {b changed : List ℕ} → n ≤ length changed → Fallen n b → Listed n 0 0 b changed
 listed_none long fallen = record { long = long; fallen = fallen; few = omega arith; named = λ k l. absurd (omega arith); reach = λ v l. absurd (omega arith) }
 
-pub listed_level : {n from : ℕ} {b changed : List ℕ} → from + n ≤ length changed → Same n b → Listed n n from 0 b changed
+pub listed_level : {n : ℕ} {b changed : List ℕ} → n ≤ length changed → Same n b → Listed n n 0 b changed
 listed_level long same = record { long = long; fallen = λ v l. omega (arith, same v l); few = omega arith; named = λ k l. absurd (omega arith); reach = λ v l ne. absurd (ne (same v l)) }
 
-module _ {n i from many : ℕ} {b changed : List ℕ} (d : Listed n i from many b changed) where
+module _ {n i many : ℕ} {b changed : List ℕ} (d : Listed n i many b changed) where
   -- no more are listed than there are nodes
   pub listed_few : many ≤ i
   listed_few = omega (arith, d.few, changes_le n b i)
 
   -- a node that did not change, and one that did
-  pub listed_same : get_or b i 0 ≡ get_or b (n + i) 0 → Listed n (i + 1) from many b changed
+  pub listed_same : get_or b i 0 ≡ get_or b (n + i) 0 → Listed n (i + 1) many b changed
   listed_same e = rw (add-one i) (record { long = d.long; fallen = d.fallen; few = omega (arith, d.few, counts_same n i b e); named = d.named; reach = λ v l ne. go v l ne (ℕ_discrete v i) })
     where
-      go : (v : ℕ) → v < suc i → ¬ (get_or b v 0 ≡ get_or b (n + v) 0) → Dec (v ≡ i) → (k : ℕ) × (k < many) × (get_or changed (from + k) 0 ≡ v)
+      go : (v : ℕ) → v < suc i → ¬ (get_or b v 0 ≡ get_or b (n + v) 0) → Dec (v ≡ i) → (k : ℕ) × (k < many) × (get_or changed k 0 ≡ v)
       go v l ne (yes z) = absurd (ne (rw z e))
       go v l ne (no z) = d.reach v (omega arith) ne
 
 -- nothing is listed exactly where the halves are the same
-module _ {n from many : ℕ} {b changed : List ℕ} (d : Listed n n from many b changed) where
+module _ {n many : ℕ} {b changed : List ℕ} (d : Listed n n many b changed) where
   pub listed_over : many ≡ 0 → Same n b
   listed_over e v l = go (ℕ_discrete (get_or b v 0) (get_or b (n + v) 0))
     where
@@ -109,41 +110,49 @@ module _ {n from many : ℕ} {b changed : List ℕ} (d : Listed n n from many b 
   pub listed_some : ¬ (many ≡ 0) → ¬ Same n b
   listed_some e same = e (omega (arith, d.few, changes_none n b n same))
 
+-- the part of a list that is listed: so many, each as it stands in the list
+module _ (many : ℕ) (nodes part : List ℕ) (is : part ≡ take many nodes) where
+  pub part_length : many ≤ length nodes → length part ≡ many
+  part_length few = rw is (length-take-le many nodes few)
+
+  pub part_at : (i : ℕ) → i < many → get_or part i 0 ≡ get_or nodes i 0
+  part_at i below = rw is (get_or-take many nodes i 0 below)
+
 -- a node more in the list
-module _ (from many : ℕ) (changed : List ℕ) (w : ℕ) (free : from + many < length changed) where
-  more_named : {n : ℕ} → w < n → ((k : ℕ) → k < many → get_or changed (from + k) 0 < n) → (k : ℕ) → k < many + 1 → get_or (set changed (from + many) w) (from + k) 0 < n
+module _ (many : ℕ) (changed : List ℕ) (w : ℕ) (free : many < length changed) where
+  more_named : {n : ℕ} → w < n → ((k : ℕ) → k < many → get_or changed k 0 < n) → (k : ℕ) → k < many + 1 → get_or (set changed many w) k 0 < n
   more_named {n} l named k h = go (ℕ_discrete k many)
     where
-      go : Dec (k ≡ many) → get_or (set changed (from + many) w) (from + k) 0 < n
-      go (yes e) = rw (e, get_or-set_same changed (from + many) w 0 free) l
+      go : Dec (k ≡ many) → get_or (set changed many w) k 0 < n
+      go (yes e) = rw (e, get_or-set_same changed many w 0 free) l
       go (no e) =
-          let apart : ¬ (from + k ≡ from + many) = λ q. e (omega arith) in
-          rw (get_or-set_other changed (from + many) (from + k) w 0 apart) (named k (omega arith))
+          let apart : ¬ (k ≡ many) = λ q. e (omega arith) in
+          rw (get_or-set_other changed many k w 0 apart) (named k (omega arith))
 
-  more_here : (k : ℕ) × (k < many + 1) × (get_or (set changed (from + many) w) (from + k) 0 ≡ w)
-  more_here = (many, omega arith, get_or-set_same changed (from + many) w 0 free)
+  more_here : (k : ℕ) × (k < many + 1) × (get_or (set changed many w) k 0 ≡ w)
+  more_here = (many, omega arith, get_or-set_same changed many w 0 free)
 
-  more_there : {v : ℕ} → (k : ℕ) × (k < many) × (get_or changed (from + k) 0 ≡ v) → (k : ℕ) × (k < many + 1) × (get_or (set changed (from + many) w) (from + k) 0 ≡ v)
+  more_there : {v : ℕ} → (k : ℕ) × (k < many) × (get_or changed k 0 ≡ v) → (k : ℕ) × (k < many + 1) × (get_or (set changed many w) k 0 ≡ v)
   more_there r =
-      let apart : ¬ (from + r.0 ≡ from + many) = λ q. omega (arith, r.1) in
-      (r.0, omega (arith, r.1), get_or-set_other changed (from + many) (from + r.0) w 0 apart ∙ r.2)
+      let apart : ¬ (r.0 ≡ many) = λ q. omega (arith, r.1) in
+      (r.0, omega (arith, r.1), get_or-set_other changed many r.0 w 0 apart ∙ r.2)
 
-pub listed_more : {n i from many : ℕ} {b changed : List ℕ} → Listed n i from many b changed → i < n → ¬ (get_or b i 0 ≡ get_or b (n + i) 0) → from + many < length changed
-    → Listed n (i + 1) from (many + 1) b (set changed (from + many) i)
-listed_more {n} {i} {from} {many} {b} {changed} d inside ne free = rw (add-one i) (record {
-  long = omega (arith, length-set changed (from + many) i, d.long);
+pub listed_more : {n i many : ℕ} {b changed : List ℕ} → Listed n i many b changed → i < n → ¬ (get_or b i 0 ≡ get_or b (n + i) 0) → many < length changed
+    → Listed n (i + 1) (many + 1) b (set changed many i)
+listed_more {n} {i} {many} {b} {changed} d inside ne free = rw (add-one i) (record {
+  long = omega (arith, length-set changed many i, d.long);
   fallen = d.fallen;
   few = omega (arith, d.few, counts_other n i b ne);
-  named = more_named from many changed i free inside d.named;
+  named = more_named many changed i free inside d.named;
   reach = λ v l e. go v l e (ℕ_discrete v i);
 })
   where
-    go : (v : ℕ) → v < suc i → ¬ (get_or b v 0 ≡ get_or b (n + v) 0) → Dec (v ≡ i) → (k : ℕ) × (k < many + 1) × (get_or (set changed (from + many) i) (from + k) 0 ≡ v)
-    go v l e (yes z) = rw z (more_here from many changed i free)
-    go v l e (no z) = more_there from many changed i free (d.reach v (omega arith) e)
+    go : (v : ℕ) → v < suc i → ¬ (get_or b v 0 ≡ get_or b (n + v) 0) → Dec (v ≡ i) → (k : ℕ) × (k < many + 1) × (get_or (set changed many i) k 0 ≡ v)
+    go v l e (yes z) = rw z (more_here many changed i free)
+    go v l e (no z) = more_there many changed i free (d.reach v (omega arith) e)
 
 -- a record is taken in
-module _ {n to many source : ℕ} {b b' changed : List ℕ} (d : Listed n n to many b changed) (named : source < n) (r : Lowers n source b b') where
+module _ {n many source : ℕ} {b b' changed : List ℕ} (d : Listed n n many b changed) (named : source < n) (r : Lowers n source b b') where
   still : (v : ℕ) → v < n → ¬ (get_or b v 0 ≡ get_or b (n + v) 0) → ¬ (get_or b' v 0 ≡ get_or b' (n + v) 0)
   still v l ne = go (ℕ_discrete v source)
     where
@@ -162,7 +171,7 @@ module _ {n to many source : ℕ} {b b' changed : List ℕ} (d : Listed n n to m
       go (yes e) = rw e (omega (arith, d.fallen source named, r.falls, r.this source named))
 
   -- its source had changed already, or stays
-  pub listed_stays : (get_or b source 0 ≡ get_or b (n + source) 0 → get_or b' (n + source) 0 ≡ get_or b (n + source) 0) → Listed n n to many b' changed
+  pub listed_stays : (get_or b source 0 ≡ get_or b (n + source) 0 → get_or b' (n + source) 0 ≡ get_or b (n + source) 0) → Listed n n many b' changed
   listed_stays stays = record { long = d.long; fallen = fallen_on; few = omega (arith, d.few, changes_mono n b b' n still); named = d.named; reach = λ v l ne. d.reach v l (before v l ne (ℕ_discrete v source)) }
     where
       before : (v : ℕ) → v < n → ¬ (get_or b' v 0 ≡ get_or b' (n + v) 0) → Dec (v ≡ source) → ¬ (get_or b v 0 ≡ get_or b (n + v) 0)
@@ -184,31 +193,31 @@ module _ {n to many source : ℕ} {b b' changed : List ℕ} (d : Listed n n to m
     listed_room = omega (arith, one_more, changes_le n b' n)
 
     -- its source changes
-    pub listed_source : to + many < length changed → Listed n n to (many + 1) b' (set changed (to + many) source)
+    pub listed_source : many < length changed → Listed n n (many + 1) b' (set changed many source)
     listed_source free = record {
-      long = omega (arith, length-set changed (to + many) source, d.long);
+      long = omega (arith, length-set changed many source, d.long);
       fallen = fallen_on;
       few = one_more;
-      named = more_named to many changed source free named d.named;
+      named = more_named many changed source free named d.named;
       reach = λ v l ne. go v l ne (ℕ_discrete v source);
     }
       where
-        go : (v : ℕ) → v < n → ¬ (get_or b' v 0 ≡ get_or b' (n + v) 0) → Dec (v ≡ source) → (k : ℕ) × (k < many + 1) × (get_or (set changed (to + many) source) (to + k) 0 ≡ v)
-        go v l ne (yes e) = rw e (more_here to many changed source free)
-        go v l ne (no e) = more_there to many changed source free (d.reach v l (λ q. ne (r.this v l ∙ q ∙ sym (r.others v l e))))
+        go : (v : ℕ) → v < n → ¬ (get_or b' v 0 ≡ get_or b' (n + v) 0) → Dec (v ≡ source) → (k : ℕ) × (k < many + 1) × (get_or (set changed many source) k 0 ≡ v)
+        go v l ne (yes e) = rw e (more_here many changed source free)
+        go v l ne (no e) = more_there many changed source free (d.reach v l (λ q. ne (r.this v l ∙ q ∙ sym (r.others v l e))))
 
 -- the first half is brought up at the first i nodes that are listed
-pub record Raising (n from i : ℕ) (b₀ b changed : List ℕ) : Type 0 where
+pub record Raising (n i : ℕ) (b₀ b changed : List ℕ) : Type 0 where
   pub same_length : length b ≡ length b₀
-  pub each : (v : ℕ) → v < n → (get_or b v 0 ≡ get_or b₀ (n + v) 0) ⊎ ((get_or b v 0 ≡ get_or b₀ v 0) × ((k : ℕ) → k < i → ¬ (get_or changed (from + k) 0 ≡ v)))
+  pub each : (v : ℕ) → v < n → (get_or b v 0 ≡ get_or b₀ (n + v) 0) ⊎ ((get_or b v 0 ≡ get_or b₀ v 0) × ((k : ℕ) → k < i → ¬ (get_or changed k 0 ≡ v)))
   pub stays : (v : ℕ) → n ≤ v → get_or b v 0 ≡ get_or b₀ v 0
   pub past : drop (n + n) b ≡ drop (n + n) b₀
 
-pub raising_none : {n from : ℕ} {b changed : List ℕ} → Raising n from 0 b b changed
+pub raising_none : {n : ℕ} {b changed : List ℕ} → Raising n 0 b b changed
 raising_none = record { same_length = refl; each = λ v l. inr (refl, λ k h. absurd (omega arith)); stays = λ v l. refl; past = refl }
 
-module _ {n from i : ℕ} {b₀ b changed : List ℕ} (d : Raising n from i b₀ b changed) where
-  pub raising_more : {w : ℕ} → w ≡ get_or changed (from + i) 0 → w < n → n + n ≤ length b₀ → Raising n from (i + 1) b₀ (set b w (get_or b (n + w) 0)) changed
+module _ {n i : ℕ} {b₀ b changed : List ℕ} (d : Raising n i b₀ b changed) where
+  pub raising_more : {w : ℕ} → w ≡ get_or changed i 0 → w < n → n + n ≤ length b₀ → Raising n (i + 1) b₀ (set b w (get_or b (n + w) 0)) changed
   raising_more {w} is named long = record {
     same_length = length-set b w (get_or b (n + w) 0) ∙ d.same_length;
     each = λ v l. at v (ℕ_discrete v w) (d.each v l);
@@ -216,21 +225,21 @@ module _ {n from i : ℕ} {b₀ b changed : List ℕ} (d : Raising n from i b₀
     past = drop-set-lt (n + n) b w (get_or b (n + w) 0) (omega arith) ∙ d.past;
   }
     where
-      at : (v : ℕ) → Dec (v ≡ w) → (get_or b v 0 ≡ get_or b₀ (n + v) 0) ⊎ ((get_or b v 0 ≡ get_or b₀ v 0) × ((k : ℕ) → k < i → ¬ (get_or changed (from + k) 0 ≡ v)))
-          → (get_or (set b w (get_or b (n + w) 0)) v 0 ≡ get_or b₀ (n + v) 0) ⊎ ((get_or (set b w (get_or b (n + w) 0)) v 0 ≡ get_or b₀ v 0) × ((k : ℕ) → k < i + 1 → ¬ (get_or changed (from + k) 0 ≡ v)))
+      at : (v : ℕ) → Dec (v ≡ w) → (get_or b v 0 ≡ get_or b₀ (n + v) 0) ⊎ ((get_or b v 0 ≡ get_or b₀ v 0) × ((k : ℕ) → k < i → ¬ (get_or changed k 0 ≡ v)))
+          → (get_or (set b w (get_or b (n + w) 0)) v 0 ≡ get_or b₀ (n + v) 0) ⊎ ((get_or (set b w (get_or b (n + w) 0)) v 0 ≡ get_or b₀ v 0) × ((k : ℕ) → k < i + 1 → ¬ (get_or changed k 0 ≡ v)))
       at v (yes e) r = inl (rw e (get_or-set_same b w (get_or b (n + w) 0) 0 (omega (arith, d.same_length)) ∙ d.stays (n + w) (omega arith)))
       at v (no e) (inl q) = inl (get_or-set_other b w v (get_or b (n + w) 0) 0 e ∙ q)
       at v (no e) (inr (q, out)) = inr (get_or-set_other b w v (get_or b (n + w) 0) 0 e ∙ q, λ k l. away k l (ℕ_discrete k i))
         where
-          away : (k : ℕ) → k < i + 1 → Dec (k ≡ i) → ¬ (get_or changed (from + k) 0 ≡ v)
+          away : (k : ℕ) → k < i + 1 → Dec (k ≡ i) → ¬ (get_or changed k 0 ≡ v)
           away k l (yes z) u = e (sym (is ∙ (rw z at u)))
           away k l (no z) u = out k (omega arith) u
 
   -- all of them: the halves differ nowhere else
-  pub raising_all : Listed n n from i b₀ changed → Raised n n b₀ b
+  pub raising_all : Listed n n i b₀ changed → Raised n n b₀ b
   raising_all listed = record { same_length = d.same_length; done = λ v l. up v l (d.each v l) (ℕ_discrete (get_or b₀ v 0) (get_or b₀ (n + v) 0)); stays = d.stays; past = d.past }
     where
-      up : (v : ℕ) → v < n → (get_or b v 0 ≡ get_or b₀ (n + v) 0) ⊎ ((get_or b v 0 ≡ get_or b₀ v 0) × ((k : ℕ) → k < i → ¬ (get_or changed (from + k) 0 ≡ v))) → Dec (get_or b₀ v 0 ≡ get_or b₀ (n + v) 0)
+      up : (v : ℕ) → v < n → (get_or b v 0 ≡ get_or b₀ (n + v) 0) ⊎ ((get_or b v 0 ≡ get_or b₀ v 0) × ((k : ℕ) → k < i → ¬ (get_or changed k 0 ≡ v))) → Dec (get_or b₀ v 0 ≡ get_or b₀ (n + v) 0)
           → get_or b v 0 ≡ get_or b₀ (n + v) 0
       up v l (inl e) t = e
       up v l (inr (e, out)) (yes q) = e ∙ q
@@ -239,35 +248,3 @@ module _ {n from i : ℕ} {b₀ b changed : List ℕ} (d : Raising n from i b₀
 -- a half that is brought up is the same as the other
 pub raised_same : {n : ℕ} {b₀ b : List ℕ} → Raised n n b₀ b → Same n b
 raised_same {n} d v l = d.done v l ∙ sym (d.stays (n + v) (omega arith))
-
--- a list stays, or changes from a place on
-pub apart_none : {n to : ℕ} {changed : List ℕ} → Apart n to changed changed
-apart_none = record { as_long = refl; stays = λ q out. refl }
-
-pub apart_set : {n to : ℕ} {changed : List ℕ} (k w : ℕ) → k < n → Apart n to changed (set changed (to + k) w)
-apart_set {n} {to} {changed} k w l = record { as_long = length-set changed (to + k) w; stays = λ q out. get_or-set_other changed (to + k) q w 0 (away q out) }
-  where
-    away : (q : ℕ) → (q < to) ⊎ (to + n ≤ q) → ¬ (q ≡ to + k)
-    away q (inl h) e = omega arith
-    away q (inr h) e = omega arith
-
-pub apart_on : {n to : ℕ} {a b c : List ℕ} → Apart n to a b → Apart n to b c → Apart n to a c
-apart_on x y = record { as_long = y.as_long ∙ x.as_long; stays = λ q out. y.stays q out ∙ x.stays q out }
-
--- what stands from the one place on stays
-pub aside_apart : {n from to k : ℕ} → Aside n from to → k < n → (from + k < to) ⊎ (to + n ≤ from + k)
-aside_apart (forth e) l = inl (omega arith)
-aside_apart (back e) l = inr (omega arith)
-
--- the two halves of a list, by turns
-pub halves_aside : {n most : ℕ} (from : ℕ) → n ≤ most → (from ≡ 0) ⊎ (from ≡ most) → Aside n from (most - from)
-halves_aside from few (inl e) = forth (omega arith)
-halves_aside from few (inr e) = back (omega arith)
-
-pub halves_turn : {most : ℕ} (from : ℕ) → (from ≡ 0) ⊎ (from ≡ most) → (most - from ≡ 0) ⊎ (most - from ≡ most)
-halves_turn from (inl e) = inr (omega arith)
-halves_turn from (inr e) = inl (omega arith)
-
-pub halves_near : {most from : ℕ} → (from ≡ 0) ⊎ (from ≡ most) → from ≤ most
-halves_near (inl e) = omega arith
-halves_near (inr e) = omega arith

@@ -1,5 +1,5 @@
 -- Targets that are judged one by one: those that are left are sound exactly where all are. Assumes nothing.
-use Rattle.std.proofs.Common.{◌≡◌, ℕ, zero, suc, ◌-◌, ◌<◌, sym, ◌∙◌, subst, not-suc-le-zero, sub-one}
+use Rattle.std.proofs.Common.{◌≡◌, ℕ, zero, suc, ◌-◌, ◌<◌, sym, ◌∙◌, subst, not-suc-le-zero, sub-one, Option, None, Some}
 use Rattle.value.specs.Stored.{infinite}
 use Rattle.rules.specs.Graph.{Target}
 use Rattle.claimed.specs.declared.Given.{Given}
@@ -33,6 +33,6 @@ module _ {A : Type 0} {L : Layout A} {k at i p : ℕ} (r : Rest L k at i p) wher
   rest_none e = r.whole (subst (λ (j : ℕ). Sound L j p) (sym e) none)
 
 -- what was found of the targets that are left is found of all, where one before them is infinite
-pub named_rest : {L : Layout Target} {k at i p : ℕ} (gives end : ℕ) → Rest L k at i p → gives ≡ infinite → (r : Given) → Named L i p infinite end r → Named L k at gives end r
-named_rest gives end r e Given.Odd odd = λ s. odd (r.part s)
-named_rest gives end r e (Given.Most given q) (sound, is, ends) = (r.whole sound, is ∙ sym e, ends)
+pub named_rest : {L : Layout Target} {k at i p : ℕ} (gives end : ℕ) → Rest L k at i p → gives ≡ infinite → (r : Option Given) → Named L i p infinite end r → Named L k at gives end r
+named_rest gives end r e None odd = λ s. odd (r.part s)
+named_rest gives end r e (Some given) (sound, is, ends) = (r.whole sound, is ∙ sym e, ends)

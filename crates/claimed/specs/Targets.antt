@@ -1,5 +1,5 @@
 -- What is claimed of targets that are judged one by one, and of all nodes.
-use Rattle.std.specs.Prelude.{◌≡◌, ℕ, ◌+◌, ◌*◌, ◌<◌, ◌≤◌, Bool, true, false, List, length, slice_index}
+use Rattle.std.specs.Prelude.{◌≡◌, ℕ, ◌+◌, ◌*◌, ◌<◌, ◌≤◌, Bool, true, false, List, length, slice_index, Option, None, Some}
 use Rattle.lists.specs.Lists.{◌∈◌}
 use Rattle.value.specs.Value.{finite}
 use Rattle.wire.specs.Layout.{Layout, Sound}
@@ -16,9 +16,9 @@ pub record Parted (s : List ℕ) (at end : ℕ) : Type 0 where
   pub whole : at + count * target_width ≡ end
 
 -- what was found of k targets at a position that give so much: one is not sound, or all are
-abbrev pub Named : Layout Target → (k at gives end : ℕ) → Given → Type 0
-Named L k at gives end Given.Odd = ¬ Sound L k at
-Named L k at gives end (Given.Most given p) = Sound L k at × (given ≡ gives) × (p ≡ end)
+abbrev pub Named : Layout Target → (k at gives end : ℕ) → Option Given → Type 0
+Named L k at gives end None = ¬ Sound L k at
+Named L k at gives end (Some g) = Sound L k at × (g.most ≡ gives) × (g.end ≡ end)
 
 -- whether all targets have a rank below one
 abbrev pub LowerRanks : (claims : List ℕ) → List Target → (rank : ℕ) → Bool → Type 0

@@ -1,5 +1,7 @@
 -- What the checker answers, from what was found. Assumes nothing.
 use Prim.Native.Nat.{ℕ, ◌*◌, ◌≤◌}
+use mathlib.Core.Bool.{Bool, true, false}
+use Rattle.std.specs.Result.{result_and}
 use mathlib.Core.List.{List}
 use mathlib.Core.Path.{◌≡◌, refl, sym, ap, subst, ◌∙◌}
 use lib.ListN.{length}
@@ -9,26 +11,24 @@ use Rattle.refusal.specs.Number.{unplaced}
 use Rattle.refusal.specs.declared.Fault.{Fault}
 use Rattle.refusal.specs.declared.Refusal.TheVariants.{Length}
 use Rattle.wire.specs.Bytes.{Bytes}
-use Rattle.wire.specs.Read.{Read, good, bad}
+use Rattle.wire.specs.Read.{Read, Ok, Err, ◌>>=◌}
 use Rattle.wire.specs.Layout.{end}
 use Rattle.wire.proofs.Layouts.{items_length}
-use Rattle.wire.proofs.Reading.{bad_then, good_same, reading}
+use Rattle.wire.proofs.Reading.{bad_then, bind_good, good_same, reading}
 use Rattle.wire.proofs.Exact.{good_bind, good_demand}
-use Rattle.graph.specs.declared.Checked.TheVariants as Checked
+use Rattle.graph.specs.declared.Counts.{Counts}
 use Rattle.graph.specs.Stored.{StoredGraph}
 use Rattle.graph.specs.Message.{read_header, read_graph}
-use Rattle.graph.specs.Answers.{checked}
+use Rattle.graph.specs.Answers.{checked, counts_of}
+use Rattle.graph.proofs.Answered.{checked_refused}
 use Rattle.graph.specs.Format.{graph_header}
 use Rattle.graph.specs.Layouts.{hyper_layout, cover_layout, decoded}
 use Rattle.graph.proofs.Exact.{accepted_written}
 use Rattle.graph.specs.WellFormed.{Accepted}
-use Rattle.graph.specs.WellFormed.{targets_of}
-use Rattle.graph.proofs.Good.{counts, graph_good}
+use Rattle.graph.proofs.Good.{counts, header_good, graph_good}
 use Rattle.graph.proofs.Ready.{Begin, begin}
 use Rattle.support.specs.Claims.{claim_width, AcceptsClaims}
-use Rattle.claims.specs.declared.Judged.{Judged}
-use Rattle.claims.specs.declared.Judged.TheVariants.{Yes, No, Refused}
-use Rattle.claims.specs.Answers.{read_claims, Judges, refused_or}
+use Rattle.claims.specs.Answers.{read_claims, Judges}
 use Rattle.claims.specs.Promise.{JudgedPromise}
 use Rattle.support.proofs.Accepted.{accepted_largest}
 
@@ -47,41 +47,35 @@ module _ {s : List ℕ} {n h c : ℕ} (bytes : Bytes s) (begun : Begin s n h c) 
 
 module _ (s claims : List ℕ) (bytes : Bytes s) where
   -- what is shown of a call: its answer, and so the promise
-  abbrev pub Shown : Judged → Type 0
+  abbrev pub Shown : Read Bool → Type 0
   Shown r = Judges (read_claims s claims) claims r × JudgedPromise s claims r
 
   -- a fault of the graph or of the length
-  stopped : {e : Fault} → read_claims s claims ≡ bad e → Shown (Refused e)
-  stopped {e} h = (subst (λ (x : Read StoredGraph). Judges x claims (Refused e)) (sym h) refl, tt)
+  stopped : {e : Fault} → read_claims s claims ≡ Err e → Shown (Err e)
+  stopped {e} h = (subst (λ (x : Read StoredGraph). Judges x claims (Err e)) (sym h) refl, tt)
 
-  shown_bad : {e : Fault} → read_graph s ≡ bad e → Shown (Refused e)
+  shown_bad : {e : Fault} → read_graph s ≡ Err e → Shown (Err e)
   unfolding read_claims
   shown_bad h = stopped (rw h (bad_then _ _))
 
   -- a fault of the header
-  pub shown_header : {e : Fault} → read_header s ≡ bad e → Shown (Refused e)
+  pub shown_header : {e : Fault} → read_header s ≡ Err e → Shown (Err e)
   unfolding read_graph
   shown_header h = shown_bad (rw h (bad_then _ _))
 
-  -- a fault of the graph, or else another answer
-  shown_other : (x : Read StoredGraph) → read_graph s ≡ x → (other : Judged) → ((g : StoredGraph) → read_graph s ≡ good g → Shown other) → Shown (refused_or x other)
-  unfolding refused_or
-  shown_other (good g) q other f = f g q
-  shown_other (bad e) q other f = shown_bad q
-
   module _ {n h c : ℕ} (begun : Begin s n h c) where
-    shown_length : ¬ (length claims ≡ n * claim_width) → Shown (Refused (unplaced Length))
+    shown_length : ¬ (length claims ≡ n * claim_width) → Shown (Err (unplaced Length))
     unfolding read_claims decoded
     shown_length l = stopped (rw begun.reads (simp reading (rw (ne_eqb (length claims) (n * claim_width) l) (simp reading))))
 
-    long : length claims ≡ n * claim_width → read_claims s claims ≡ good (decoded s n h c)
+    long : length claims ≡ n * claim_width → read_claims s claims ≡ Ok (decoded s n h c)
     unfolding read_claims decoded
     long l = good_bind _ begun.reads (good_demand _ (eq-eqb (length claims) (n * claim_width) l) refl)
 
-    pub shown_yes : length claims ≡ n * claim_width → AcceptsClaims (decoded s n h c) claims → Shown Yes
+    pub shown_yes : length claims ≡ n * claim_width → AcceptsClaims (decoded s n h c) claims → Shown (Ok true)
     unfolding decoded
     shown_yes l ok = (
-      subst (λ (x : Read StoredGraph). Judges x claims Yes) (sym (long l)) ok,
+      subst (λ (x : Read StoredGraph). Judges x claims (Ok true)) (sym (long l)) ok,
       record {
         graph = decoded s n h c;
         accepted = begun_accepted bytes begun;
@@ -90,37 +84,40 @@ module _ (s claims : List ℕ) (bytes : Bytes s) where
       },
     )
 
-    shown_no : length claims ≡ n * claim_width → ¬ AcceptsClaims (decoded s n h c) claims → Shown No
+    shown_no : length claims ≡ n * claim_width → ¬ AcceptsClaims (decoded s n h c) claims → Shown (Ok false)
     unfolding decoded
     shown_no l rejected = (
-      subst (λ (x : Read StoredGraph). Judges x claims No) (sym (long l)) rejected,
+      subst (λ (x : Read StoredGraph). Judges x claims (Ok false)) (sym (long l)) rejected,
       record { graph = decoded s n h c; accepted = begun_accepted bytes begun; long = l; holds = rejected },
     )
 
   -- the header was read
-  module _ {n h c : ℕ} (head : read_header s ≡ good (record { n = n; h = h; c = c })) where
-    pub begun : {g : StoredGraph} → read_graph s ≡ good g → Begin s n h c
-    unfolding checked
+  module _ {k : Counts} (head : read_header s ≡ Ok k) where
+    begun : {g : StoredGraph} → read_graph s ≡ Ok g → Begin s k.nodes k.hypers k.covers
+    unfolding checked ◌>>=◌
     begun {g} r =
-        let same : counts g ≡ record { n = n; h = h; c = c } = good_same (sym (graph_good {s = s} {g = g} r).header ∙ head) in
-        let e : checked (read_graph s) ≡ Checked.Graph n h c (targets_of g.hypers) =
-        ap checked r ∙ (λ i. Checked.Graph (same i).n (same i).h (same i).c (targets_of g.hypers)) in
-        begin s bytes e
+        let same : counts g ≡ k = good_same (sym (graph_good {s = s} {g = g} r).header ∙ head) in
+        subst (λ (k : Counts). Begin s k.nodes k.hypers k.covers) same (begin s {k = counts_of g} bytes (ap checked r))
 
-    pub shown_wrong : ¬ (length claims ≡ n * claim_width) → {r : Judged} → r ≡ refused_or (read_graph s) (Refused (unplaced Length)) → Shown r
-    shown_wrong l e = rw e (shown_other (read_graph s) refl (Refused (unplaced Length)) (λ g q. shown_length (begun q) l))
+    -- a fault of the graph, or else claims of the wrong length, or claims that are accepted, or are not
+    shown_other : (other : Read Bool) → ((g : StoredGraph) → read_graph s ≡ Ok g → Shown other) → (x : Read Counts) → x ≡ checked (read_graph s) → Shown (result_and x other)
+    unfolding checked
+    shown_other other f (Ok t) e = let g = bind_good _ _ (sym e) in f g.value g.first
+    shown_other other f (Err e) q = shown_bad (checked_refused (read_graph s) (sym q))
 
-    pub shown_rejected : length claims ≡ n * claim_width → (read_graph s ≡ good (decoded s n h c) → ¬ AcceptsClaims (decoded s n h c) claims)
-        → {r : Judged} → r ≡ refused_or (read_graph s) No → Shown r
-    shown_rejected l rejected e = rw e (shown_other (read_graph s) refl No (λ g q. let b = begun q in shown_no b l (rejected b.reads)))
+    pub shown_wrong : ¬ (length claims ≡ k.nodes * claim_width) → {x : Read Counts} → x ≡ checked (read_graph s) → Shown (result_and x (Err (unplaced Length)))
+    shown_wrong l {x} e = shown_other (Err (unplaced Length)) (λ g q. shown_length (begun q) l) x e
 
--- a fault of the graph, or else another answer, from the answer of the check
-pub refused_graph : (x : Read StoredGraph) (other : Judged) {n h c t : ℕ} → checked x ≡ Checked.Graph n h c t → other ≡ refused_or x other
-unfolding checked refused_or
-refused_graph (good g) other e = refl
-refused_graph (bad f) other e = cc
+    pub shown_accepted : length claims ≡ k.nodes * claim_width → read_graph s ≡ Ok (decoded s k.nodes k.hypers k.covers)
+        → AcceptsClaims (decoded s k.nodes k.hypers k.covers) claims → Shown (Ok true)
+    shown_accepted l read ok = shown_yes (begun read) l ok
 
-pub refused_fault : (x : Read StoredGraph) (other : Judged) {f : Fault} → checked x ≡ Checked.Refused f → Refused f ≡ refused_or x other
-unfolding checked refused_or
-refused_fault (good g) other e = cc
-refused_fault (bad f) other e = cc
+    pub shown_rejected : length claims ≡ k.nodes * claim_width
+        → (read_graph s ≡ Ok (decoded s k.nodes k.hypers k.covers) → ¬ AcceptsClaims (decoded s k.nodes k.hypers k.covers) claims)
+        → {x : Read Counts} → x ≡ checked (read_graph s) → Shown (result_and x (Ok false))
+    shown_rejected l rejected {x} e = shown_other (Ok false) (λ g q. let b = begun q in shown_no b l (rejected b.reads)) x e
+
+-- a header tells no target
+pub header_targets : (s : List ℕ) {k : Counts} → read_header s ≡ Ok k → read_header s ≡ Ok (record { nodes = k.nodes; hypers = k.hypers; covers = k.covers; targets = 0 })
+header_targets s {k} e =
+    let none = (header_good s k e).no_targets in e ∙ (λ i. Ok (record { nodes = k.nodes; hypers = k.hypers; covers = k.covers; targets = none i }))

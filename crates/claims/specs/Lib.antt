@@ -2,3 +2,4 @@
 pub mod Answers
 pub mod Promise
 pub mod Scans
+pub mod Chain

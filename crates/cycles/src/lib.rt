@@ -6,9 +6,10 @@ ghost use Rattle.wire.specs.Layout.{items, end, Sound};
 ghost use Rattle.rules.specs.Walks.{CoverCycle};
 ghost use Rattle.graph.specs.Format.{graph_header};
 ghost use Rattle.graph.specs.Layouts.{target_layout, hyper_layout, cover_layout, decoded, Scannable};
-ghost use Rattle.graph.specs.Ready.{Ready};
+ghost use Rattle.graph.specs.Viewed.{decoded_of};
 ghost use Rattle.cycles.specs.Labels.{label, Within, Deepest, HyperFalls, CoverFalls, Deeper, Pass};
 
+use graph::Records;
 use wire::Width;
 
 // The largest label of k targets at a position; 0 with none.
@@ -102,19 +103,29 @@ fn deepen(s: &[u8], n: usize, h: u32, c: u32, middle: usize, labels: &mut [u32; 
 }
 
 // Whether some cycle passes through a cover edge: then, and only then, do the labels still rise in pass n.
-pub fn has_cycle(s: &[u8], n: usize, h: u32, c: u32, middle: usize) -> bool
-    requires ready { Ready s.now n h c }
-    requires middle_value { middle ≡ end (hyper_layout s.now n) h graph_header }
-    requires n_bound { (n ≤ 4096) × (c ≤ 4096) }
-    ensures { (result ≡ true → CoverCycle (decoded s.now n h c)) × (result ≡ false → ¬ CoverCycle (decoded s.now n h c)) }
+pub fn has_cycle(graph: Records) -> bool
+    requires few { (graph.nodes ≤ 4096) × (graph.covers ≤ 4096) }
+    ensures { (result ≡ true → CoverCycle (decoded_of graph.entry)) × (result ≡ false → ¬ CoverCycle (decoded_of graph.entry)) }
 {
     let mut labels = [0u32; 4096];
-    let mut passes = 1;
-    while passes < n {
-        if !deepen(s, n, h, c, middle, &mut labels) {
+    for _ in 1..graph.nodes {
+        if !deepen(
+            graph.bytes,
+            graph.nodes,
+            graph.hypers,
+            graph.covers,
+            graph.middle,
+            &mut labels,
+        ) {
             return false;
         }
-        passes += 1;
     }
-    deepen(s, n, h, c, middle, &mut labels)
+    deepen(
+        graph.bytes,
+        graph.nodes,
+        graph.hypers,
+        graph.covers,
+        graph.middle,
+        &mut labels,
+    )
 }

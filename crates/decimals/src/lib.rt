@@ -1,43 +1,56 @@
-// Words and decimal numbers, written into a lent room.
+// Words and decimal numbers, written one after another into a lent room.
 #![tactic(auto)]
 
 ghost use Rattle.std.specs.Prelude.{◌≡◌, ◌+◌, ◌≤◌, ◌++◌, length};
-ghost use Rattle.wire.specs.Laid.{Laid};
 ghost use Rattle.decimals.specs.Decimal.{decimal, long_decimal};
+ghost use Rattle.decimals.specs.Writer.{RoomFor, Wrote};
 
-// Stores a word at a position; returns the position past it.
-pub fn put_word(room: &mut [u8], at: usize, word: &[u8]) -> usize
-    requires { at + length word.now ≤ length room.old }
-    ensures { Laid room.old at word.now room.new result }
-{
-    let mut i = 0;
-    while i < word.len() {
-        room[at + i] = word[i];
-        i += 1;
+// A lent room, and the position past what is written there.
+#[derive(Drop)]
+pub struct Writer<'a> {
+    pub room: &'a mut [u8],
+    pub at: usize,
+}
+
+impl Writer<'_> {
+    // Writes a word.
+    pub fn word(&mut self, word: &[u8])
+        requires { RoomFor self.old word.now }
+        ensures { Wrote self.old word.now self.new }
+    {
+        let end = self.at + word.len();
+        self.room[self.at..end].copy_from_slice(word);
+        self.at = end;
     }
-    at + i
-}
 
-// Stores a number of 64 bits in decimal at a position; returns the position past it.
-pub fn put_long(room: &mut [u8], at: usize, n: u64) -> usize
-    requires { at + length (long_decimal n) ≤ length room.old }
-    ensures { Laid room.old at (long_decimal n) room.new result }
-{
-    let last = if n < 10 {
-        at
-    } else {
-        put_long(room, at, n / 10)
-    };
-    room[last] = 48 + ((n % 10) as u8);
-    last + 1
-}
+    // Writes a number of 64 bits in decimal.
+    pub fn long(&mut self, n: u64)
+        requires { RoomFor self.old (long_decimal n) }
+        ensures { Wrote self.old (long_decimal n) self.new }
+    {
+        if 10 <= n {
+            self.long(n / 10);
+        }
+        self.word(&[b'0' + (n % 10) as u8]);
+    }
 
-// Stores a number in decimal at a position; returns the position past it.
-pub fn put_decimal(room: &mut [u8], at: usize, n: u32) -> usize
-    requires { at + length (decimal n) ≤ length room.old }
-    ensures { Laid room.old at (decimal n) room.new result }
-{
-    put_long(room, at, n as u64)
+    // Writes a number in decimal. Document 01's texts have numbers of 4 bytes, whose ten digits its contract names; no plainer without it.
+    pub fn decimal(&mut self, n: u32)
+        requires { RoomFor self.old (decimal n) }
+        ensures { Wrote self.old (decimal n) self.new }
+    {
+        self.long(n as u64);
+    }
+
+    // Writes a word and a number after it.
+    #[tactic(auto, using(crate::proofs::Writing::both))]
+    pub fn number(&mut self, word: &[u8], n: u32)
+        requires { RoomFor self.old (word.now ++ decimal n) }
+        ensures { Wrote self.old (word.now ++ decimal n) self.new }
+    {
+        self.word(word);
+        self.decimal(n);
+    }
 }
 
 // How many digits a number has in decimal.
@@ -49,13 +62,4 @@ pub fn decimal_length(n: u32) -> usize
     } else {
         decimal_length(n / 10) + 1
     }
-}
-
-// Stores a word and a number after it.
-pub fn put_number(room: &mut [u8], at: usize, word: &[u8], n: u32) -> usize
-    requires { at + length word.now + length (decimal n) ≤ length room.old }
-    ensures { Laid room.old at (word.now ++ decimal n) room.new result }
-{
-    let digits = put_word(room, at, word);
-    put_decimal(room, digits, n)
 }

@@ -6,7 +6,7 @@ ghost use Rattle.entries.specs.Entries.{is_entry, rounds_of, count_place};
 ghost use Rattle.entries.specs.Returned.{entry_of};
 
 // What is entered: yes, no or a refusal's number, with the rounds that were reported.
-#[derive(Clone, Copy)]
+#[derive(Clone, Copy, Debug, PartialEq, Eq)]
 pub enum Entry {
     Yes(u32),
     No(u32),
@@ -19,15 +19,10 @@ impl Entry {
     pub fn returned(number: u8, verdict: u8, rounds: u32) -> Self
         ensures { result ≡ entry_of number verdict rounds }
     {
-        if verdict == 0 {
-            return Entry::Refused(number, rounds);
-        }
-        if number != 0 {
-            return Entry::Refused(0, rounds);
-        }
-        match verdict {
-            1 => Entry::Yes(rounds),
-            2 => Entry::No(rounds),
+        match (verdict, number) {
+            (0, _) => Entry::Refused(number, rounds),
+            (1, 0) => Entry::Yes(rounds),
+            (2, 0) => Entry::No(rounds),
             _ => Entry::Refused(0, rounds),
         }
     }
@@ -37,8 +32,7 @@ impl Entry {
         ensures { result ≡ is_entry self }
     {
         match self {
-            Entry::Yes(_) => true,
-            Entry::No(_) => true,
+            Entry::Yes(_) | Entry::No(_) => true,
             Entry::Refused(n, _) => 1 <= n && n <= 11,
         }
     }
@@ -59,14 +53,8 @@ impl Entry {
         ensures { result ≡ rounds_of self }
     {
         match self {
-            Entry::Yes(rounds) => rounds as u64,
-            Entry::No(rounds) => rounds as u64,
-            Entry::Refused(n, rounds) => {
-                if n == 1 {
-                    return rounds as u64;
-                }
-                0
-            }
+            Entry::Yes(rounds) | Entry::No(rounds) | Entry::Refused(1, rounds) => rounds as u64,
+            Entry::Refused(_, _) => 0,
         }
     }
 }

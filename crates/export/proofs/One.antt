@@ -2,8 +2,8 @@
 -- Here a are the arguments, r is the result, and s is what stands in each argument at the end, in the order of the parameters. Assumes nothing.
 use mathlib.Core.Path.{◌≡◌, sym, ap, ◌∙◌}
 use Rattle.graph.specs.Message.{read_graph}
-use Rattle.claims.specs.Answers.{judged_number, judged_offset, read_claims}
-use Rattle.ranks.specs.Answers.{written_number, written_offset}
+use Rattle.refusal.specs.Number.{answer_number, answer_offset}
+use Rattle.claims.specs.Answers.{read_claims}
 use Rattle.claims.proofs.One.{judges_one}
 use Rattle.ranks.proofs.One.{SameClaims, writes_one}
 use Rattle.export.specs.Claimed.{judged_verdict}
@@ -54,14 +54,14 @@ pub one_claims_check : (κs : _) (a : _) (r r' : _) (s s' : _) → claims-check.
     → (r ≡ r') × (s.1.1.0.now ≡ s'.1.1.0.now) × (s.1.1.1.0.now ≡ s'.1.1.1.0.now)
 one_claims_check κs a r r' s s' p q =
     let e = judges_one (read_claims a.0.now a.1.0.now) a.1.0.now p.answer q.answer p.judges q.judges in
-    (p.number_is ∙ ap judged_number e ∙ sym q.number_is, p.verdict_is ∙ ap judged_verdict e ∙ sym q.verdict_is, p.offset_is ∙ ap judged_offset e ∙ sym q.offset_is)
+    (p.number_is ∙ ap answer_number e ∙ sym q.number_is, p.verdict_is ∙ ap judged_verdict e ∙ sym q.verdict_is, p.offset_is ∙ ap answer_offset e ∙ sym q.offset_is)
 
 -- `export::otzarvim_claims_write`: the answer, the claims but for the choice of ranks, and the words
 pub one_claims_write : (κs : _) (a : _) (r r' : _) (s s' : _) → (p : claims-write.Post κs a r s) → claims-write.Post κs a r' s'
     → (r ≡ r') × SameClaims (read_graph a.0.now) p.answer s.1.0.now s'.1.0.now × (s.1.1.0.now ≡ s'.1.1.0.now) × (s.1.1.1.0.now ≡ s'.1.1.1.0.now)
 one_claims_write κs a r r' s s' p q =
     let e = writes_one (read_graph a.0.now) a.1.0.now a.1.1.0.now p.answer q.answer s.1.0.now s.1.1.0.now s'.1.0.now s'.1.1.0.now p.writes q.writes in
-    (p.number_is ∙ ap written_number e.0 ∙ sym q.number_is, e.1, e.2, p.offset_is ∙ ap written_offset e.0 ∙ sym q.offset_is)
+    (p.number_is ∙ ap answer_number e.0 ∙ sym q.number_is, e.1, e.2, p.offset_is ∙ ap answer_offset e.0 ∙ sym q.offset_is)
 
 -- `export::otzarvim_formula_text`: the answer, the room, the length and the offset
 pub one_formula_text : (κs : _) (a : _) (r r' : _) (s s' : _) → formula-text.Post κs a r s → formula-text.Post κs a r' s'

@@ -1,6 +1,7 @@
 -- What the library gives back of an entry of the nightly sheet.
 use Rattle.std.specs.Prelude.{ℕ, ◌≡◌}
-use Rattle.tally.specs.Entered.{answer_number, enter_of}
+use Rattle.refusal.specs.Number.{answer_number}
+use Rattle.tally.specs.Entered.{enter_of}
 use Rattle.entries.specs.declared.Entry.{Entry}
 use Rattle.tally.specs.declared.Tally.{Tally}
 use Rattle.tally.specs.declared.Entered.{Entered}

@@ -10,6 +10,7 @@ ghost use Rattle.model.specs.Message.{read_model};
 ghost use Rattle.model.specs.Answers as m;
 ghost use Rattle.syntax.specs.Message.{read_formula};
 ghost use Rattle.formula.specs.Answers as f;
+ghost use Rattle.refusal.specs.Number.{answer_number, answer_offset};
 ghost use Rattle.turns.specs.Outcome as rounds;
 ghost use Rattle.rounds.specs.Promise as promise;
 ghost use Rattle.text.specs.Written as text;
@@ -26,7 +27,7 @@ ghost use Rattle.lines.specs.Lines as report;
 ghost use Rattle.entries.specs.Returned.{entry_of};
 ghost use Rattle.export.specs.Sheet.{noted_of, EnteredInto};
 
-use claims::Judged;
+use refusal::Fault;
 use tally::{Entry, Tally};
 use verdict::AllStates;
 
@@ -37,21 +38,16 @@ pub extern "C" fn otzarvim_graph_check(
     counts: &mut [u32; 3],
     offset: &mut usize,
 ) -> u8
-    ensures value { result ≡ g.checked_number (g.checked (read_graph message.now)) }
+    ensures value { result ≡ answer_number (g.checked (read_graph message.now)) }
     ensures counts_after { counts.new ≡ graph_counts (g.checked (read_graph message.now)) counts.old }
-    ensures offset_after { offset.new ≡ g.checked_offset (g.checked (read_graph message.now)) }
+    ensures offset_after { offset.new ≡ answer_offset (g.checked (read_graph message.now)) }
 {
-    match graph::check(message) {
-        graph::Checked::Graph(n, h, c, _) => {
-            *counts = [n, h, c];
-            *offset = 0;
-            0
-        }
-        graph::Checked::Refused(e) => {
-            *offset = e.offset;
-            e.number()
-        }
+    let checked = graph::check(message);
+    if let Ok(found) = checked {
+        *counts = [found.nodes, found.hypers, found.covers];
     }
+    *offset = refusal::offset(&checked);
+    refusal::number(&checked)
 }
 
 // Checks a model message; gives its states, propositions and transitions.
@@ -61,21 +57,16 @@ pub extern "C" fn otzarvim_model_check(
     counts: &mut [u32; 3],
     offset: &mut usize,
 ) -> u8
-    ensures value { result ≡ m.checked_number (m.checked (read_model message.now)) }
+    ensures value { result ≡ answer_number (m.checked (read_model message.now)) }
     ensures counts_after { counts.new ≡ model_counts (m.checked (read_model message.now)) counts.old }
-    ensures offset_after { offset.new ≡ m.checked_offset (m.checked (read_model message.now)) }
+    ensures offset_after { offset.new ≡ answer_offset (m.checked (read_model message.now)) }
 {
-    match model::check(message) {
-        model::Checked::Model(s, p, t) => {
-            *counts = [s, p, t];
-            *offset = 0;
-            0
-        }
-        model::Checked::Refused(e) => {
-            *offset = e.offset;
-            e.number()
-        }
+    let checked = model::check(message);
+    if let Ok(found) = checked {
+        *counts = [found.states, found.propositions, found.transitions];
     }
+    *offset = refusal::offset(&checked);
+    refusal::number(&checked)
 }
 
 // Checks a formula message whose propositions are below p; gives its rows.
@@ -86,21 +77,16 @@ pub extern "C" fn otzarvim_formula_check(
     rows: &mut u32,
     offset: &mut usize,
 ) -> u8
-    ensures value { result ≡ f.checked_number (f.checked (read_formula p message.now)) }
+    ensures value { result ≡ answer_number (f.checked (read_formula p message.now)) }
     ensures rows_after { rows.new ≡ formula_count (f.checked (read_formula p message.now)) rows.old }
-    ensures offset_after { offset.new ≡ f.checked_offset (f.checked (read_formula p message.now)) }
+    ensures offset_after { offset.new ≡ answer_offset (f.checked (read_formula p message.now)) }
 {
-    match formula::check(message, p) {
-        formula::Checked::Formula(count) => {
-            *rows = count;
-            *offset = 0;
-            0
-        }
-        formula::Checked::Refused(e) => {
-            *offset = e.offset;
-            e.number()
-        }
+    let checked = formula::check(message, p);
+    if let Ok(count) = checked {
+        *rows = count;
     }
+    *offset = refusal::offset(&checked);
+    refusal::number(&checked)
 }
 
 // Runs the rounds on a graph message; gives the count of rounds.
@@ -112,27 +98,27 @@ pub extern "C" fn otzarvim_rounds_solve(
     count: &mut u32,
     offset: &mut usize,
 ) -> u8
-    ensures value { result ≡ rounds.outcome_number (rounds.outcome_of (rounds.read_rounds message.now room.old) budget) }
+    ensures value { result ≡ rounds.rounds_number (rounds.outcome_of (rounds.read_rounds message.now room.old) budget) }
     ensures room_after { room.new ≡ rounds.rounds_room (rounds.read_rounds message.now room.old) budget room.old }
-    ensures count_after { count.new ≡ rounds.outcome_count (rounds.outcome_of (rounds.read_rounds message.now room.old) budget) }
-    ensures offset_after { offset.new ≡ rounds.outcome_offset (rounds.outcome_of (rounds.read_rounds message.now room.old) budget) }
+    ensures count_after { count.new ≡ rounds.rounds_count (rounds.outcome_of (rounds.read_rounds message.now room.old) budget) }
+    ensures offset_after { offset.new ≡ answer_offset (rounds.outcome_of (rounds.read_rounds message.now room.old) budget) }
     ensures promise { promise.Promise message.now budget room.old room.new
         (rounds.outcome_of (rounds.read_rounds message.now room.old) budget) }
 {
     let outcome = rounds::solve(message, budget, room);
-    *count = outcome.count();
-    *offset = outcome.offset();
-    outcome.number()
+    *count = turns::count(&outcome);
+    *offset = refusal::offset(&outcome);
+    turns::number(&outcome)
 }
 
-// The number of a search's verdict.
-fn found_number(verdict: search::Verdict) -> u8
+// The number of a search's verdict, and 0 for none.
+fn found_number(verdict: Option<search::Verdict>) -> u8
     ensures { result ≡ found_number verdict }
 {
     match verdict {
-        search::Verdict::None => 0,
-        search::Verdict::Yes => 1,
-        search::Verdict::No => 2,
+        None => 0,
+        Some(search::Verdict::Yes) => 1,
+        Some(search::Verdict::No) => 2,
     }
 }
 
@@ -146,28 +132,28 @@ pub extern "C" fn otzarvim_search(
     count: &mut u64,
     offset: &mut usize,
 ) -> u8
-    ensures value { result ≡ search.answer_number (searched message.now root words.old) }
+    ensures value { result ≡ answer_number (searched message.now root words.old) }
     ensures words_after { words.new ≡ search.words_of (search.read_asked message.now root words.old) words.old }
     ensures verdict_after { verdict.new ≡ found_number (search.answer_verdict (searched message.now root words.old)) }
     ensures count_after { count.new ≡ search.answer_count (searched message.now root words.old) }
-    ensures offset_after { offset.new ≡ search.answer_offset (searched message.now root words.old) }
+    ensures offset_after { offset.new ≡ answer_offset (searched message.now root words.old) }
     ensures promise { found.Promise message.now root words.old words.new (searched message.now root words.old) }
 {
     let answer = search::decide(message, root, words);
-    *verdict = found_number(answer.verdict());
-    *count = answer.count();
-    *offset = answer.offset();
-    answer.number()
+    *verdict = found_number(search::verdict(&answer));
+    *count = search::count(&answer);
+    *offset = refusal::offset(&answer);
+    refusal::number(&answer)
 }
 
 // The number of a checker's verdict on claims.
-fn judged_verdict(judged: Judged) -> u8
+fn judged_verdict(judged: Result<bool, Fault>) -> u8
     ensures { result ≡ judged_verdict judged }
 {
     match judged {
-        Judged::Refused(_) => 0,
-        Judged::Yes => 1,
-        Judged::No => 2,
+        Err(_) => 0,
+        Ok(true) => 1,
+        Ok(false) => 2,
     }
 }
 
@@ -183,8 +169,8 @@ pub extern "C" fn otzarvim_claims_check(
 {
     let judged = claims::check(message, claims);
     *verdict = judged_verdict(judged);
-    *offset = judged.offset();
-    judged.number()
+    *offset = refusal::offset(&judged);
+    refusal::number(&judged)
 }
 
 // Writes claims about the graph of a message that the checker accepts.
@@ -199,8 +185,8 @@ pub extern "C" fn otzarvim_claims_write(
         offset.new }
 {
     let written = ranks::write(message, claims, words);
-    *offset = written.offset();
-    written.number()
+    *offset = refusal::offset(&written);
+    refusal::number(&written)
 }
 
 // Writes the text of a formula message whose propositions are below p; gives its length.
@@ -212,15 +198,15 @@ pub extern "C" fn otzarvim_formula_text(
     length: &mut usize,
     offset: &mut usize,
 ) -> u8
-    ensures value { result ≡ text.written_number (text.written_of (read_formula p message.now) room.old) }
+    ensures value { result ≡ answer_number (text.written_of (read_formula p message.now) room.old) }
     ensures room_after { room.new ≡ text.text_room (read_formula p message.now) room.old }
     ensures length_after { length.new ≡ text.written_length (text.written_of (read_formula p message.now) room.old) }
-    ensures offset_after { offset.new ≡ text.written_offset (text.written_of (read_formula p message.now) room.old) }
+    ensures offset_after { offset.new ≡ answer_offset (text.written_of (read_formula p message.now) room.old) }
 {
     let written = text::text(message, p, room);
-    *length = written.length();
-    *offset = written.offset();
-    written.number()
+    *length = written.unwrap_or(0);
+    *offset = refusal::offset(&written);
+    refusal::number(&written)
 }
 
 // The verdict on a state; gives the verdict's number, the count of rounds and the length of the graph.
@@ -247,17 +233,17 @@ pub extern "C" fn otzarvim_verdict(
         values.old) }
     ensures length_after { length.new ≡ v.answer_length (asked_one model.now formula.now state budget bytes.old
         values.old) }
-    ensures offset_after { offset.new ≡ v.answer_offset (asked_one model.now formula.now state budget bytes.old
+    ensures offset_after { offset.new ≡ answer_offset (asked_one model.now formula.now state budget bytes.old
         values.old) }
     ensures promise { Promise model.now formula.now state budget bytes.old values.old bytes.new
         values.new (asked_one model.now formula.now state budget bytes.old values.old) }
 {
     let answer = verdict::decide(model, formula, state, budget, bytes, values);
-    *verdict = answer.verdict().number();
-    *count = answer.count();
-    *length = answer.length();
-    *offset = answer.offset();
-    answer.number()
+    *verdict = settling::verdict_number(settling::verdict_in(&answer));
+    *count = turns::count(&answer);
+    *length = settling::length(&answer);
+    *offset = refusal::offset(&answer);
+    turns::number(&answer)
 }
 
 // The graph of a model and a formula alone; gives its length.
@@ -269,17 +255,17 @@ pub extern "C" fn otzarvim_graph(
     length: &mut usize,
     offset: &mut usize,
 ) -> u8
-    ensures value { result ≡ b.built_number (v.built_alone (v.read_built model.now formula.now bytes.old)) }
+    ensures value { result ≡ answer_number (v.built_alone (v.read_built model.now formula.now bytes.old)) }
     ensures bytes_after { bytes.new ≡ v.bytes_of (v.read_built model.now formula.now bytes.old) bytes.old }
     ensures length_after { length.new ≡ b.built_length (v.built_alone (v.read_built model.now formula.now bytes.old)) }
-    ensures offset_after { offset.new ≡ b.built_offset (v.built_alone (v.read_built model.now formula.now bytes.old)) }
+    ensures offset_after { offset.new ≡ answer_offset (v.built_alone (v.read_built model.now formula.now bytes.old)) }
     ensures promise_graph { PromiseGraph model.now formula.now bytes.old bytes.new
         (v.built_alone (v.read_built model.now formula.now bytes.old)) }
 {
     let built = verdict::graph(model, formula, bytes);
-    *length = built.length();
-    *offset = built.offset();
-    built.number()
+    *length = built.unwrap_or(0);
+    *offset = refusal::offset(&built);
+    refusal::number(&built)
 }
 
 // All states at once; gives the count of rounds, the length of the graph, the place of state 0's number and how many states there are, where it settled.
@@ -305,24 +291,26 @@ pub extern "C" fn otzarvim_settle(
         values.old) }
     ensures states_after { states.new ≡ states_lent (asked_all model.now formula.now budget bytes.old
         values.old) states.old }
-    ensures offset_after { offset.new ≡ v.all_offset (asked_all model.now formula.now budget bytes.old
+    ensures offset_after { offset.new ≡ answer_offset (asked_all model.now formula.now budget bytes.old
         values.old) }
     ensures promise_all { PromiseAll model.now formula.now budget bytes.old values.old bytes.new
         values.new (asked_all model.now formula.now budget bytes.old values.old) }
 {
     let settled = verdict::settle(model, formula, budget, bytes, values);
-    *count = settled.count();
-    *length = settled.length();
-    *offset = settled.offset();
-    let number = settled.number();
-    match settled {
-        AllStates::Settled(_, _, first, many) => {
-            *states = [first, many];
-            number
-        }
-        AllStates::Spent(_, _) => number,
-        AllStates::Refused(_) => number,
+    if let Ok(
+        AllStates::Settled {
+            first,
+            states: many,
+            ..
+        },
+    ) = settled
+    {
+        *states = [first, many];
     }
+    *count = turns::count(&settled);
+    *length = settling::length(&settled);
+    *offset = refusal::offset(&settled);
+    turns::number(&settled)
 }
 
 // The tally after an entry, and the number of the answer.
@@ -337,11 +325,9 @@ fn note(tally: Tally, number: u8, verdict: u8, rounds: u32) -> Noted
     ensures { result ≡ noted_of (t.enter_of tally (entry_of number verdict rounds)) }
 {
     let entered = tally.enter(Entry::returned(number, verdict, rounds));
-    let answer = entered.answer;
-    let next = entered.tally;
     Noted {
-        tally: next,
-        number: answer.number(),
+        tally: entered.tally,
+        number: refusal::number(&entered.answer),
     }
 }
 
@@ -367,11 +353,11 @@ pub extern "C" fn otzarvim_tally_report(
     room: &mut [u8],
     length: &mut usize,
 ) -> u8
-    ensures value { result ≡ report.reported_number (report.reported_of numbers.now room.old) }
+    ensures value { result ≡ answer_number (report.reported_of numbers.now room.old) }
     ensures room_after { room.new ≡ report.report_room numbers.now room.old }
     ensures length_after { length.new ≡ report.reported_length (report.reported_of numbers.now room.old) }
 {
     let reported = tally::report(numbers, room);
-    *length = reported.length();
-    reported.number()
+    *length = reported.unwrap_or(0);
+    refusal::number(&reported)
 }

@@ -1,24 +1,22 @@
 -- The reading from the answer. Assumes nothing.
 use Prim.Native.Nat.{ℕ}
 use mathlib.Core.List.{List}
-use mathlib.Core.Path.{◌≡◌, refl}
-use native.Mathlib.Omega.{arith}
+use mathlib.Core.Path.{◌≡◌, refl, sym, ap}
 use lib.ListN.{length}
 use Rattle.refusal.specs.declared.Fault.{Fault}
-use Rattle.wire.specs.Read.{Read, good, bad, ◌>>=◌}
-use Rattle.kinds.specs.Kept.{operands_of, listed, kept, judged}
-use Rattle.formula.specs.Answers.{counted, checked}
+use Rattle.wire.specs.Read.{Read, Ok, Err, ◌>>=◌}
+use Rattle.kinds.specs.Kept.{operands_of, listed, judged}
+use Rattle.formula.specs.Answers.{checked}
 use Rattle.syntax.specs.declared.Row.{Row}
 use Rattle.syntax.specs.declared.Row.TheVariants.{True, False, Proposition, Negation, And, Or, Next, Until}
 use Rattle.syntax.specs.Rows.{operands}
 use Rattle.kinds.specs.declared.Operands.{Operands}
-use Rattle.kinds.specs.declared.Judged.TheVariants as Judged
-use Rattle.formula.specs.declared.Checked.TheVariants as Checked
+use Rattle.wire.proofs.Reading.{never, good_same, bad_same}
 
 -- operands that were kept are those of the row that was read
 pub record Kept (x : Read Row) (k : Operands) : Type 0 where
   pub row : Row
-  pub read : x ≡ good row
+  pub read : x ≡ Ok row
   pub are : operands_of row ≡ k
 
 pub listed_are : (row : Row) → listed (operands_of row) ≡ operands row
@@ -32,38 +30,28 @@ listed_are (Or l r) = refl
 listed_are (Next q k l b) = refl
 listed_are (Until q l r b) = refl
 
-pub judged_fine : (x : Read Row) {k : Operands} → judged x ≡ Judged.Fine k → Kept x k
-unfolding kept ◌>>=◌
-judged_fine (good a) {k} e = record { row = a; read = refl; are = cc }
-judged_fine (bad a) e = let z : ◌≡◌ {A = ℕ} 0 1 = cc in absurd (omega arith)
+pub judged_fine : (x : Read Row) {k : Operands} → judged x ≡ Ok k → Kept x k
+unfolding ◌>>=◌
+judged_fine (Ok a) {k} e = record { row = a; read = refl; are = good_same e }
+judged_fine (Err a) e = absurd (never e)
 
-pub judged_refused : (x : Read Row) {f : Fault} → judged x ≡ Judged.Refused f → x ≡ bad f
-unfolding kept ◌>>=◌
-judged_refused (good a) e = cc
-judged_refused (bad a) e = cc
-
-pub counted_formula : (x : Read ℕ) {f : ℕ} → counted x ≡ Checked.Formula f → x ≡ good f
-unfolding counted
-counted_formula (good a) e = cc
-counted_formula (bad a) e = cc
-
-pub counted_refused : (x : Read ℕ) {f : Fault} → counted x ≡ Checked.Refused f → x ≡ bad f
-unfolding counted
-counted_refused (good a) e = cc
-counted_refused (bad a) e = cc
+pub judged_refused : (x : Read Row) {f : Fault} → judged x ≡ Err f → x ≡ Err f
+unfolding ◌>>=◌
+judged_refused (Ok a) e = absurd (never (sym e))
+judged_refused (Err a) e = ap Err (bad_same e)
 
 -- an accepted message has rows, as many as the answer says
 pub record Rows (x : Read (List Row)) (f : ℕ) : Type 0 where
   pub rows : List Row
-  pub read : x ≡ good rows
+  pub read : x ≡ Ok rows
   pub long : length rows ≡ f
 
-pub checked_formula : (x : Read (List Row)) {f : ℕ} → checked x ≡ Checked.Formula f → Rows x f
-unfolding checked
-checked_formula (good rs) {f} e = record { rows = rs; read = refl; long = cc }
-checked_formula (bad a) e = let z : ◌≡◌ {A = ℕ} 0 1 = cc in absurd (omega arith)
+pub checked_formula : (x : Read (List Row)) {f : ℕ} → checked x ≡ Ok f → Rows x f
+unfolding checked ◌>>=◌
+checked_formula (Ok rs) {f} e = record { rows = rs; read = refl; long = good_same e }
+checked_formula (Err a) e = absurd (never e)
 
-pub checked_refused : (x : Read (List Row)) {f : Fault} → checked x ≡ Checked.Refused f → x ≡ bad f
-unfolding checked
-checked_refused (good a) e = cc
-checked_refused (bad a) e = cc
+pub checked_refused : (x : Read (List Row)) {f : Fault} → checked x ≡ Err f → x ≡ Err f
+unfolding checked ◌>>=◌
+checked_refused (Ok a) e = absurd (never (sym e))
+checked_refused (Err a) e = ap Err (bad_same e)

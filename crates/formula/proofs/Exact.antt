@@ -14,11 +14,11 @@ use Rattle.lists.proofs.Places.{place_lt, place-∈, ∈-place}
 use Rattle.wire.specs.Start.{start_width}
 use Rattle.wire.specs.declared.State.{State}
 use Rattle.wire.specs.Bytes.{bytes, Bytes}
-use Rattle.wire.specs.Read.{good, field}
+use Rattle.wire.specs.Read.{Ok, field}
 use Rattle.wire.specs.Write.{write_all, message}
 use Rattle.wire.proofs.Bytes.{length_bytes}
 use Rattle.wire.proofs.Reading.{good_same}
-use Rattle.wire.specs.Step.{start}
+use Rattle.wire.specs.Begin.{start}
 use Rattle.wire.proofs.Stands.{Stands, stands_first, stands_second, stands_both, stands_last, value_stands, stands_field}
 use Rattle.wire.proofs.Counts.{good_count}
 use Rattle.wire.proofs.Exact.{good_bind, good_after, good_demand, length_write_all, Exact, FitsAll, none, more, all_reads, all_written, message_length, message_rest, start_reads, start_written}
@@ -101,11 +101,11 @@ module _ (s : List ℕ) (p : ℕ) where
     written = λ st row stands f.
         let w = spelt row in
         let there = fields_laid w.operator (left row) (right row) 0 w.code (rw w.written at stands) in
-        let operator_there : field 1 s st.at ≡ good w.operator = stands_field 1 (omega arith) there.operator_there (omega (arith, w.known)) in
-        let left_there : field 1 s (st.at + left_at) ≡ good (left row) = stands_field 1 (omega arith) there.left_there f.left_byte in
-        let right_there : field 1 s (st.at + right_at) ≡ good (right row) = stands_field 1 (omega arith) there.right_there f.right_byte in
-        let zero_there : field 1 s (st.at + zero_at) ≡ good 0 = stands_field 1 (omega arith) there.zero_there (omega arith) in
-        let bound_there : field 4 s (st.at + bound_at) ≡ good w.code = stands_field 4 (omega arith) there.bound_there (w.fits f.sayable) in
+        let operator_there : field 1 s st.at ≡ Ok w.operator = stands_field 1 (omega arith) there.operator_there (omega (arith, w.known)) in
+        let left_there : field 1 s (st.at + left_at) ≡ Ok (left row) = stands_field 1 (omega arith) there.left_there f.left_byte in
+        let right_there : field 1 s (st.at + right_at) ≡ Ok (right row) = stands_field 1 (omega arith) there.right_there f.right_byte in
+        let zero_there : field 1 s (st.at + zero_at) ≡ Ok 0 = stands_field 1 (omega arith) there.zero_there (omega arith) in
+        let bound_there : field 4 s (st.at + bound_at) ≡ Ok w.code = stands_field 4 (omega arith) there.bound_there (w.fits f.sayable) in
         let is : row_of w.operator (left row) (right row) w.code ≡ row = w.is f.sayable in
         let idle = spare_fields w.operator (left row) (right row) 0 w.code w.known (rw is w.spare) in
         let names = named_fields p st.seen w.operator (left row) (right row) w.code w.known (rw is f.names) in
@@ -162,7 +162,7 @@ well_fits p rs w i row e =
       right_byte = name_below 256 _ 1 (omega arith) bytes;
     }
 
-pub accepted_written : (p : ℕ) (s : List ℕ) (rs : List Row) → Bytes s → read_formula p s ≡ good rs → (s ≡ write_formula rs) × WellFormed p rs
+pub accepted_written : (p : ℕ) (s : List ℕ) (rs : List Row) → Bytes s → read_formula p s ≡ Ok rs → (s ≡ write_formula rs) × WellFormed p rs
 unfolding write_formula
 accepted_written p s rs b e =
     let g = formula_good p s rs e in
@@ -185,7 +185,7 @@ accepted_written p s rs b e =
       },
     )
 
-pub written_accepted : (p : ℕ) (rs : List Row) → WellFormed p rs → read_formula p (write_formula rs) ≡ good rs
+pub written_accepted : (p : ℕ) (rs : List Row) → WellFormed p rs → read_formula p (write_formula rs) ≡ Ok rs
 unfolding read_header write_formula
 written_accepted p rs w =
     let s : List ℕ = message formula_head (write_body rs) in
@@ -193,7 +193,7 @@ written_accepted p rs w =
     let whole : length s ≡ formula_length (length rs) = message_length formula_head (write_body rs) ∙ (omega arith) in
     let body : Stands s start_width (write_body rs) = message_rest formula_head (write_body rs) in
     let opened = start_written (write_body rs) formula_head (omega arith) (omega arith) (omega arith) (omega arith) in
-    let count_there : field 1 s rows_count.at ≡ good (length rs) = stands_field 1 (omega arith) (stands_first _ _ body) (omega (arith, w.rows_fit)) in
+    let count_there : field 1 s rows_count.at ≡ Ok (length rs) = stands_field 1 (omega arith) (stands_first _ _ body) (omega (arith, w.rows_fit)) in
     good_formula p s rs (record {
       p_most = w.propositions_fit;
       header =
@@ -203,7 +203,7 @@ written_accepted p rs w =
       used = each_used rs w.used_once;
     })
 
-pub accepted_exactly : (p : ℕ) (s : List ℕ) (rs : List Row) → Bytes s → (read_formula p s ≡ good rs) ↔ ((s ≡ write_formula rs) × WellFormed p rs)
+pub accepted_exactly : (p : ℕ) (s : List ℕ) (rs : List Row) → Bytes s → (read_formula p s ≡ Ok rs) ↔ ((s ≡ write_formula rs) × WellFormed p rs)
 accepted_exactly p s rs b = (accepted_written p s rs b, λ h. ap (read_formula p) h.0 ∙ written_accepted p rs h.1)
 
 -- two well-formed lists of rows are never written alike, however many propositions they may name

@@ -9,16 +9,14 @@ use lib.Dec.{leb}
 use lib.ListN.{length, take, drop}
 use borrow.Author.Tests.{leb-true, le-leb, eqb-true}
 use Rattle.refusal.specs.declared.Refusal.TheVariants.{Form}
-use Rattle.wire.specs.declared.Field.TheVariants.{Number}
 use Rattle.wire.specs.declared.State.{State}
-use Rattle.wire.specs.Field.{field_at}
-use Rattle.wire.specs.Read.{Read, good, bad, ◌>>=◌, ◌>>◌, demand, field, misnamed}
+use Rattle.wire.specs.Read.{Read, Ok, Err, ◌>>=◌, ◌>>◌, demand, field, misnamed}
 use Rattle.wire.specs.Reader.{read_all}
 use Rattle.wire.specs.Start.{read_start}
-use Rattle.wire.specs.Step.{start}
+use Rattle.wire.specs.Begin.{start}
 use Rattle.wire.proofs.Fields.{part_field}
 use Rattle.wire.proofs.Counts.{CountAt, count_good}
-use Rattle.wire.proofs.Reading.{bind_good, and_good, demand_good, field_good, good_same, part_below}
+use Rattle.wire.proofs.Reading.{bind_good, and_good, demand_good, good_same, part_below}
 use Rattle.wire.proofs.Readers.{all_length}
 use Rattle.wire.proofs.Exact.{good_bind, good_demand, all_there}
 use Rattle.syntax.specs.Format.{formula_header, formula_head, rows_count, left_at, right_at, zero_at, bound_at, row_width, formula_length}
@@ -56,8 +54,8 @@ module _ (s : List ℕ) (at : ℕ) (inside : at + row_width ≤ length s) where
   row_part offset p place = rw (part_field s at row_width 1 0 inside (omega arith), add-zero) (go (field 1 s at))
     where
       go : (x : Read ℕ) → (x >>= λ o. demand (leb o 11) Form offset >> fields_from (take row_width (drop at s)) 0 offset p place o) ≡ (x >>= λ o. demand (leb o 11) Form offset >> fields_from s at offset p place o)
-      go (good o) = rw (fields_part offset p place o) refl
-      go (bad e) = refl
+      go (Ok o) = rw (fields_part offset p place o) refl
+      go (Err e) = refl
 
 -- what a good row says of its fields
 pub record Fine (p place operator left right zero bound : ℕ) (row : Row) : Type 0 where
@@ -79,14 +77,14 @@ module _ (s : List ℕ) (p : ℕ) where
     pub right : ℕ
     pub zero : ℕ
     pub bound : ℕ
-    pub operator_there : field_at 1 s st.at ≡ Number operator
-    pub left_there : field_at 1 s (st.at + left_at) ≡ Number left
-    pub right_there : field_at 1 s (st.at + right_at) ≡ Number right
-    pub zero_there : field_at 1 s (st.at + zero_at) ≡ Number zero
-    pub bound_there : field_at 4 s (st.at + bound_at) ≡ Number bound
+    pub operator_there : field 1 s st.at ≡ Ok operator
+    pub left_there : field 1 s (st.at + left_at) ≡ Ok left
+    pub right_there : field 1 s (st.at + right_at) ≡ Ok right
+    pub zero_there : field 1 s (st.at + zero_at) ≡ Ok zero
+    pub bound_there : field 4 s (st.at + bound_at) ≡ Ok bound
     pub fine : Fine p st.seen operator left right zero bound row
 
-  pub row_good : (st : State) (row : Row) → read_row s p st ≡ good row → RowGood st row
+  pub row_good : (st : State) (row : Row) → read_row s p st ≡ Ok row → RowGood st row
   unfolding row_from fields_from
   row_good st row e =
       let operator = bind_good _ _ e in
@@ -114,21 +112,21 @@ module _ (s : List ℕ) (p : ℕ) where
         right = right.value;
         zero = z.value;
         bound = bound.value;
-        operator_there = field_good 1 s _ operator.first;
+        operator_there = operator.first;
         left_there = at_left.there;
         right_there = at_right.there;
         zero_there = at_zero.0;
-        bound_there = field_good 4 s _ bound.first;
+        bound_there = bound.first;
         fine = fields_fine p st.seen o _ _ _ _ (leb-true _ _ known.0) (good_same bound.rest) idle at_left.is_named at_right.is_named;
       }
 
 -- what a good header says of the bytes
 pub record HeaderAt (s : List ℕ) (f : ℕ) : Type 0 where
-  pub opened : read_start s formula_head ≡ good tt
+  pub opened : read_start s formula_head ≡ Ok tt
   pub f_counted : CountAt s rows_count f
   pub long : length s ≡ formula_length f
 
-pub header_good : (s : List ℕ) (f : ℕ) → read_header s ≡ good f → HeaderAt s f
+pub header_good : (s : List ℕ) (f : ℕ) → read_header s ≡ Ok f → HeaderAt s f
 unfolding read_header
 header_good s f e =
     let opened = and_good _ _ e in
@@ -140,11 +138,11 @@ header_good s f e =
 -- what a good message says of its parts
 pub record FormulaAt (p : ℕ) (s : List ℕ) (rs : List Row) : Type 0 where
   pub p_most : p ≤ 32
-  pub header : read_header s ≡ good (length rs)
-  pub rows_there : read_all (rows s p) (length rs) (start formula_header) ≡ good rs
+  pub header : read_header s ≡ Ok (length rs)
+  pub rows_there : read_all (rows s p) (length rs) (start formula_header) ≡ Ok rs
   pub used : used_once rs ≡ true
 
-pub formula_good : (p : ℕ) (s : List ℕ) (rs : List Row) → read_formula p s ≡ good rs → FormulaAt p s rs
+pub formula_good : (p : ℕ) (s : List ℕ) (rs : List Row) → read_formula p s ≡ Ok rs → FormulaAt p s rs
 unfolding read_formula
 formula_good p s rs e =
     let p_most = demand_good _ _ _ e in
@@ -153,11 +151,11 @@ formula_good p s rs e =
     let used = demand_good _ _ _ there.rest in
     subst (FormulaAt p s) (good_same used.1) (record {
       p_most = leb-true _ _ p_most.0;
-      header = header.first ∙ ap good (sym (all_length _ _ _ _ there.first));
+      header = header.first ∙ ap Ok (sym (all_length _ _ _ _ there.first));
       rows_there = all_there _ _ _ _ there.first;
       used = used.0;
     })
 
-pub good_formula : (p : ℕ) (s : List ℕ) (rs : List Row) → FormulaAt p s rs → read_formula p s ≡ good rs
+pub good_formula : (p : ℕ) (s : List ℕ) (rs : List Row) → FormulaAt p s rs → read_formula p s ≡ Ok rs
 unfolding read_formula
 good_formula p s rs g = good_demand _ (le-leb _ _ g.p_most) (good_bind _ g.header (good_bind _ g.rows_there (good_demand _ g.used refl)))

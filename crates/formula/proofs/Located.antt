@@ -6,17 +6,14 @@ use mathlib.Core.Path.{◌≡◌, refl, sym, ap, subst, ◌∙◌}
 use native.Mathlib.Omega.{arith}
 use lib.ListN.{length}
 use Rattle.refusal.specs.declared.Fault.{Fault}
-use Rattle.wire.specs.declared.Field.{Field}
-use Rattle.wire.specs.declared.Field.TheVariants.{Number, Refused}
 use Rattle.wire.specs.declared.State.{State}
-use Rattle.wire.specs.Field.{field_at}
-use Rattle.wire.specs.Read.{Read, good, bad, ◌>>=◌, ◌>>◌, unless, read_of_field, field, below, misnamed}
+use Rattle.wire.specs.Read.{Read, Ok, Err, ◌>>=◌, ◌>>◌, unless, field, below, misnamed}
 use Rattle.wire.specs.Reader.{read_all}
 use Rattle.wire.specs.Start.{only, read_start, version_at, kind_at}
 use Rattle.wire.specs.Counts.{read_count}
-use Rattle.wire.specs.Step.{start}
+use Rattle.wire.specs.Begin.{start}
 use Rattle.wire.proofs.Fields.{refused_short, value_inside}
-use Rattle.wire.proofs.Reading.{never, bad_same, field_good}
+use Rattle.wire.proofs.Reading.{never, bad_same}
 use Rattle.syntax.specs.Format.{formula_header, rows_count, place_of}
 use Rattle.syntax.specs.Rows.{uses_left, uses_right, uses_bound}
 use Rattle.syntax.specs.Message.{ill_formed, spare, operand, fields_from, row_from, rows, read_header, read_formula}
@@ -28,21 +25,21 @@ use Rattle.formula.proofs.Good.{header_good}
 
 -- every fault of a reading is of no field of s, or of one that starts inside
 record Faults (s : List ℕ) {A : Type 0} (x : Read A) : Type 0 where
-  located : {f : Fault} → x ≡ bad f → Located s f
+  located : {f : Fault} → x ≡ Err f → Located s f
 
 module _ {s : List ℕ} where
-  none : {A : Type 0} (a : A) → Faults s (good a)
+  none : {A : Type 0} (a : A) → Faults s (Ok a)
   none a = record { located = λ e. absurd (never (sym e)) }
 
-  then : {A B : Type 0} (x : Read A) {k : A → Read B} → Faults s x → ((a : A) → x ≡ good a → Faults s (k a)) → Faults s (x >>= k)
+  then : {A B : Type 0} (x : Read A) {k : A → Read B} → Faults s x → ((a : A) → x ≡ Ok a → Faults s (k a)) → Faults s (x >>= k)
   unfolding ◌>>=◌
-  then (good a) p q = q a refl
-  then (bad e) p q = record { located = λ h. p.located (ap bad (bad_same h)) }
+  then (Ok a) p q = q a refl
+  then (Err e) p q = record { located = λ h. p.located (ap Err (bad_same h)) }
 
-  and : {B : Type 0} (x : Read Unit) {r : Read B} → Faults s x → (x ≡ good tt → Faults s r) → Faults s (x >> r)
+  and : {B : Type 0} (x : Read Unit) {r : Read B} → Faults s x → (x ≡ Ok tt → Faults s r) → Faults s (x >> r)
   unfolding ◌>>◌
-  and (good a) p q = q refl
-  and (bad e) p q = record { located = λ h. p.located (ap bad (bad_same h)) }
+  and (Ok a) p q = q refl
+  and (Err e) p q = record { located = λ h. p.located (ap Err (bad_same h)) }
 
   -- a test's fault
   test : (t : Bool) {e : Fault} → Located s e → Faults s (unless t e)
@@ -52,16 +49,15 @@ module _ {s : List ℕ} where
 
   -- a field that doesn't fit is no field's fault; one that is not below its limit is there
   there : (k at : ℕ) → Faults s (field k s at)
-  unfolding read_of_field
-  there k at = go (field_at k s at) refl
+  there k at = go (field k s at) refl
     where
-      go : (x : Field) → field_at k s at ≡ x → Faults s (read_of_field x)
-      go (Number n) e = none n
-      go (Refused f) e = record { located = λ h. of_no_field (ap (λ (g : Fault). g.offset) (sym (bad_same h) ∙ refused_short k s at e)) }
+      go : (x : Read ℕ) → field k s at ≡ x → Faults s x
+      go (Ok n) e = none n
+      go (Err f) e = record { located = λ h. of_no_field (ap (λ (g : Fault). g.offset) (sym (bad_same h) ∙ refused_short k s at e)) }
 
   limited : (k at limit : ℕ) {e : Fault} → (at + k ≤ length s → Located s e) → Faults s (below k s at limit e)
   unfolding below
-  limited k at limit l = then _ (there k at) (λ n e. and _ (test _ (l (value_inside k s at (field_good k s at e)))) (λ h. none n))
+  limited k at limit l = then _ (there k at) (λ n e. and _ (test _ (l (value_inside k s at e))) (λ h. none n))
 
 -- ---- the header
 
@@ -69,7 +65,7 @@ module _ (s : List ℕ) where
   only_faults : (at allowed : ℕ) → (at + 1 ≤ length s → FieldStart s at) → Faults s (only s at allowed)
   unfolding only
   only_faults at allowed starts =
-      then _ (there 1 at) (λ n e. let inside = value_inside 1 s at (field_good 1 s at e) in and _ (test _ (of_field (omega arith) (starts inside))) (λ h. none n))
+      then _ (there 1 at) (λ n e. let inside = value_inside 1 s at e in and _ (test _ (of_field (omega arith) (starts inside))) (λ h. none n))
 
   header_faults : Faults s (read_header s)
   unfolding read_header read_start read_count
@@ -83,7 +79,7 @@ module _ (s : List ℕ) where
       (λ h.
       then _
       (then _ (there 1 rows_count.at) (λ n e.
-      let inside = value_inside 1 s rows_count.at (field_good 1 s rows_count.at e) in
+      let inside = value_inside 1 s rows_count.at e in
       and _ (test _ (of_field (omega arith) at-start.row_count)) (λ h.
       and _ (test _ (of_field (omega arith) at-start.row_count)) (λ h. none n))))
       (λ f e. and _ (test _ (of_no_field refl)) (λ h. none f)))
@@ -133,5 +129,5 @@ formula_faults p s =
     then _ (rows_faults s p f (start formula_header) refl (omega (arith, (header_good s f e).long))) (λ rs e.
     and _ (test _ (of_no_field refl)) (λ used. none rs))))
 
-pub fault_located : (p : ℕ) (s : List ℕ) {f : Fault} → read_formula p s ≡ bad f → Located s f
+pub fault_located : (p : ℕ) (s : List ℕ) {f : Fault} → read_formula p s ≡ Err f → Located s f
 fault_located p s e = (formula_faults p s).located e

@@ -7,12 +7,12 @@ ghost use Rattle.syntax.specs.Format.{formula_length};
 ghost use Rattle.syntax.specs.Message as m;
 ghost use Rattle.kinds.specs.Kept.{listed};
 ghost use Rattle.formula.specs.Marked.{Marked};
-ghost use Rattle.formula.specs.Answers as answers;
+ghost use Rattle.formula.specs.Answers.{checked};
 
-use kinds::{Judged, Operands};
+use kinds::Operands;
 use refusal::{Fault, Refusal};
 use syntax::{HEADER, ROW};
-use wire::{Count, Field, Head, Opened, Width};
+use wire::{Count, Head, Width};
 
 // The start of a formula message, and its count.
 const HEAD: Head = Head {
@@ -39,50 +39,17 @@ const MISUSED: Fault = Fault {
     offset: 0,
 };
 
-// How many rows an accepted message has, or its first fault.
-#[derive(Clone, Copy)]
-pub enum Checked {
-    Formula(u32),
-    Refused(Fault),
-}
-
-impl Checked {
-    // The number that the paper gives the answer.
-    pub fn number(self) -> u8
-        ensures { result ≡ answers.checked_number self }
-    {
-        match self {
-            Checked::Formula(_) => 0,
-            Checked::Refused(e) => e.number(),
-        }
-    }
-
-    // Where in the message the field starts that was found wrong, and 0 where none was.
-    pub fn offset(self) -> usize
-        ensures { result ≡ answers.checked_offset self }
-    {
-        match self {
-            Checked::Formula(_) => 0,
-            Checked::Refused(e) => e.offset,
-        }
-    }
-}
-
 // The header, and that the message is as long as its count says.
-fn header(s: &[u8]) -> Checked
-    ensures { result ≡ answers.counted (m.read_header s.now) }
+#[tactic(auto, using(wire::proofs::Reading::reading), unfolding(syntax::specs::Message::read_header))]
+fn header(s: &[u8]) -> Result<u32, Fault>
+    ensures { result ≡ m.read_header s.now }
 {
-    if let Opened::Refused(e) = wire::open(s, HEAD) {
-        return Checked::Refused(e);
+    wire::open(s, HEAD)?;
+    let rows = wire::read_count(s, ROWS)?;
+    if s.len() != HEADER + (rows as usize) * ROW {
+        return Err(wire::SHORT);
     }
-    let count = wire::read_count(s, ROWS);
-    let Field::Number(f) = count else {
-        return Checked::Refused(count.fault());
-    };
-    if s.len() != HEADER + (f as usize) * ROW {
-        return Checked::Refused(wire::SHORT);
-    }
-    Checked::Formula(f)
+    Ok(rows)
 }
 
 // How many uses rows make of others, and which rows were used: row i is bit i of one number, which stays in a register.
@@ -92,73 +59,64 @@ struct Uses {
     rows: u64,
 }
 
-// One use more of a row, whose bit is set.
-fn count_use(row: u32, uses: Uses) -> Uses
-    requires { (row < 64) × (uses.total < 256) }
-    ensures total_value { result.total ≡ uses.total + 1 }
-    ensures by_index { (ls : List ℕ) → Marked uses ls → Marked result (ls ++ (row ∷ [])) }
-{
-    Uses {
-        total: uses.total + 1,
-        rows: uses.rows | (1u64 << row),
+impl Uses {
+    // One use more of a row, whose bit is set.
+    fn one_more(self, row: u32) -> Uses
+        requires { (row < 64) × (self.total < 256) }
+        ensures total_value { result.total ≡ self.total + 1 }
+        ensures row_marked { (ls : List ℕ) → Marked self ls → Marked result (ls ++ (row ∷ [])) }
+    {
+        Uses {
+            total: self.total + 1,
+            rows: self.rows | (1u64 << row),
+        }
     }
-}
 
-// The uses that a row makes of others.
-fn count_row(row: Operands, uses: Uses) -> Uses
-    requires { ((l : ℕ) → l ∈ listed row → l < 64) × (uses.total < 255) }
-    ensures { (ls : List ℕ) → Marked uses ls → Marked result (ls ++ listed row) }
-{
-    match row {
-        Operands::None => uses,
-        Operands::One(l) => count_use(l, uses),
-        Operands::Both(l, r) => {
-            let first = count_use(l, uses);
-            count_use(r, first)
+    // Those that a row makes of others besides.
+    fn of_row(self, row: Operands) -> Uses
+        requires { ((l : ℕ) → l ∈ listed row → l < 64) × (self.total < 255) }
+        ensures { (ls : List ℕ) → Marked self ls → Marked result (ls ++ listed row) }
+    {
+        match row {
+            Operands::None => self,
+            Operands::One(l) => self.one_more(l),
+            Operands::Both(l, r) => self.one_more(l).one_more(r),
         }
     }
 }
 
 // The f rows, and how often each is an operand: every one but the last exactly once, so that f - 1 uses are made and these rows are all used.
 // The header has fixed the length, so each row is a part of the message.
-fn all_rows(s: &[u8], p: u32, f: u32) -> Checked
+fn all_rows(s: &[u8], p: u32, f: u32) -> Result<u32, Fault>
     requires { (length s.now ≡ formula_length f) × (1 ≤ f) × (f ≤ 64) }
-    ensures { result ≡ answers.checked (m.read_rows s.now p f) }
+    ensures { result ≡ checked (m.read_rows s.now p f) }
 {
     let mut at = HEADER;
-    let mut place = 0;
     let mut uses = Uses { total: 0, rows: 0 };
-    while place < f {
+    for place in 0..f {
         let end = at + ROW;
-        let row = match operands::read_row(&s[at..end], at, p, place) {
-            Judged::Fine(row) => row,
-            Judged::Refused(e) => return Checked::Refused(e),
-        };
-        uses = count_row(row, uses);
+        let row = operands::read_row(&s[at..end], at, p, place)?;
+        uses = uses.of_row(row);
         at = end;
-        place += 1;
     }
     if uses.total + 1 != f {
-        return Checked::Refused(MISUSED);
+        return Err(MISUSED);
     }
     if uses.rows + 1 == (1u64 << (f - 1)) {
-        return Checked::Formula(f);
+        return Ok(f);
     }
-    Checked::Refused(MISUSED)
+    Err(MISUSED)
 }
 
 // A whole formula message, with the number of propositions it may name: how many rows it has, or its first fault. The message is named
 // anew at the start, all of it: where a slice is used in every call a compiler hands its place and length over in registers, else in memory.
-pub fn check(s: &[u8], p: u32) -> Checked
-    ensures { result ≡ answers.checked (m.read_formula p s.now) }
+pub fn check(s: &[u8], p: u32) -> Result<u32, Fault>
+    ensures { result ≡ checked (m.read_formula p s.now) }
 {
     let whole = &s[0..s.len()];
     if 32 < p {
-        return Checked::Refused(TOO_LARGE);
+        return Err(TOO_LARGE);
     }
-    let head = header(whole);
-    let Checked::Formula(f) = head else {
-        return head;
-    };
-    all_rows(whole, p, f)
+    let rows = header(whole)?;
+    all_rows(whole, p, rows)
 }

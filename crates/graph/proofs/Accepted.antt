@@ -5,21 +5,21 @@ use mathlib.Core.Path.{◌≡◌, refl, sym, ap, subst, ◌∙◌}
 use lib.ListN.{length}
 use native.Mathlib.Omega.{arith}
 use Rattle.wire.specs.Bytes.{number}
-use Rattle.wire.specs.Read.{good}
+use Rattle.wire.specs.Read.{Ok}
 use Rattle.wire.specs.Layout.{items, Sound}
 use Rattle.wire.proofs.Fields.{value_inside, value_is}
 use Rattle.wire.proofs.Layouts.{Reads, reads_all}
 use Rattle.rules.specs.Graph.{Graph, Hyper, Cover, Target}
 use Rattle.wire.specs.declared.State.{State}
 use Rattle.value.specs.Coded.{bound_of}
-use Rattle.wire.specs.Step.{start}
+use Rattle.wire.specs.Begin.{start}
 use Rattle.graph.specs.Format.{graph_header, target_count_at, hyper_width, node_at, target_width, cover_bound_at, cover_target_at}
 use Rattle.graph.specs.Message.{read_target, read_hyper, read_cover, read_graph, targets, hypers, covers, first_target}
 use Rattle.graph.specs.Layouts.{target_layout, hyper_layout, cover_layout, decoded, Scannable}
 use Rattle.graph.proofs.Good.{target_good, hyper_good, cover_good, graph_good}
 
 module _ (s : List ℕ) (n : ℕ) where
-  targets_read : (st : State) (t : Target) → read_target s n st ≡ good t → Reads (target_layout s n) (targets s n) st t
+  targets_read : (st : State) (t : Target) → read_target s n st ≡ Ok t → Reads (target_layout s n) (targets s n) st t
   targets_read st t e =
       let g = target_good s n st t e in
       let w : number 4 s st.at ≡ t.weight = value_is 4 s _ g.weight_there in
@@ -30,7 +30,7 @@ module _ (s : List ℕ) (n : ℕ) where
         ok = record { inside = omega (arith, value_inside 2 s (st.at + node_at) g.node_there); named = rw v g.named };
       }
 
-  pub hypers_read : (st : State) (h : Hyper) → read_hyper s n st ≡ good h → Reads (hyper_layout s n) (hypers s n) st h
+  pub hypers_read : (st : State) (h : Hyper) → read_hyper s n st ≡ Ok h → Reads (hyper_layout s n) (hypers s n) st h
   hypers_read st h e =
       let g = hyper_good s n st h e in
       let source : number 2 s st.at ≡ h.source = value_is 2 s _ g.source_there in
@@ -46,7 +46,7 @@ module _ (s : List ℕ) (n : ℕ) where
         };
       }
 
-  pub covers_read : (st : State) (c : Cover) → read_cover s n st ≡ good c → Reads (cover_layout s n) (covers s n) st c
+  pub covers_read : (st : State) (c : Cover) → read_cover s n st ≡ Ok c → Reads (cover_layout s n) (covers s n) st c
   covers_read st c e =
       let g = cover_good s n st c e in
       let source : number 2 s st.at ≡ c.source = value_is 2 s _ g.source_there in
@@ -67,7 +67,7 @@ pub record Holds (s : List ℕ) (g : Graph) (n h c : ℕ) : Type 0 where
   pub is : g ≡ decoded s n h c
   pub sound : Scannable s n h c
 
-pub accepted_holds : (s : List ℕ) (g : Graph) → read_graph s ≡ good g → Holds s g g.nodes (length g.hypers) (length g.covers)
+pub accepted_holds : (s : List ℕ) (g : Graph) → read_graph s ≡ Ok g → Holds s g g.nodes (length g.hypers) (length g.covers)
 unfolding decoded
 accepted_holds s g e =
     let p = graph_good {s = s} {g = g} e in

@@ -9,7 +9,7 @@ use borrow.Author.Tests.{le-leb, eq-eqb}
 use Rattle.lists.specs.Lists.{◌∈◌}
 use Rattle.wire.specs.Start.{start_width}
 use Rattle.wire.specs.Bytes.{bytes, Bytes}
-use Rattle.wire.specs.Read.{good, field}
+use Rattle.wire.specs.Read.{Ok, field}
 use Rattle.wire.specs.Reader.{past}
 use Rattle.wire.specs.Write.{write_all, message}
 use Rattle.wire.proofs.Bytes.{length_bytes}
@@ -20,7 +20,7 @@ use Rattle.wire.proofs.Exact.{good_bind, good_after, good_demand, length_write_a
 use Rattle.rules.specs.Graph.{Graph, Hyper, Cover, Target}
 use Rattle.wire.specs.declared.State.{State}
 use Rattle.value.specs.Coded.{code_of, Sayable}
-use Rattle.wire.specs.Step.{start}
+use Rattle.wire.specs.Begin.{start}
 use Rattle.graph.specs.Format.{graph_header, graph_head, nodes_count, hypers_count, covers_count, most_targets, target_count_at, hyper_width, node_at, target_width, cover_bound_at, cover_target_at, cover_width}
 use Rattle.graph.specs.Message.{read_target, read_targets, read_hyper, read_cover, read_header, read_graph, targets, hypers, covers, first_target}
 use Rattle.graph.specs.Write.{write_target, write_hyper, write_cover, write_counts, write_body, write_graph}
@@ -79,8 +79,8 @@ module _ (s : List ℕ) (n : ℕ) (small : n ≤ 65536) where
         let v = value_stands 2 b g.node_there in
         (stands_both (simp length_bytes) w.0 v.0, record { weight_fits = w.1; named = g.named });
     written = λ st t h f.
-        let weight_there : field 4 s st.at ≡ good t.weight = stands_field 4 (omega arith) (stands_first _ _ h) f.weight_fits in
-        let node_there : field 2 s (st.at + node_at) ≡ good t.node =
+        let weight_there : field 4 s st.at ≡ Ok t.weight = stands_field 4 (omega arith) (stands_first _ _ h) f.weight_fits in
+        let node_there : field 2 s (st.at + node_at) ≡ Ok t.node =
         stands_field 2 (omega arith) (stands_second (bytes 4 t.weight) _ (simp length_bytes) h) (omega arith) in
         good_bind _ weight_there (good_bind _ (good_below 2 s (st.at + node_at) n _ node_there f.named) refl);
     moves = λ st t. rw target_length;
@@ -104,8 +104,8 @@ module _ (s : List ℕ) (n : ℕ) (small : n ≤ 65536) where
         let count : ℕ = length h.targets in
         let fixed : Stands s st.at (bytes 2 h.source ++ bytes 2 count) = stands_first _ _ stands in
         let inside = rw hyper_length at (stands_inside stands (rw hyper_length (omega arith))) in
-        let source_there : field 2 s st.at ≡ good h.source = stands_field 2 (omega arith) (stands_first _ _ fixed) (omega arith) in
-        let count_there : field 2 s (st.at + target_count_at) ≡ good count =
+        let source_there : field 2 s st.at ≡ Ok h.source = stands_field 2 (omega arith) (stands_first _ _ fixed) (omega arith) in
+        let count_there : field 2 s (st.at + target_count_at) ≡ Ok count =
         stands_field 2 (omega arith) (stands_second (bytes 2 h.source) _ (simp length_bytes) fixed) (omega arith) in
         let targets_stand : Stands s (st.at + hyper_width) (write_all write_target h.targets) =
         stands_second (bytes 2 h.source ++ bytes 2 count) _ (simp (length-append, length_bytes) (omega arith)) stands in
@@ -136,10 +136,10 @@ module _ (s : List ℕ) (n : ℕ) (small : n ≤ 65536) where
         );
     written = λ st c stands f.
         let front : Stands s st.at (bytes 2 c.source ++ bytes 4 (code_of c.bound)) = stands_first _ _ stands in
-        let source_there : field 2 s st.at ≡ good c.source = stands_field 2 (omega arith) (stands_first _ _ front) (omega arith) in
-        let bound_there : field 4 s (st.at + cover_bound_at) ≡ good (code_of c.bound) =
+        let source_there : field 2 s st.at ≡ Ok c.source = stands_field 2 (omega arith) (stands_first _ _ front) (omega arith) in
+        let bound_there : field 4 s (st.at + cover_bound_at) ≡ Ok (code_of c.bound) =
         stands_field 4 (omega arith) (stands_second (bytes 2 c.source) _ (simp length_bytes) front) (code_fits c.bound f.1.sayable) in
-        let target_there : field 2 s (st.at + cover_target_at) ≡ good c.target =
+        let target_there : field 2 s (st.at + cover_target_at) ≡ Ok c.target =
         stands_field 2 (omega arith) (stands_second (bytes 2 c.source ++ bytes 4 (code_of c.bound)) _ (simp (length-append, length_bytes) (omega arith)) stands) (omega arith) in
         let inside = rw cover_length at (stands_inside stands (rw cover_length (omega arith))) in
         good_demand _ (le-leb (st.at + cover_width) (length s) (omega arith))
@@ -205,7 +205,7 @@ body_laid {s} g h =
     }
 
 -- parts that a good message has make it good
-good_graph : {s : List ℕ} (g : Graph) → GraphAt s g → read_graph s ≡ good g
+good_graph : {s : List ℕ} (g : Graph) → GraphAt s g → read_graph s ≡ Ok g
 unfolding read_graph
 good_graph g p =
     good_bind _ p.header (good_bind _ p.hypers_there (good_bind _ p.covers_there (good_demand _ (eq-eqb _ _ p.ends) refl)))
@@ -263,7 +263,7 @@ module _ (s : List ℕ) (g : Graph) (w : WellFormed g) where
         sayable = w.bounds_fit m;
       }))
 
-pub accepted_written : (s : List ℕ) (g : Graph) → Bytes s → read_graph s ≡ good g → (s ≡ write_graph g) × WellFormed g
+pub accepted_written : (s : List ℕ) (g : Graph) → Bytes s → read_graph s ≡ Ok g → (s ≡ write_graph g) × WellFormed g
 unfolding write_graph
 accepted_written s g b e =
     let p = graph_good {s = s} {g = g} e in
@@ -285,7 +285,7 @@ accepted_written s g b e =
     let rest : drop start_width s ≡ write_body g = stands_last body (omega (arith, body_length g, p.ends)) in
     (started.whole ∙ ap (message graph_head) rest, fits_well header hs.1 cs.1)
 
-pub written_accepted : (g : Graph) → WellFormed g → read_graph (write_graph g) ≡ good g
+pub written_accepted : (g : Graph) → WellFormed g → read_graph (write_graph g) ≡ Ok g
 unfolding read_header write_graph
 written_accepted g w =
     let s : List ℕ = message graph_head (write_body g) in
@@ -308,7 +308,7 @@ written_accepted g w =
       ends = rw message_length (omega (arith, all_moves C (start at) g.covers));
     })
 
-pub accepted_exactly : (s : List ℕ) (g : Graph) → Bytes s → (read_graph s ≡ good g) ↔ ((s ≡ write_graph g) × WellFormed g)
+pub accepted_exactly : (s : List ℕ) (g : Graph) → Bytes s → (read_graph s ≡ Ok g) ↔ ((s ≡ write_graph g) × WellFormed g)
 accepted_exactly s g b = (accepted_written s g b, λ p. ap read_graph p.0 ∙ written_accepted g p.1)
 
 -- two well-formed graphs are never written alike

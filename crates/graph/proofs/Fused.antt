@@ -6,12 +6,12 @@ use lib.ListN.{length}
 use borrow.Author.Tests.{le-leb}
 use native.Mathlib.Omega.{arith}
 use Rattle.wire.specs.Bytes.{number}
-use Rattle.wire.specs.Read.{good, field}
+use Rattle.wire.specs.Read.{Ok}
 use Rattle.wire.specs.Reader.{read_all, one}
 use Rattle.wire.specs.Layout.{items, Sound, more}
 use Rattle.wire.specs.declared.State.{State}
 use Rattle.wire.proofs.Fields.{field_value}
-use Rattle.wire.proofs.Reading.{bind_good, there, good_below, good_source}
+use Rattle.wire.proofs.Reading.{bind_good, good_below, good_source}
 use Rattle.wire.proofs.Layouts.{items_length}
 use Rattle.wire.proofs.Exact.{good_bind, good_demand}
 use Rattle.graph.specs.Format.{most_targets, target_count_at, hyper_width, node_at, target_width, cover_bound_at, cover_target_at, cover_width}
@@ -21,19 +21,15 @@ use Rattle.graph.proofs.Good.{hyper_good, cover_good}
 use Rattle.graph.proofs.Accepted.{hypers_read, covers_read}
 use Rattle.wire.proofs.Fields.{value_is}
 
--- a field that fits is there
-field_there : (k : ℕ) (s : List ℕ) (at : ℕ) → at + k ≤ length s → field k s at ≡ good (number k s at)
-field_there k s at h = rw (field_value k s at h) (there _)
-
 module _ (s : List ℕ) (n : ℕ) where
   -- sound targets are read
-  targets_read : (k : ℕ) (st : State) → Sound (target_layout s n) k st.at → read_all (targets s n) k st ≡ good (items (target_layout s n) k st.at)
+  targets_read : (k : ℕ) (st : State) → Sound (target_layout s n) k st.at → read_all (targets s n) k st ≡ Ok (items (target_layout s n) k st.at)
   unfolding read_all items read_target
   targets_read zero st sound = refl
   targets_read (suc k) st (more ok rest) =
       good_bind _
-      (good_bind _ (field_there 4 s st.at (omega (arith, ok.inside)))
-      (good_bind _ (good_below 2 s (st.at + node_at) n _ (field_there 2 s (st.at + node_at) (omega (arith, ok.inside))) ok.named) refl))
+      (good_bind _ (field_value 4 s st.at (omega (arith, ok.inside)))
+      (good_bind _ (good_below 2 s (st.at + node_at) n _ (field_value 2 s (st.at + node_at) (omega (arith, ok.inside))) ok.named) refl))
       (good_bind _ (targets_read k _ rest) refl)
 
   -- what the reading of a hyperedge asks
@@ -43,21 +39,21 @@ module _ (s : List ℕ) (n : ℕ) where
     pub few : st.seen + number 2 s (st.at + target_count_at) ≤ most_targets
     pub inside : st.at + hyper_width + number 2 s (st.at + target_count_at) * target_width ≤ length s
 
-  pub hyper_reads : (st : State) → HyperFits st → one (hypers s n) st ≡ good (after_hyper st (number 2 s st.at) (number 2 s (st.at + target_count_at)))
+  pub hyper_reads : (st : State) → HyperFits st → one (hypers s n) st ≡ Ok (after_hyper st (number 2 s st.at) (number 2 s (st.at + target_count_at)))
   unfolding read_hyper read_targets
   hyper_reads st f =
       let ok = f.ok in
       let count = number 2 s (st.at + target_count_at) in
       good_bind _
       (good_demand _ (le-leb (st.at + hyper_width) (length s) ok.inside)
-      (good_bind _ (good_source s st.at n st.prev st.at (field_there 2 s st.at (omega (arith, ok.inside))) ok.named f.ordered)
-      (good_bind _ (field_there 2 s (st.at + target_count_at) (omega (arith, ok.inside)))
+      (good_bind _ (good_source s st.at n st.prev st.at (field_value 2 s st.at (omega (arith, ok.inside))) ok.named f.ordered)
+      (good_bind _ (field_value 2 s (st.at + target_count_at) (omega (arith, ok.inside)))
       (good_demand _ (le-leb (st.seen + count) most_targets f.few)
       (good_demand _ (le-leb (st.at + hyper_width + count * target_width) (length s) f.inside)
       (good_bind _ (targets_read count (first_target st) ok.sound) refl))))))
-      (ap (λ (k : ℕ). good (after_hyper st (number 2 s st.at) k)) (items_length (target_layout s n) count (st.at + hyper_width)))
+      (ap (λ (k : ℕ). Ok (after_hyper st (number 2 s st.at) k)) (items_length (target_layout s n) count (st.at + hyper_width)))
 
-  pub hyper_fits : (st : State) {next : State} → one (hypers s n) st ≡ good next → HyperFits st
+  pub hyper_fits : (st : State) {next : State} → one (hypers s n) st ≡ Ok next → HyperFits st
   hyper_fits st e =
       let h = bind_good _ _ e in
       let g = hyper_good s n st h.value h.first in
@@ -75,18 +71,18 @@ module _ (s : List ℕ) (n : ℕ) where
     pub ok : CoverOk s n st.at
     pub ordered : st.prev ≤ number 2 s st.at
 
-  pub cover_reads : (st : State) → CoverFits st → one (covers s n) st ≡ good (record { at = st.at + cover_width; prev = number 2 s st.at; seen = st.seen })
+  pub cover_reads : (st : State) → CoverFits st → one (covers s n) st ≡ Ok (record { at = st.at + cover_width; prev = number 2 s st.at; seen = st.seen })
   unfolding read_cover
   cover_reads st f =
       let ok = f.ok in
       good_bind _
       (good_demand _ (le-leb (st.at + cover_width) (length s) ok.inside)
-      (good_bind _ (good_source s st.at n st.prev st.at (field_there 2 s st.at (omega (arith, ok.inside))) ok.named f.ordered)
-      (good_bind _ (field_there 4 s (st.at + cover_bound_at) (omega (arith, ok.inside)))
-      (good_bind _ (good_below 2 s (st.at + cover_target_at) n _ (field_there 2 s (st.at + cover_target_at) (omega (arith, ok.inside))) ok.target_named) refl))))
+      (good_bind _ (good_source s st.at n st.prev st.at (field_value 2 s st.at (omega (arith, ok.inside))) ok.named f.ordered)
+      (good_bind _ (field_value 4 s (st.at + cover_bound_at) (omega (arith, ok.inside)))
+      (good_bind _ (good_below 2 s (st.at + cover_target_at) n _ (field_value 2 s (st.at + cover_target_at) (omega (arith, ok.inside))) ok.target_named) refl))))
       refl
 
-  pub cover_fits : (st : State) {next : State} → one (covers s n) st ≡ good next → CoverFits st
+  pub cover_fits : (st : State) {next : State} → one (covers s n) st ≡ Ok next → CoverFits st
   cover_fits st e =
       let c = bind_good _ _ e in
       let g = cover_good s n st c.value c.first in

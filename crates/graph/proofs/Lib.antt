@@ -8,6 +8,7 @@
 --     Whole      the header, the hyperedges, the cover edges and nothing behind them are the whole reading
 --     Exact      accepted messages are exactly the writings of well-formed graphs
 --     Ready      an accepted message is ready to be worked on, and so is the writing of a well-formed graph
+--     Viewed     the cover edges of records, from where they stand
 --     Worst      the greatest weight plus value over targets, taken one by one
 --     Located    where a fault lies: a field starts there, nothing before it is to blame, and it can be mended
 --     One        one answer of each public function
@@ -20,6 +21,7 @@ pub mod Turns
 pub mod Whole
 pub mod Exact
 pub mod Ready
+pub mod Viewed
 pub mod Worst
 pub mod Located
 pub mod One

@@ -10,17 +10,18 @@ use native.Mathlib.Nat.{suc-add, zero-add}
 use native.Mathlib.Omega.{arith}
 use Rattle.lists.proofs.Tests.{by_test, and_left, and_right}
 use Rattle.wire.specs.Bytes.{number}
-use Rattle.wire.specs.Read.{good, misnamed}
+use Rattle.wire.specs.Read.{Ok, misnamed}
 use Rattle.wire.specs.Reader.{one, run}
-use Rattle.wire.specs.Step.{start}
+use Rattle.wire.specs.Begin.{start}
 use Rattle.wire.specs.declared.State.{State}
-use Rattle.wire.proofs.Reading.{reading, good_then, field_here, good_below, good_source}
+use Rattle.wire.proofs.Reading.{reading, good_then, good_below, good_source}
 use Rattle.wire.proofs.Readers.{run_more}
 use Rattle.ordered.specs.Ordered.{in_order}
 use Rattle.ordered.proofs.Ordered.{ReadsInOrder, in_order_runs}
 use Rattle.graph.specs.Format.{node_at, target_width, cover_bound_at, cover_target_at, cover_width}
 use Rattle.graph.specs.Message.{read_target, read_cover, targets, covers}
 use Rattle.graph.specs.Names.{four_width, fours, target_named, all_named, past_fours, covers_in_order, covers_to_end}
+use Rattle.wire.proofs.Fields.{field_value}
 
 -- both of two tests that pass together
 and_both : (a b : Bool) → (a && b) ≡ true → (a ≡ true) × (b ≡ true)
@@ -96,12 +97,12 @@ module _ (s : List ℕ) (n : ℕ) where
 
   -- a target that names a node is read
   target_read : (st : State) → st.at + target_width ≤ length s → number 2 s (st.at + node_at) < n
-      → one (targets s n) st ≡ good (record { at = st.at + target_width; prev = st.prev; seen = st.seen })
+      → one (targets s n) st ≡ Ok (record { at = st.at + target_width; prev = st.prev; seen = st.seen })
   unfolding read_target
   target_read st inside less =
-      let weight = field_here 4 s st.at (omega arith) in
+      let weight = field_value 4 s st.at (omega arith) in
       let node_here : ℕ = st.at + node_at in
-      let node = good_below 2 s node_here n (misnamed node_here) (field_here 2 s node_here (omega arith)) less in
+      let node = good_below 2 s node_here n (misnamed node_here) (field_value 2 s node_here (omega arith)) less in
       simp (weight, node, reading)
 
   -- so a run of k targets goes on behind j that name nodes
@@ -126,14 +127,14 @@ module _ (s : List ℕ) (n : ℕ) where
   cover_read : ReadsInOrder s n cover_target_at (covers s n)
   unfolding read_cover
   cover_read st inside rises less target-less =
-      let source = good_source s st.at n st.prev st.at (field_here 2 s st.at (omega arith)) less rises in
-      let bound = field_here 4 s (st.at + cover_bound_at) (omega arith) in
+      let source = good_source s st.at n st.prev st.at (field_value 2 s st.at (omega arith)) less rises in
+      let bound = field_value 4 s (st.at + cover_bound_at) (omega arith) in
       let target_at : ℕ = st.at + cover_target_at in
-      let target = good_below 2 s target_at n (misnamed target_at) (field_here 2 s target_at (omega arith)) target-less in
+      let target = good_below 2 s target_at n (misnamed target_at) (field_value 2 s target_at (omega arith)) target-less in
       simp (le-leb (st.at + cover_width) (length s) inside, source, bound, target, reading)
 
   -- so the message ends behind those that are in order
-  pub in_order_read : (c first : ℕ) → covers_in_order s n c first ≡ true → covers_to_end s n c first ≡ good tt
+  pub in_order_read : (c first : ℕ) → covers_in_order s n c first ≡ true → covers_to_end s n c first ≡ Ok tt
   unfolding covers_in_order
   in_order_read c first e =
       let parts = and_both (eqb (length s) (first + c * cover_width)) (in_order s n cover_target_at c 0 first) e in

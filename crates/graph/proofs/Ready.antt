@@ -8,15 +8,16 @@ use Rattle.lists.specs.Order.{Rising}
 use Rattle.value.specs.Value.{Value, ◌≼◌}
 use Rattle.value.proofs.Values.{≼-fin}
 use Rattle.wire.specs.Bytes.{Bytes, number}
-use Rattle.wire.specs.Read.{Read, good, bad}
+use Rattle.wire.specs.Read.{Ok}
 use Rattle.wire.proofs.Fields.{value_inside, value_is}
+use Rattle.wire.proofs.Reading.{bind_good, good_same}
 use Rattle.wire.proofs.Parts.{rising_climbs}
 use Rattle.rules.specs.Graph.{Graph, Hyper, Cover, Closed}
 use Rattle.rules.proofs.Size.{Light, value_bound}
 use Rattle.graph.specs.Format.{graph_header}
-use Rattle.graph.specs.declared.Checked.TheVariants as Checked
+use Rattle.graph.specs.declared.Counts.{Counts}
 use Rattle.graph.specs.Message.{read_graph}
-use Rattle.graph.specs.Answers.{checked}
+use Rattle.graph.specs.Answers.{counts_of, checked}
 use Rattle.graph.specs.WellFormed.{WellFormed}
 use Rattle.graph.specs.Write.{write_graph}
 use Rattle.graph.specs.Layouts.{hyper_layout, cover_layout, decoded}
@@ -33,7 +34,7 @@ rounds_fit g wf i v k l e =
     omega (arith, small, wf.nodes_fit)
 
 -- a well-formed graph that is read is ready, with its counts
-ready_with : (s : List ℕ) (g : Graph) → read_graph s ≡ good g → WellFormed g → Ready s g.nodes (length g.hypers) (length g.covers)
+ready_with : (s : List ℕ) (g : Graph) → read_graph s ≡ Ok g → WellFormed g → Ready s g.nodes (length g.hypers) (length g.covers)
 unfolding decoded
 ready_with s g r wf =
     let n = g.nodes in
@@ -50,26 +51,17 @@ ready_with s g r wf =
 
 -- a message that is checked as a graph of these counts
 pub record Begin (s : List ℕ) (n h c : ℕ) : Type 0 where
-  pub reads : read_graph s ≡ good (decoded s n h c)
+  pub reads : read_graph s ≡ Ok (decoded s n h c)
   pub ready : Ready s n h c
 
-pub begin : (s : List ℕ) {n h c t : ℕ} → Bytes s → checked (read_graph s) ≡ Checked.Graph n h c t → Begin s n h c
+pub begin : (s : List ℕ) {k : Counts} → Bytes s → checked (read_graph s) ≡ Ok k → Begin s k.nodes k.hypers k.covers
 unfolding checked
-begin s {n} {h} {c} {t} bytes e = go (read_graph s) refl e
-  where
-    go : (x : Read Graph) → read_graph s ≡ x → checked x ≡ Checked.Graph n h c t → Begin s n h c
-    go (bad f) r e = let z : ◌≡◌ {A = ℕ} 0 1 = cc in absurd (omega arith)
-    go (good g) r e =
-        let nodes : g.nodes ≡ n = cc in
-        let hypers : length g.hypers ≡ h = cc in
-        let covers : length g.covers ≡ c = cc in
-        let held = accepted_holds s g r in
-        let wf = (accepted_written s g bytes r).1 in
-        let base : Begin s g.nodes (length g.hypers) (length g.covers) = record {
-          reads = r ∙ ap good held.is;
-          ready = ready_with s g r wf;
-        } in
-        rw (nodes, hypers, covers) at base
+begin s bytes e =
+    let g = bind_good _ _ e in
+    let held = accepted_holds s g.value g.first in
+    let wf = (accepted_written s g.value bytes g.first).1 in
+    let is : counts_of g.value ≡ _ = good_same g.rest in
+    subst (λ (k : Counts). Begin s k.nodes k.hypers k.covers) is (record { reads = g.first ∙ ap Ok held.is; ready = ready_with s g.value g.first wf })
 
 -- bytes that a well-formed graph is written as hold it with the counts of their header, and are ready
 pub record Written (s : List ℕ) (g : Graph) (n h c : ℕ) : Type 0 where
@@ -78,7 +70,7 @@ pub record Written (s : List ℕ) (g : Graph) (n h c : ℕ) : Type 0 where
   pub ready : Ready s n h c
 
 module _ (s : List ℕ) (g : Graph) (wf : WellFormed g) (e : s ≡ write_graph g) where
-  accepted : read_graph s ≡ good g
+  accepted : read_graph s ≡ Ok g
   accepted = ap read_graph e ∙ written_accepted g wf
 
   header : HeaderAt s (counts g)

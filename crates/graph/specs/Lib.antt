@@ -1,5 +1,5 @@
 -- Definitions: what a graph message holds, the messages of graphs, which graphs are well-formed, the answer of the check, what work on an accepted
--- message relies on, tests of many records at once, and where a fault can lie.
+-- message relies on (and that it has one proof at most), the graph that a value of `view` holds, tests of many records at once, and where a fault can lie.
 pub mod Stored
 pub mod Format
 pub mod Message
@@ -8,5 +8,7 @@ pub mod WellFormed
 pub mod Answers
 pub mod Layouts
 pub mod Ready
+pub mod Single
+pub mod Viewed
 pub mod Names
 pub mod Located

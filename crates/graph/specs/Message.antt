@@ -3,14 +3,15 @@
 use Rattle.std.specs.Prelude.{ℕ, ◌+◌, ◌*◌, List, length, leb, eqb}
 use Rattle.refusal.specs.declared.Refusal.TheVariants.{Length, Limit}
 use Rattle.refusal.specs.Number.{nowhere}
-use Rattle.wire.specs.Read.{Read, good, ◌>>=◌, ◌>>◌, demand, field, named, source}
+use Rattle.wire.specs.Read.{Read, Ok, ◌>>=◌, ◌>>◌, demand, field, named, source}
 use Rattle.wire.specs.Reader.{Reader, read_all, past}
 use Rattle.wire.specs.Start.{read_start}
 use Rattle.wire.specs.Counts.{read_count}
-use Rattle.wire.specs.Step.{start}
+use Rattle.wire.specs.Begin.{start}
 use Rattle.rules.specs.Graph.{Hyper, Cover, Target}
 use Rattle.value.specs.Coded.{bound_of}
 use Rattle.wire.specs.declared.State.{State}
+use Rattle.graph.specs.declared.Counts.{Counts}
 use Rattle.graph.specs.Format.{graph_header, graph_head, nodes_count, hypers_count, covers_count, most_targets, target_count_at, hyper_width, node_at, target_width, cover_bound_at, cover_target_at, cover_width}
 use Rattle.graph.specs.Stored.{StoredGraph}
 
@@ -28,7 +29,7 @@ module _ (s : List ℕ) (n : ℕ) where
   read_target st = do
     weight ← field 4 s st.at
     node ← named 2 s (st.at + node_at) n
-    good (record { weight = weight; node = node })
+    Ok (record { weight = weight; node = node })
 
   -- the targets of a hyperedge, one behind another
   abbrev pub targets : Reader State Target
@@ -44,7 +45,7 @@ module _ (s : List ℕ) (n : ℕ) where
     demand (leb (st.seen + count) most_targets) Limit (st.at + target_count_at)
     demand (leb (st.at + hyper_width + count * target_width) (length s)) Length nowhere
     ts ← read_all targets count (first_target st)
-    good (record { source = source; targets = ts })
+    Ok (record { source = source; targets = ts })
 
   -- a hyperedge: its fixed bytes fit; source (2), target count (2), and its targets
   unfoldable pub read_hyper : State → Read Hyper
@@ -64,7 +65,7 @@ module _ (s : List ℕ) (n : ℕ) where
 
   -- the state past the targets of a hyperedge
   abbrev pub after_targets : State → ℕ → ℕ → Read State
-  after_targets st source count = read_targets st source count >>= λ h. good (hypers.next st h)
+  after_targets st source count = read_targets st source count >>= λ h. Ok (hypers.next st h)
 
   -- a cover edge: its bytes fit; source (2), bound (4), target (2)
   unfoldable pub read_cover : State → Read Cover
@@ -73,7 +74,7 @@ module _ (s : List ℕ) (n : ℕ) where
     v ← source s st.at n st.prev
     bound ← field 4 s (st.at + cover_bound_at)
     target ← named 2 s (st.at + cover_target_at) n
-    good (record { source = v; bound = bound_of bound; target = target })
+    Ok (record { source = v; bound = bound_of bound; target = target })
 
   -- the cover edges, one behind another
   abbrev pub covers : Reader State Cover
@@ -83,28 +84,22 @@ module _ (s : List ℕ) (n : ℕ) where
     next = λ st c. record { at = st.at + cover_width; prev = c.source; seen = st.seen };
   }
 
--- the counts of a header
-pub record Counts : Type 0 where
-  pub n : ℕ
-  pub h : ℕ
-  pub c : ℕ
-
--- the header: its start, then n, h, c
+-- the header: its start, then n, h, c; of targets it tells none
 unfoldable pub read_header : List ℕ → Read Counts
 read_header s = do
   read_start s graph_head
   n ← read_count s nodes_count
   h ← read_count s hypers_count
   c ← read_count s covers_count
-  good (record { n = n; h = h; c = c })
+  Ok (record { nodes = n; hypers = h; covers = c; targets = 0 })
 
 -- a whole message: the header, the hyperedges, the cover edges, and nothing left over
 unfoldable pub read_graph : List ℕ → Read StoredGraph
 read_graph s = do
   counts ← read_header s
-  hs ← read_all (hypers s counts.n) counts.h (start graph_header)
-  let middle = (past (hypers s counts.n) (start graph_header) hs).at
-  cs ← read_all (covers s counts.n) counts.c (start middle)
-  let end = (past (covers s counts.n) (start middle) cs).at
+  hs ← read_all (hypers s counts.nodes) counts.hypers (start graph_header)
+  let middle = (past (hypers s counts.nodes) (start graph_header) hs).at
+  cs ← read_all (covers s counts.nodes) counts.covers (start middle)
+  let end = (past (covers s counts.nodes) (start middle) cs).at
   demand (eqb end (length s)) Length nowhere
-  good (record { nodes = counts.n; hypers = hs; covers = cs })
+  Ok (record { nodes = counts.nodes; hypers = hs; covers = cs })

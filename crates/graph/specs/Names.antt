@@ -5,7 +5,7 @@ use Rattle.refusal.specs.Number.{nowhere}
 use Rattle.wire.specs.Bytes.{number}
 use Rattle.wire.specs.Read.{Read, ◌>>=◌, demand}
 use Rattle.wire.specs.Reader.{run}
-use Rattle.wire.specs.Step.{start}
+use Rattle.wire.specs.Begin.{start}
 use Rattle.ordered.specs.Ordered.{in_order}
 use Rattle.graph.specs.Format.{node_at, target_width, cover_target_at, cover_width}
 use Rattle.graph.specs.Message.{covers}

@@ -1,17 +1,30 @@
--- The halves of a room: their numbers, where they are the same, clearing, and bringing the first up to the second. Assumes nothing.
+-- The halves of a room: their numbers, where they are the same, and bringing the first up to the second. Assumes nothing.
 use Prim.Native.Nat.{ℕ, ◌+◌, ◌-◌, ◌<◌, ◌≤◌}
 use mathlib.Core.List.{List}
-use mathlib.Core.Path.{◌≡◌, refl, sym, ap, ◌∙◌}
+use mathlib.Core.Path.{◌≡◌, refl, sym, ◌∙◌}
 use lib.ListN.{length, get_or, set, drop, length-set}
-use lib.Seq.{drop-set-lt, drop-drop, get_or-set_same, get_or-set_other, get_or-take, get_or-drop}
+use lib.Seq.{drop-set-lt, get_or-set_same, get_or-set_other, get_or-take, get_or-drop}
 use native.Mathlib.Decide.{ℕ_discrete, dec_lt}
 use native.Mathlib.Omega.{arith}
-use Rattle.value.specs.Stored.{infinite}
-use Rattle.halves.specs.Room.{half, Cleared, Raised, Alike, Level, Same, Beside}
+use Rattle.halves.specs.Room.{half, Raised, Alike, Level, Same, Beside}
 
 -- the numbers of a half
 pub half_at : (n from : ℕ) (b : List ℕ) (v : ℕ) → v < n → get_or (half n from b) v 0 ≡ get_or b (from + v) 0
 half_at n from b v l = get_or-take n (drop from b) v 0 l ∙ get_or-drop from b v 0
+
+-- one more behind those that are the same; and all of them counted from the first
+pub level_one : (n from i : ℕ) (b : List ℕ) → Level n from i b → get_or b i 0 ≡ get_or b (n + i) 0 → Level n from (i + 1) b
+level_one n from i b below here v l h = go (ℕ_discrete v i)
+  where
+    go : Dec (v ≡ i) → get_or b v 0 ≡ get_or b (n + v) 0
+    go (yes e) = rw e here
+    go (no e) = below v l (omega arith)
+
+pub level_alike : (n at k : ℕ) (b : List ℕ) → Level n at (at + k) b → Alike n at k b
+level_alike n at k b same v h = same (at + v) (omega arith) (omega arith)
+
+pub alike_level : (n at k : ℕ) (b : List ℕ) → Alike n at k b → Level n at (at + k) b
+alike_level n at k b same v l h = let e : at + (v - at) ≡ v = omega arith in rw e at (same (v - at) (omega arith))
 
 -- k more behind those that are the same; and where no more can differ
 pub level_more : {from : ℕ} (n i k : ℕ) (b : List ℕ) → Level n from i b → Alike n i k b → Level n from (i + k) b
@@ -28,21 +41,6 @@ same_all {n} {lo} {hi} {b} inside beside v l = go (dec_lt v lo) (dec_lt v hi)
     go (yes m) q = beside.before v m l
     go (no m) (yes q) = inside v (omega arith) q
     go (no m) (no q) = beside.behind v (omega arith) l
-
--- clearing one number after another
-pub cleared_none : {b : List ℕ} → Cleared 0 b b
-cleared_none = record { same_length = refl; cleared = λ v h. absurd (omega arith); rest = refl }
-
-pub cleared_more : {i : ℕ} {b₀ b : List ℕ} → Cleared i b₀ b → i < length b₀ → Cleared (i + 1) b₀ (set b i infinite)
-cleared_more {i} {b₀} {b} c h = record {
-  same_length = length-set b i infinite ∙ c.same_length;
-  cleared = λ v l. at v l (ℕ_discrete v i);
-  rest = drop-set-lt (i + 1) b i infinite (omega arith) ∙ sym (drop-drop 1 i b) ∙ ap (drop 1) c.rest ∙ drop-drop 1 i b₀;
-}
-  where
-    at : (v : ℕ) → v < i + 1 → Dec (v ≡ i) → get_or (set b i infinite) v 0 ≡ infinite
-    at v l (yes e) = rw e (get_or-set_same b i infinite 0 (omega (arith, c.same_length)))
-    at v l (no e) = get_or-set_other b i v infinite 0 e ∙ c.cleared v (omega arith)
 
 -- the first half: none, k more that are the same, and one more
 pub raised_none : {n : ℕ} {b : List ℕ} → Raised n 0 b b

@@ -11,11 +11,7 @@ pub fn clear(k: usize, room: &mut [u64])
     requires { k ≤ length room.old }
     ensures { Cleared k room.old room.new }
 {
-    let mut i = 0;
-    while i < k {
-        room[i] = Value::INFINITE.0;
-        i += 1;
-    }
+    room[..k].fill(Value::INFINITE.0);
 }
 
 // Brings the first half up to the second.
@@ -23,23 +19,17 @@ pub fn raise(n: usize, room: &mut [u64])
     requires { n + n ≤ length room.old }
     ensures { Raised n n room.old room.new }
 {
-    let mut i = 0;
-    while i < n {
-        let other = n + i;
-        let value = room[other];
-        room[i] = value;
-        i += 1;
-    }
+    room.copy_within(n..n + n, 0);
 }
 
-// How many of the values left are compared without a stop.
+// So many values are compared without a stop.
+const BLOCK: usize = 128;
+
+// How many of the values left are.
 pub fn block(left: usize) -> usize
     ensures { result ≡ min left 128 }
 {
-    if left < 128 {
-        return left;
-    }
-    128
+    left.min(BLOCK)
 }
 
 // Whether the k values at a position are the same in both halves; it never stops early, so that several are compared at once, and gathers
@@ -50,19 +40,13 @@ pub fn alike(n: usize, at: usize, k: usize, room: &[u64]) -> bool
     ensures { (result ≡ true → Alike n at k room.now) × (result ≡ false → ¬ Alike n at k room.now) }
 {
     let mut apart: u64 = 0;
-    let mut i = 0;
-    while i < k {
-        let j = at + i;
-        let other = n + j;
-        let here = room[j];
-        let there = room[other];
-        i += 1;
-        apart |= here ^ there;
+    for j in at..at + k {
+        apart |= room[j] ^ room[n + j];
     }
     apart == 0
 }
 
-// Whether both halves are the same from a node to before another.
+// Whether both halves are the same from a node to before another. Not a `for` over `step_by`: of where that ends a proof learns too little.
 pub fn between(n: usize, from: usize, to: usize, room: &[u64]) -> bool
     requires n_in_bounds { n + n ≤ length room.now }
     requires to_le_n { to ≤ n }

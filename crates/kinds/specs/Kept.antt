@@ -1,11 +1,10 @@
 -- What is kept of a row that was read: its operands, or its first fault.
 use Rattle.std.specs.Prelude.{ℕ, List, [], ◌∷◌}
-use Rattle.wire.specs.Read.{Read, good, bad, ◌>>=◌}
+use Rattle.wire.specs.Read.{Read, Ok, ◌>>=◌}
 use Rattle.syntax.specs.declared.Row.{Row}
 use Rattle.syntax.specs.declared.Row.TheVariants.{True, False, Proposition, Negation, And, Or, Next, Until}
 use Rattle.kinds.specs.declared.Operands.{Operands}
 use Rattle.kinds.specs.declared.Operands.TheVariants.{None, One, Both}
-use Rattle.kinds.specs.declared.Judged.{Judged}
 
 -- the operands of a row, as the check keeps them
 unfoldable pub operands_of : Row → Operands
@@ -24,11 +23,6 @@ listed None = []
 listed (One l) = l ∷ []
 listed (Both l r) = l ∷ r ∷ []
 
--- operands that were read, or the first fault
-unfoldable pub kept : Read Operands → Judged
-kept (good k) = Judged.Fine k
-kept (bad e) = Judged.Refused e
-
 -- the operands of a row without fault, or its first fault
-abbrev pub judged : Read Row → Judged
-judged x = kept (x >>= λ row. good (operands_of row))
+abbrev pub judged : Read Row → Read Operands
+judged x = x >>= λ row. Ok (operands_of row)

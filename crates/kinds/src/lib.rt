@@ -2,15 +2,14 @@
 #![tactic(auto)]
 
 ghost use Rattle.std.specs.Prelude.{◌≡◌, ℕ, ◌+◌, ◌^◌, ◌<◌, false};
-ghost use Rattle.wire.specs.Read.{bad, below, found, misnamed};
+ghost use Rattle.wire.specs.Read.{Err, below, misnamed};
 ghost use Rattle.syntax.specs.Format.{row_width};
 ghost use Rattle.syntax.specs.Message as m;
 ghost use Rattle.kinds.specs.Told as spare;
-ghost use Rattle.kinds.specs.Kept.{kept};
 
 use refusal::{Fault, Refusal};
 use syntax::{BOUND_AT, LEFT_AT, RIGHT_AT, ZERO_AT};
-use wire::{Field, Width};
+use wire::Width;
 
 // The fields of a row behind its operator.
 #[derive(Clone, Copy)]
@@ -27,13 +26,6 @@ pub enum Operands {
     None,
     One(u32),
     Both(u32, u32),
-}
-
-// The operands of a row without fault, or its first fault.
-#[derive(Clone, Copy)]
-pub enum Judged {
-    Fine(Operands),
-    Refused(Fault),
 }
 
 // The fields behind left that an operator doesn't use, and 0 for those that it uses, as it does left.
@@ -59,8 +51,9 @@ fn all_zero(fields: Fields) -> bool
 }
 
 // Of fields that aren't all zero, where the first stands that isn't.
+#[tactic(auto, using(wire::proofs::Reading::reading), unfolding(crate::specs::Told::unused))]
 fn first_not_zero(fields: Fields) -> usize
-    ensures { (result < row_width) × ((offset : ℕ) → spare.all_zero fields ≡ false → spare.unused offset fields ≡ bad (m.ill_formed (offset + result))) }
+    ensures { (result < row_width) × ((offset : ℕ) → spare.all_zero fields ≡ false → spare.unused offset fields ≡ Err (m.ill_formed (offset + result))) }
 {
     if fields.left != 0 {
         return LEFT_AT;
@@ -74,97 +67,88 @@ fn first_not_zero(fields: Fields) -> usize
     BOUND_AT
 }
 
-// The fields that an operator doesn't use, and 0 for those that it uses, of a row that stands here in its message: they must be zero,
-// or the first that isn't is FORM. They are looked at together first, and one by one only where that shows a fault.
-fn unused(offset: usize, fields: Fields) -> Field
-    requires { offset + row_width < 2 ^ 64 }
-    ensures { result ≡ found (spare.unused offset fields) }
-{
-    if all_zero(fields) {
-        return Field::Number(0);
-    }
-    let place = offset + first_not_zero(fields);
-    Field::Refused(Fault {
-        refusal: Refusal::Form,
-        offset: place,
-    })
-}
-
-// A field that names one of so many propositions or earlier rows, or it is NAME.
-fn named(row: &[u8], offset: usize, field: usize, limit: u32) -> Field
-    requires { (offset + row_width < 2 ^ 64) × (field < row_width) }
-    ensures { result ≡ found (below 1 row.now field limit (misnamed (offset + field))) }
-{
-    let name = Fault {
-        refusal: Refusal::Name,
-        offset: offset + field,
-    };
-    wire::read_below(row, field, Width::One, limit as u64, name)
+// A row's bytes, and where in its message they start: there each field's offset fits.
+#[derive(Clone, Copy)]
+pub struct RowAt<'a> {
+    pub bytes: &'a [u8],
+    pub offset: usize,
+    pub ghost fits: { offset + row_width < 2 ^ 64 },
 }
 
 // Each kind of operator looks first at the fields that it doesn't use, then at those that name something: so the compiler has a branch
 // for each kind. The check keeps operands alone: a row that is made here and taken apart again goes through memory.
+impl<'a> RowAt<'a> {
+    // The fields that an operator doesn't use, and 0 for those that it uses: they must be zero, or the first that isn't is FORM. They are
+    // looked at together first, and one by one only where that shows a fault.
+    #[tactic(auto, using(wire::proofs::Reading::reading), unfolding(crate::specs::Told::unused))]
+    fn unused(self, fields: Fields) -> Result<(), Fault>
+        ensures { result ≡ spare.unused self.entry.offset fields }
+    {
+        if all_zero(fields) {
+            return Ok(());
+        }
+        let place = self.offset + first_not_zero(fields);
+        Err(Fault {
+            refusal: Refusal::Form,
+            offset: place,
+        })
+    }
 
-// Left, once the unused fields are zero.
-fn left_name(row: &[u8], offset: usize, limit: u32, idle: Fields) -> Field
-    requires { offset + row_width < 2 ^ 64 }
-    ensures { result ≡ found (spare.left_name row.now offset limit idle) }
-{
-    let zero = unused(offset, idle);
-    let Field::Number(_) = zero else {
-        return zero;
-    };
-    named(row, offset, LEFT_AT, limit)
-}
+    // A field that names one of so many propositions or earlier rows, or it is NAME.
+    fn named(self, field: usize, limit: u32) -> Result<u32, Fault>
+        requires { field < row_width }
+        ensures { result ≡ below 1 self.entry.bytes.now field limit (misnamed (self.entry.offset + field)) }
+    {
+        let name = Fault {
+            refusal: Refusal::Name,
+            offset: self.offset + field,
+        };
+        wire::read_below(self.bytes, field, Width::One, limit as u64, name)
+    }
 
-// True and false name nothing.
-pub fn constant(offset: usize, idle: Fields) -> Judged
-    requires { offset + row_width < 2 ^ 64 }
-    ensures { result ≡ kept (spare.constant offset idle) }
-{
-    let zero = unused(offset, idle);
-    let Field::Number(_) = zero else {
-        return Judged::Refused(zero.fault());
-    };
-    Judged::Fine(Operands::None)
-}
+    // Left, once the unused fields are zero.
+    #[tactic(auto, using(wire::proofs::Reading::reading), unfolding(crate::specs::Told::left_name))]
+    fn left_name(self, limit: u32, idle: Fields) -> Result<u32, Fault>
+        ensures { result ≡ spare.left_name self.entry.bytes.now self.entry.offset limit idle }
+    {
+        self.unused(idle)?;
+        self.named(LEFT_AT, limit)
+    }
 
-// A proposition and its negation name it in left.
-pub fn proposition(row: &[u8], offset: usize, p: u32, idle: Fields) -> Judged
-    requires { offset + row_width < 2 ^ 64 }
-    ensures { result ≡ kept (spare.proposition row.now offset p idle) }
-{
-    let first = left_name(row, offset, p, idle);
-    let Field::Number(_) = first else {
-        return Judged::Refused(first.fault());
-    };
-    Judged::Fine(Operands::None)
-}
+    // True and false name nothing.
+    #[tactic(auto, using(wire::proofs::Reading::reading), unfolding(crate::specs::Told::constant))]
+    pub fn constant(self, idle: Fields) -> Result<Operands, Fault>
+        ensures { result ≡ spare.constant self.entry.offset idle }
+    {
+        self.unused(idle)?;
+        Ok(Operands::None)
+    }
 
-// EX and AX have an operand in left.
-pub fn one_operand(row: &[u8], offset: usize, place: u32, idle: Fields) -> Judged
-    requires { offset + row_width < 2 ^ 64 }
-    ensures { result ≡ kept (spare.one_operand row.now offset place idle) }
-{
-    let first = left_name(row, offset, place, idle);
-    let Field::Number(left) = first else {
-        return Judged::Refused(first.fault());
-    };
-    Judged::Fine(Operands::One(left))
-}
+    // A proposition and its negation name it in left.
+    #[tactic(auto, using(wire::proofs::Reading::reading), unfolding(crate::specs::Told::proposition))]
+    pub fn proposition(self, p: u32, idle: Fields) -> Result<Operands, Fault>
+        ensures { result ≡ spare.proposition self.entry.bytes.now self.entry.offset p idle }
+    {
+        self.left_name(p, idle)?;
+        Ok(Operands::None)
+    }
 
-// And, or and the untils have one in right too.
-pub fn both_operands(row: &[u8], offset: usize, place: u32, idle: Fields) -> Judged
-    requires { offset + row_width < 2 ^ 64 }
-    ensures { result ≡ kept (spare.both_operands row.now offset place idle) }
-{
-    let first = left_name(row, offset, place, idle);
-    let Field::Number(left) = first else {
-        return Judged::Refused(first.fault());
-    };
-    let second = named(row, offset, RIGHT_AT, place);
-    let Field::Number(right) = second else {
-        return Judged::Refused(second.fault());
-    };
-    Judged::Fine(Operands::Both(left, right))
+    // EX and AX have an operand in left.
+    #[tactic(auto, using(wire::proofs::Reading::reading), unfolding(crate::specs::Told::one_operand))]
+    pub fn one_operand(self, place: u32, idle: Fields) -> Result<Operands, Fault>
+        ensures { result ≡ spare.one_operand self.entry.bytes.now self.entry.offset place idle }
+    {
+        let left = self.left_name(place, idle)?;
+        Ok(Operands::One(left))
+    }
+
+    // And, or and the untils have one in right too.
+    #[tactic(auto, using(wire::proofs::Reading::reading), unfolding(crate::specs::Told::both_operands))]
+    pub fn both_operands(self, place: u32, idle: Fields) -> Result<Operands, Fault>
+        ensures { result ≡ spare.both_operands self.entry.bytes.now self.entry.offset place idle }
+    {
+        let left = self.left_name(place, idle)?;
+        let right = self.named(RIGHT_AT, place)?;
+        Ok(Operands::Both(left, right))
+    }
 }

@@ -4,6 +4,7 @@ use Prim.Native.Nat.{ℕ, zero, suc, ◌+◌}
 use mathlib.Core.List.Memᴰ
 use mathlib.Core.List.{List, [], ◌∷◌, map}
 use mathlib.Core.Bool.{Bool, true, false, cond}
+use Rattle.std.specs.Prelude.{Option, Some}
 use mathlib.Core.Option.{some}
 use mathlib.Core.Path.{◌≡◌, refl, sym, ap, ◌∙◌}
 use native.Mathlib.Omega.{arith}
@@ -12,7 +13,7 @@ use lib.ListN.{get_elem?}
 use Rattle.lists.specs.Lists.{◌∈◌, any, all, up_to, first_from}
 use Rattle.lists.specs.Making.{keep, span}
 use Rattle.value.specs.Value.{Value, at_most}
-use Rattle.wire.specs.Read.{good}
+use Rattle.wire.specs.Read.{Ok}
 use Rattle.wire.specs.Bytes.{bytes}
 use Rattle.wire.specs.Write.{write_all, message}
 use Rattle.rules.specs.Graph.{Graph}
@@ -80,6 +81,15 @@ module _ (r : Row) (m : r ∈ known) where
       ap (λ (i : ℕ). rounds g i v) (sym is) ∙ ap (rounds g at) (omega arith)
       ∙ each_at g.nodes 0 v (rounds g at) (ap (λ (x : Given). get_elem? x.values v) given ∙ e)
 
+-- a verdict that is said is there
+each_some : (ys : List Verdict) (a : ℕ) {y : Verdict} → get_elem? ys a ≡ some y → get_elem? (map Some ys) a ≡ some (Some y)
+each_some [] a e = cc
+each_some (x ∷ ys) zero e = let same : x ≡ _ = cc in ap (λ (z : Verdict). some (Some z)) same
+each_some (x ∷ ys) (suc a) e = each_some ys a e
+
+some_same : {x y : Verdict} → ◌≡◌ {A = Option Verdict} (Some x) (Some y) → x ≡ y
+some_same e = cc
+
 -- a row of a question that says OK: the verdict that it says of a state is yes exactly where the root row's node has value 0 in its round
 pub row_verdict : (q : Question) (b m : ℕ) (vs : List Value) (ys : List Verdict) → ask q b 0 m vs ys ∈ known → (a : ℕ) {y : Verdict}
     → get_elem? ys a ≡ some y → verdict_of (at_most (rounds (graph_for q) m (root_node q a)) 0) ≡ y
@@ -87,7 +97,7 @@ unfolding answer_of
 row_verdict q b m vs ys there a {y} e =
     let r = ask q b 0 m vs ys in
     let w = row_within r there refl in
-    let said : answer_verdict (answer_of (good q) (0 + a) b) ≡ y =
-    each_at q.model.states 0 a (λ state. answer_verdict (answer_of (good q) state b)) (ap (λ (x : Given). get_elem? x.verdicts a) (given r there) ∙ e) in
+    let said : answer_verdict (answer_of (Ok q) (0 + a) b) ≡ Some y =
+    each_at q.model.states 0 a (λ state. answer_verdict (answer_of (Ok q) state b)) (ap (λ (x : Given). get_elem? x.verdicts a) (given r there) ∙ each_some ys a e) in
     let from : 0 + a ≡ a = omega arith in
-    rw (from, w.0, w.1) at said
+    some_same (rw (from, w.0, w.1) at said)

@@ -29,7 +29,7 @@ use Rattle.reduction.specs.Built.{graph_of}
 use Rattle.reduction.proofs.Built.{built_closed}
 use Rattle.reduction.proofs.Verdict.{yes_exactly}
 use Rattle.settling.specs.declared.Verdict.{Verdict}
-use Rattle.settling.specs.declared.Verdict.TheVariants.{Yes}
+use Rattle.settling.specs.declared.Verdict.TheVariants.{Yes, No}
 use Rattle.states.specs.Promise.{Satisfies}
 use Rattle.states.proofs.Deciding.{yes_zero}
 use Rattle.known.specs.Questions.{M, p0_until_p1, on-M, T13, T14, T15}
@@ -75,13 +75,13 @@ module _ (q : Quantifier) (b : Bound) where
       rw (← (row_verdict (on-M (p0_until_p1 q b)) 9 count values verdicts there a at)) (λ e. yes-is.0 (zero_is.0 e), λ s. zero_is.1 (yes-is.1 s))
 
 pub T13-holds : Satisfies T13 0
-T13-holds = (exactly Some (Within 2) 12 4 _ _ refl 0 (lit< tt) refl).0 refl
+T13-holds = (exactly Some (Within 2) 12 4 _ (Yes ∷ Yes ∷ []) refl 0 (lit< tt) refl).0 refl
 
 pub T14-fails : ¬ Satisfies T14 0
-T14-fails h = let e = (exactly Some (Within 1) 13 3 _ _ refl 0 (lit< tt) refl).1 h in let z : ◌≡◌ {A = ℕ} 0 1 = cc in omega arith
+T14-fails h = let e = (exactly Some (Within 1) 13 3 _ (No ∷ Yes ∷ []) refl 0 (lit< tt) refl).1 h in let z : ◌≡◌ {A = ℕ} 0 1 = cc in omega arith
 
 pub T15-fails : ¬ Satisfies T15 0
-T15-fails h = let e = (exactly Every Unbounded 14 3 _ _ refl 0 (lit< tt) refl).1 h in let z : ◌≡◌ {A = ℕ} 0 1 = cc in omega arith
+T15-fails h = let e = (exactly Every Unbounded 14 3 _ (No ∷ Yes ∷ []) refl 0 (lit< tt) refl).1 h in let z : ◌≡◌ {A = ℕ} 0 1 = cc in omega arith
 
 pub T15-holds : Satisfies T15 1
-T15-holds = (exactly Every Unbounded 14 3 _ _ refl 1 (lit< tt) refl).0 refl
+T15-holds = (exactly Every Unbounded 14 3 _ (No ∷ Yes ∷ []) refl 1 (lit< tt) refl).0 refl

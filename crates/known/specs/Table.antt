@@ -1,10 +1,10 @@
 -- The known graphs T1 to T15, those of T13 to T15 built of model M: with a budget, the paper's number, the reported count, the values of
 -- that round, and for a question the verdict on each state.
-use Rattle.std.specs.Prelude.{ℕ, suc, zero, List, [], ◌∷◌, ◌++◌}
+use Rattle.std.specs.Prelude.{ℕ, suc, zero, Option, Some, List, [], ◌∷◌, ◌++◌, map}
 use Rattle.value.specs.Value.{Value, fin, inf}
 use Rattle.value.specs.declared.Bound.{Bound}
 use Rattle.value.specs.declared.Bound.TheVariants.{Within, Unbounded}
-use Rattle.wire.specs.Read.{good}
+use Rattle.wire.specs.Read.{Ok}
 use Rattle.rules.specs.Graph.{Hyper, Cover}
 use Rattle.rules.specs.Rounds.{rounds}
 use Rattle.graph.specs.Stored.{StoredGraph, ruled}
@@ -38,16 +38,16 @@ graph_in (alone g) = g
 graph_in (asked question) = graph_for question
 
 -- the verdict on each state of a question
-abbrev pub verdicts_in : Subject → (budget : ℕ) → List Verdict
+abbrev pub verdicts_in : Subject → (budget : ℕ) → List (Option Verdict)
 verdicts_in (alone g) budget = []
-verdicts_in (asked question) budget = each_from 0 question.model.states (λ state. answer_verdict (answer_of (good question) state budget))
+verdicts_in (asked question) budget = each_from 0 question.model.states (λ state. answer_verdict (answer_of (Ok question) state budget))
 
 -- what a budget of rounds gives
 pub record Given : Type 0 where
   pub number : ℕ
   pub count : ℕ
   pub values : List Value
-  pub verdicts : List Verdict
+  pub verdicts : List (Option Verdict)
 
 -- a row of the table: a graph or a question, a budget, and what the paper says they give
 pub record Row : Type 0 where
@@ -72,7 +72,7 @@ abbrev pub row : StoredGraph → (budget number count : ℕ) → List Value → 
 row g b k m vs = record { subject = alone g; budget = b; gives = record { number = k; count = m; values = vs; verdicts = [] } }
 
 abbrev pub ask : Question → (budget number count : ℕ) → List Value → List Verdict → Row
-ask q b k m vs ys = record { subject = asked q; budget = b; gives = record { number = k; count = m; values = vs; verdicts = ys } }
+ask q b k m vs ys = record { subject = asked q; budget = b; gives = record { number = k; count = m; values = vs; verdicts = map Some ys } }
 
 -- the graph G of the paper, and T10 with the bound and the further hyperedges of node 1
 abbrev pub G : StoredGraph

@@ -1,19 +1,7 @@
 -- One answer and one content of every lent room: two calls with the same arguments that satisfy the contract of a public function agree.
 -- Here a are the arguments, r is the result, and s is what stands in each argument at the end, in the order of the parameters. Assumes nothing.
 use mathlib.Core.Path.{◌≡◌, sym, ◌∙◌}
-use Rattle.lines.proofs.Reported.number.Reads as Reported-number
-use Rattle.lines.proofs.Reported.length.Reads as Reported-length
 use Rattle.lines.proofs.report.Reads as report
-
--- `lines::Reported::number`
-pub one_reported_number : (κs : _) (a : _) (r r' : _) (s s' : _) → Reported-number.Post κs a r s → Reported-number.Post κs a r' s'
-    → r ≡ r'
-one_reported_number κs a r r' s s' p q = p ∙ sym q
-
--- `lines::Reported::length`
-pub one_reported_length : (κs : _) (a : _) (r r' : _) (s s' : _) → Reported-length.Post κs a r s → Reported-length.Post κs a r' s'
-    → r ≡ r'
-one_reported_length κs a r r' s s' p q = p ∙ sym q
 
 -- `lines::report`: the answer and the room
 pub one_report : (κs : _) (a : _) (r r' : _) (s s' : _) → report.Post κs a r s → report.Post κs a r' s'

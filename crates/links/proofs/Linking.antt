@@ -17,79 +17,67 @@ use Rattle.wire.proofs.Parts.{end_add}
 use Rattle.rules.specs.Graph.{Target}
 use Rattle.graph.specs.Format.{graph_header, hyper_width, target_width}
 use Rattle.graph.specs.Layouts.{target_layout, hyper_layout}
-use Rattle.links.specs.Links.{link_of, spot_of, source_of, Reached, here, further, Finds, RecordAt, hyper, cover, hyper_at, targets_at, cover_at, target_of, Long, Told, Linked, Index}
+use Rattle.links.specs.declared.Place.{Place}
+use Rattle.links.specs.Links.{nothing, place_at, Reached, here, further, Finds, RecordAt, hyper, cover, hyper_at, targets_at, cover_at, target_of, Long, Told, Linked, Index}
 
--- a number of a list in which one was set, at any place
-set_at : (P : ℕ → Type 0) (l : List ℕ) (u k v : ℕ) → u < length l → (v ≡ u → P k) → (¬ (v ≡ u) → P (get_or l v 0)) → P (get_or (set l u k) v 0)
-set_at P l u k v h at-it beside = go (ℕ_discrete v u)
+-- an item of a list in which one was set, at any place
+set_at : {A : Type 0} (P : A → Type 0) (d : A) (l : List A) (u : ℕ) (k : A) (v : ℕ) → u < length l → (v ≡ u → P k) → (¬ (v ≡ u) → P (get_or l v d)) → P (get_or (set l u k) v d)
+set_at P d l u k v h at-it beside = go (ℕ_discrete v u)
   where
-    go : Dec (v ≡ u) → P (get_or (set l u k) v 0)
-    go (yes e) = rw (e, get_or-set_same l u k 0 h) (at-it e)
-    go (no e) = rw (get_or-set_other l u v k 0 e) (beside e)
+    go : Dec (v ≡ u) → P (get_or (set l u k) v d)
+    go (yes e) = rw (e, get_or-set_same l u k d h) (at-it e)
+    go (no e) = rw (get_or-set_other l u v k d e) (beside e)
 
--- lists of zeros, and lists in which a number is set, are as long
-pub long_zeros : (n most : ℕ) → n ≤ most → most ≤ 65535 → Long n (replicate most 0) (replicate most 0)
-long_zeros n most l h =
-    let e = length-replicate {A = ℕ} most 0 in
-    record { nodes = omega arith; short = omega arith }
+-- a list of so many places of nothing has no other
+nothing_at : (most q : ℕ) → place_at (replicate most nothing) q ≡ nothing
+nothing_at zero q = refl
+nothing_at (suc most) zero = refl
+nothing_at (suc most) (suc q) = nothing_at most q
 
-long_set : {n : ℕ} {heads places : List ℕ} → Long n heads places → (v a q b : ℕ) → Long n (set heads v a) (set places q b)
-long_set {n} {heads} {places} d v a q b =
-    record { nodes = omega (arith, length-set heads v a, d.nodes); short = omega (arith, length-set places q b, d.short) }
+-- lists in which nothing is linked, and lists in which a place is set, are long enough
+pub long_nothing : (n most : ℕ) → n ≤ most → most ≤ 65535 → Long n most (replicate most 0) (replicate most nothing)
+long_nothing n most l h =
+    record { nodes = omega (arith, length-replicate {A = ℕ} most 0); many = length-replicate {A = Place} most nothing; short = h }
 
--- lists that are as long as others
-pub record Kept (heads₀ places₀ heads places : List ℕ) : Type 0 where
-  pub heads_long : length heads ≡ length heads₀
-  pub places_long : length places ≡ length places₀
-
-pub kept_none : {heads places : List ℕ} → Kept heads places heads places
-kept_none = record { heads_long = refl; places_long = refl }
-
-module _ {heads₀ places₀ heads places : List ℕ} (k : Kept heads₀ places₀ heads places) where
-  pub kept_long : {n : ℕ} → Long n heads₀ places₀ → Long n heads places
-  kept_long d = record { nodes = omega (arith, k.heads_long, d.nodes); short = omega (arith, k.places_long, d.short) }
-
-  pub kept_on : {heads' places' : List ℕ} → length heads' ≡ length heads → length places' ≡ length places → Kept heads₀ places₀ heads' places'
-  kept_on x y = record { heads_long = x ∙ k.heads_long; places_long = y ∙ k.places_long }
-
-  pub kept_set : (v a q b : ℕ) → Kept heads₀ places₀ (set heads v a) (set places q b)
-  kept_set v a q b = kept_on (length-set heads v a) (length-set places q b)
+pub long_set : {n most : ℕ} {heads : List ℕ} {places : List Place} → Long n most heads places → (v a q : ℕ) (b : Place) → Long n most (set heads v a) (set places q b)
+long_set {n} {most} {heads} {places} d v a q b =
+    record { nodes = omega (arith, length-set heads v a, d.nodes); many = length-set places q b ∙ d.many; short = d.short }
 
 -- a chain stays below its head
-pub reached_below : {places : List ℕ} {q head : ℕ} → ((p : ℕ) → link_of (get_or places p 0) ≤ p) → Reached places q head → q < head
+pub reached_below : {places : List Place} {q head : ℕ} → ((p : ℕ) → (place_at places p).link ≤ p) → Reached places q head → q < head
 reached_below falls (here e) = omega arith
 reached_below falls (further place e r) = let l = reached_below falls r in omega (arith, falls place)
 
 -- nothing is reached from 0, and from place k + 1 that place and what its link reaches
-pub reached_none : {A : Type 0} {places : List ℕ} {q head : ℕ} → head ≡ 0 → Reached places q head → A
+pub reached_none : {A : Type 0} {places : List Place} {q head : ℕ} → head ≡ 0 → Reached places q head → A
 reached_none z (here e) = absurd (omega arith)
 reached_none z (further place e r) = absurd (omega arith)
 
-pub reached_cases : {places : List ℕ} {q head : ℕ} (place : ℕ) → head ≡ place + 1 → Reached places q head → (q ≡ place) ⊎ Reached places q (link_of (get_or places place 0))
+pub reached_cases : {places : List Place} {q head : ℕ} (place : ℕ) → head ≡ place + 1 → Reached places q head → (q ≡ place) ⊎ Reached places q (place_at places place).link
 reached_cases place z (here e) = inl (omega arith)
 reached_cases {places} {q} place z (further other e r) =
-    let same : other ≡ place = omega arith in inr (subst (λ (p : ℕ). Reached places q (link_of (get_or places p 0))) same r)
+    let same : other ≡ place = omega arith in inr (subst (λ (p : ℕ). Reached places q (place_at places p).link) same r)
 
 -- a place that is set behind a chain leaves it
-reached_set : {places : List ℕ} {q head : ℕ} → ((p : ℕ) → link_of (get_or places p 0) ≤ p) → (place w : ℕ) → head ≤ place → Reached places q head → Reached (set places place w) q head
+reached_set : {places : List Place} {q head : ℕ} → ((p : ℕ) → (place_at places p).link ≤ p) → (place : ℕ) (w : Place) → head ≤ place → Reached places q head → Reached (set places place w) q head
 reached_set falls place w l (here e) = here e
 reached_set {places} {q} falls place w l (further other e r) =
     let apart : ¬ (other ≡ place) = λ z. omega arith in
     let rest = reached_set falls place w (omega (arith, falls other)) r in
-    further other e (rw (get_or-set_other places place other w 0 apart) rest)
+    further other e (rw (get_or-set_other places place other w nothing apart) rest)
 
 -- what a new place of node v tells: the node's head, where the record stands, and its source
-abbrev pub Tells : (s heads : List ℕ) → (v at w : ℕ) → Type 0
-Tells s heads v at w = (link_of w ≡ get_or heads v 0) × (spot_of w ≡ at) × (source_of w ≡ number 2 s at)
+abbrev pub Tells : (s heads : List ℕ) → (v at : ℕ) → Place → Type 0
+Tells s heads v at w = (w.link ≡ get_or heads v 0) × (w.spot ≡ at) × (w.source ≡ number 2 s at)
 
 -- one place more for node v: its link is the node's head, and it is the node's head
-module _ {s : List ℕ} {n middle h c many : ℕ} {rest : List Target} {heads places : List ℕ} (d : Linked s n middle h rest c many heads places)
-    (room : many < length places) (v : ℕ) (named : v < n) (at w : ℕ) (tells : Tells s heads v at w) where
+module _ {s : List ℕ} {n middle most h c many : ℕ} {rest : List Target} {heads : List ℕ} {places : List Place} (d : Linked s n middle most h rest c many heads places)
+    (room : many < length places) (v : ℕ) (named : v < n) (at : ℕ) (w : Place) (tells : Tells s heads v at w) where
   new_head : get_or (set heads v (many + 1)) v 0 ≡ many + 1
   new_head = get_or-set_same heads v (many + 1) 0 (omega (arith, d.long.nodes))
 
-  new_place : get_or (set places many w) many 0 ≡ w
-  new_place = get_or-set_same places many w 0 room
+  new_place : place_at (set places many w) many ≡ w
+  new_place = get_or-set_same places many w nothing room
 
   -- what was found still is
   found_still : {u p : ℕ} → Finds heads places u p → Finds (set heads v (many + 1)) (set places many w) u p
@@ -100,28 +88,28 @@ module _ {s : List ℕ} {n middle h c many : ℕ} {rest : List Target} {heads pl
       record {
         place = f.place;
         reached = go (ℕ_discrete u v) old;
-        stands = ap spot_of (get_or-set_other places many f.place w 0 apart) ∙ f.stands;
+        stands = ap (λ (k : Place). k.spot) (get_or-set_other places many f.place w nothing apart) ∙ f.stands;
       }
     where
       go : Dec (u ≡ v) → Reached (set places many w) f.place (get_or heads u 0) → Reached (set places many w) f.place (get_or (set heads v (many + 1)) u 0)
       go (yes e) old =
           let is : get_or (set heads v (many + 1)) u 0 ≡ many + 1 = rw e new_head in
-          let link : link_of (get_or (set places many w) many 0) ≡ get_or heads u 0 = rw (e, new_place) tells.0 in
+          let link : (place_at (set places many w) many).link ≡ get_or heads u 0 = rw (e, new_place) tells.0 in
           further many is (rw link old)
       go (no e) old = rw (get_or-set_other heads v u (many + 1) 0 e) old
 
   -- and so is the new one
   found_new : Finds (set heads v (many + 1)) (set places many w) v at
-  found_new = record { place = many; reached = here new_head; stands = ap spot_of new_place ∙ tells.1 }
+  found_new = record { place = many; reached = here new_head; stands = ap (λ (k : Place). k.spot) new_place ∙ tells.1 }
 
   within_more : (u : ℕ) → get_or (set heads v (many + 1)) u 0 ≤ many + 1
-  within_more u = set_at (λ k. k ≤ many + 1) heads v (many + 1) u (omega (arith, d.long.nodes)) (λ e. omega arith) (λ e. omega (arith, d.within u))
+  within_more u = set_at (λ (k : ℕ). k ≤ many + 1) 0 heads v (many + 1) u (omega (arith, d.long.nodes)) (λ e. omega arith) (λ e. omega (arith, d.within u))
 
-  falls_more : (q : ℕ) → link_of (get_or (set places many w) q 0) ≤ q
-  falls_more q = set_at (λ k. link_of k ≤ q) places many w q room (λ e. omega (arith, tells.0, d.within v)) (λ e. d.falls q)
+  falls_more : (q : ℕ) → (place_at (set places many w) q).link ≤ q
+  falls_more q = set_at (λ (k : Place). k.link ≤ q) nothing places many w q room (λ e. omega (arith, tells.0, d.within v)) (λ e. d.falls q)
 
-  records_more : {h' c' : ℕ} → h ≤ h' → c ≤ c' → RecordAt s n h' c' middle at → (q : ℕ) → q < many + 1 → RecordAt s n h' c' middle (spot_of (get_or (set places many w) q 0))
-  records_more {h'} {c'} hs cs new q l = set_at (λ k. RecordAt s n h' c' middle (spot_of k)) places many w q room (λ e. rw tells.1 new) (λ e. wider (d.records q (omega arith)))
+  records_more : {h' c' : ℕ} → h ≤ h' → c ≤ c' → RecordAt s n h' c' middle at → (q : ℕ) → q < many + 1 → RecordAt s n h' c' middle (place_at (set places many w) q).spot
+  records_more {h'} {c'} hs cs new q l = set_at (λ (k : Place). RecordAt s n h' c' middle k.spot) nothing places many w q room (λ e. rw tells.1 new) (λ e. wider (d.records q (omega arith)))
     where
       wider : {p : ℕ} → RecordAt s n h c middle p → RecordAt s n h' c' middle p
       wider (hyper j l e) = hyper j (omega arith) e
@@ -129,14 +117,14 @@ module _ {s : List ℕ} {n middle h c many : ℕ} {rest : List Target} {heads pl
 
   -- its record's source is told
   told_more : (q : ℕ) → q < many + 1 → Told s (set places many w) q
-  told_more q l = set_at (λ k. source_of k ≡ number 2 s (spot_of k)) places many w q room (λ e. rw tells.1 tells.2) (λ e. d.told q (omega arith))
+  told_more q l = set_at (λ (k : Place). k.source ≡ number 2 s k.spot) nothing places many w q room (λ e. rw tells.1 tells.2) (λ e. d.told q (omega arith))
 
 -- nothing is linked
-pub linked_none : (s : List ℕ) (n middle most : ℕ) → n ≤ most → most ≤ 65535 → Linked s n middle 0 [] 0 0 (replicate most 0) (replicate most 0)
+pub linked_none : (s : List ℕ) (n middle most : ℕ) → n ≤ most → most ≤ 65535 → Linked s n middle most 0 [] 0 0 (replicate most 0) (replicate most nothing)
 linked_none s n middle most l h = record {
-  long = long_zeros n most l h;
+  long = long_nothing n most l h;
   within = λ v. omega (arith, zeros_at most v);
-  falls = λ q. omega (arith, zeros_at most q);
+  falls = λ q. rw (nothing_at most q) (omega arith);
   records = λ q k. absurd (omega arith);
   told = λ q k. absurd (omega arith);
   hypers = λ j t k. absurd (omega arith);
@@ -144,8 +132,8 @@ linked_none s n middle most l h = record {
 }
 
 -- the targets of one hyperedge more are left to link
-module _ {s : List ℕ} {n middle j many : ℕ} {heads places : List ℕ} (d : Linked s n middle j [] 0 many heads places) where
-  pub linked_open : (ts : List Target) → targets_at s n j ≡ ts → Linked s n middle (j + 1) ts 0 many heads places
+module _ {s : List ℕ} {n middle most j many : ℕ} {heads : List ℕ} {places : List Place} (d : Linked s n middle most j [] 0 many heads places) where
+  pub linked_open : (ts : List Target) → targets_at s n j ≡ ts → Linked s n middle most (j + 1) ts 0 many heads places
   linked_open ts e = record {
     long = d.long;
     within = d.within;
@@ -169,14 +157,14 @@ module _ {s : List ℕ} {n middle j many : ℕ} {heads places : List ℕ} (d : L
       go i t l m (no h) = let same : i ≡ j = omega arith in inr (omega arith, rw (ap (targets_at s n) same ∙ e) at m)
 
 -- none is left
-module _ {s : List ℕ} {n middle h many : ℕ} {heads places : List ℕ} (i q : ℕ) (d : Linked s n middle h (items (target_layout s n) i q) 0 many heads places) where
-  pub linked_end : i ≡ 0 → Linked s n middle h [] 0 many heads places
+module _ {s : List ℕ} {n middle most h many : ℕ} {heads : List ℕ} {places : List Place} (i q : ℕ) (d : Linked s n middle most h (items (target_layout s n) i q) 0 many heads places) where
+  pub linked_end : i ≡ 0 → Linked s n middle most h [] 0 many heads places
   unfolding items
-  linked_end e = subst (λ (k : ℕ). Linked s n middle h (items (target_layout s n) k q) 0 many heads places) e d
+  linked_end e = subst (λ (k : ℕ). Linked s n middle most h (items (target_layout s n) k q) 0 many heads places) e d
 
   -- the next of them is linked
-  pub linked_turn : (j : ℕ) → h ≡ j + 1 → 0 < i → many < length places → (v : ℕ) → v ≡ ((target_layout s n).item q).node → v < n → (at : ℕ) → at ≡ hyper_at s n j → (w : ℕ) → Tells s heads v at w
-      → Linked s n middle h (items (target_layout s n) (i - 1) (q + target_width)) 0 (many + 1) (set heads v (many + 1)) (set places many w)
+  pub linked_turn : (j : ℕ) → h ≡ j + 1 → 0 < i → many < length places → (v : ℕ) → v ≡ ((target_layout s n).item q).node → v < n → (at : ℕ) → at ≡ hyper_at s n j → (w : Place) → Tells s heads v at w
+      → Linked s n middle most h (items (target_layout s n) (i - 1) (q + target_width)) 0 (many + 1) (set heads v (many + 1)) (set places many w)
   linked_turn j last some room v is named at there w tells = record {
     long = long_set d.long v (many + 1) many w;
     within = within_more d room v named at w tells;
@@ -205,9 +193,9 @@ module _ {s : List ℕ} {n middle h many : ℕ} {heads places : List ℕ} (i q :
           new (inr l) = inr (m.0, l)
 
 -- one cover edge more is linked
-module _ {s : List ℕ} {n middle h j many : ℕ} {heads places : List ℕ} (d : Linked s n middle h [] j many heads places) where
-  pub linked_cover : many < length places → (v : ℕ) → v ≡ target_of s n middle j → v < n → (at : ℕ) → at ≡ cover_at s n middle j → (w : ℕ) → Tells s heads v at w
-      → Linked s n middle h [] (j + 1) (many + 1) (set heads v (many + 1)) (set places many w)
+module _ {s : List ℕ} {n middle most h j many : ℕ} {heads : List ℕ} {places : List Place} (d : Linked s n middle most h [] j many heads places) where
+  pub linked_cover : many < length places → (v : ℕ) → v ≡ target_of s n middle j → v < n → (at : ℕ) → at ≡ cover_at s n middle j → (w : Place) → Tells s heads v at w
+      → Linked s n middle most h [] (j + 1) (many + 1) (set heads v (many + 1)) (set places many w)
   linked_cover room v is named at there w tells = record {
     long = long_set d.long v (many + 1) many w;
     within = within_more d room v named at w tells;
@@ -230,7 +218,7 @@ module _ {s : List ℕ} {n middle h j many : ℕ} {heads places : List ℕ} (d :
           rw (same, sym is, sym there) (found_new d room v named at w tells)
 
   -- all are linked
-  pub linked_all : many ≤ length places → Index s n h j middle heads places
+  pub linked_all : many ≤ length places → Index s n h j middle most heads places
   linked_all few = record {
     long = d.long;
     within = λ v. omega (arith, d.within v);

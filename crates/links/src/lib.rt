@@ -4,177 +4,144 @@
 ghost use Rattle.std.specs.Prelude.{◌≡◌, true, ℕ, ◌+◌, ◌*◌, ◌≤◌, [], length};
 ghost use Rattle.wire.specs.Layout.{items, end, Sound};
 ghost use Rattle.graph.specs.Format.{graph_header, hyper_width, target_width, cover_width};
-ghost use Rattle.graph.specs.Layouts.{target_layout, hyper_layout, cover_layout, Scannable};
-ghost use Rattle.links.specs.Links.{Fits, link_of, spot_of, source_of, Long, Linked, Index};
+ghost use Rattle.graph.specs.Layouts.{target_layout, hyper_layout};
+ghost use Rattle.links.specs.Links.{Fits, Long, Linked, Index};
 
+use graph::Scanned;
 use wire::Width;
 
+// A place at which a node is a target: the place before it on the node's chain, where its record stands, and the record's source. Who
+// follows a chain reads all three at once, and short lists of one kind would fall on one another in the processor's cache. A link of 0 is
+// none, and k + 1 is place k: an Option of it would take two bytes more.
+#[derive(Clone, Copy)]
+pub struct Place {
+    pub link: u16,
+    pub spot: u16,
+    pub source: u32,
+}
+
+impl Place {
+    pub const NONE: Place = Place {
+        link: 0,
+        spot: 0,
+        source: 0,
+    };
+}
+
+// The lists of the chains: a link to the last place of each node, and the places.
+#[derive(Drop)]
+pub struct Lists<const M: usize> {
+    pub heads: [u16; M],
+    pub places: [Place; M],
+}
+
 // Whether a graph is small enough for lists of a length: its nodes, its targets and cover edges, and the positions of its records.
-pub fn fit(n: usize, h: u32, c: u32, middle: usize, most: u16) -> bool
-    ensures { result ≡ true → Fits n h c middle most }
+pub fn fit(nodes: usize, hypers: u32, covers: u32, middle: usize, most: u16) -> bool
+    ensures { result ≡ true → Fits nodes hypers covers middle most }
 {
     let places = most as usize;
-    if places < n {
+    if places < nodes {
         return false;
     }
     if 65535 < middle {
         return false;
     }
-    let covers = c as usize;
-    let end = middle + covers * graph::COVER;
+    let edges = covers as usize;
+    let end = middle + edges * graph::COVER;
     if 65535 < end {
         return false;
     }
-    let hypers = (h as usize) * graph::HYPER;
-    middle + covers * graph::TARGET <= graph::HEADER + hypers + places * graph::TARGET
+    let fixed = (hypers as usize) * graph::HYPER;
+    middle + edges * graph::TARGET <= graph::HEADER + fixed + places * graph::TARGET
 }
 
-// What is told of a place, in one number of 64 bits: the place before it on the chain, where its record stands, and the record's source. Who
-// follows a chain reads all three at once, and short lists of one kind would fall on one another in the processor's cache.
-fn place_of(link: u16, spot: usize, source: u32) -> u64
-    requires { (spot ≤ 65535) × (source ≤ 65535) }
-    ensures { (link_of result ≡ link) × (spot_of result ≡ spot) × (source_of result ≡ source) }
-{
-    (source as u64) * 4294967296 + (spot as u64) * 65536 + (link as u64)
-}
-
-// The place before one on its chain.
-pub fn link_of(place: u64) -> usize
-    ensures { result ≡ link_of place }
-{
-    (place % 65536) as usize
-}
-
-// Where the record of a place stands.
-pub fn spot_of(place: u64) -> usize
-    ensures { result ≡ spot_of place }
-{
-    (place / 65536 % 65536) as usize
-}
-
-// The source of that record.
-pub fn source_of(place: u64) -> usize
-    ensures { result ≡ source_of place }
-{
-    (place / 4294967296) as usize
-}
-
-// Links the k targets of the hyperedge at position p, from a place on, and gives the place behind them, where the loop over their positions
-// comes to. All of them are nodes: the test of it never fails, but where it stands the compiler reads a node as one number, and not as two bytes.
-fn link(
-    s: &[u8],
-    n: usize,
-    p: usize,
-    k: u32,
-    place: usize,
-    heads: &mut [u16],
-    places: &mut [u64],
-) -> usize
-    requires sound { Sound (target_layout s.now n) k (p + hyper_width) }
-    requires hyper_width_in_bounds { p + hyper_width ≤ length s.now }
-    requires long { Long n heads.old places.old }
-    requires p_bound { (p ≤ 65535) × (place + k ≤ length places.old) }
-    ensures value { result ≡ place + k }
-    ensures by_index { (middle j : ℕ) → p ≡ end (hyper_layout s.now n) j graph_header
-        → Linked s.now n middle (j + 1) (items (target_layout s.now n) k (p + hyper_width)) 0 place heads.old places.old
-        → Linked s.now n middle (j + 1) [] 0 (place + k) heads.new places.new }
-{
-    let source = wire::number_at(s, p, Width::Two);
-    let mut q = p + graph::HYPER;
-    let end = q + (k as usize) * graph::TARGET;
-    let mut at = place;
-    while q < end {
-        let v = wire::number_at(s, q + graph::NODE_AT, Width::Two) as usize;
-        if n <= v {
-            return at;
+impl<const M: usize> Lists<M> {
+    // Links the k targets of the hyperedge at position p, from a place on, and gives the place behind them, where the loop over them comes
+    // to. All of them are nodes: the test of it never fails, but where it stands the compiler reads a node as one number, and not as two bytes.
+    fn link(&mut self, g: Scanned, p: usize, k: u32, place: usize) -> usize
+        requires sound { Sound (target_layout g.bytes.now g.nodes) k (p + hyper_width) }
+        requires inside { p + hyper_width ≤ length g.bytes.now }
+        requires long { Long g.nodes M self.old.heads self.old.places }
+        requires room { (p ≤ 65535) × (place + k ≤ M) }
+        ensures value { result ≡ place + k }
+        ensures long { Long g.entry.nodes M self.new.heads self.new.places }
+        ensures linked { (j : ℕ) → p ≡ end (hyper_layout g.entry.bytes.now g.entry.nodes) j graph_header
+            → Linked g.entry.bytes.now g.entry.nodes g.entry.middle M (j + 1)
+            (items (target_layout g.entry.bytes.now g.entry.nodes) k (p + hyper_width)) 0 place self.old.heads self.old.places
+            → Linked g.entry.bytes.now g.entry.nodes g.entry.middle M (j + 1) [] 0 (place + k) self.new.heads self.new.places }
+    {
+        let source = wire::number_at(g.bytes, p, Width::Two);
+        let first = p + graph::HYPER;
+        let mut at = place;
+        for i in 0..k as usize {
+            let target = first + i * graph::TARGET;
+            let v = wire::number_at(g.bytes, target + graph::NODE_AT, Width::Two) as usize;
+            if g.nodes <= v {
+                return at;
+            }
+            self.places[at] = Place {
+                link: self.heads[v],
+                spot: p as u16,
+                source,
+            };
+            at += 1;
+            self.heads[v] = at as u16;
         }
-        let head = heads[v];
-        places[at] = place_of(head, p, source);
-        at += 1;
-        heads[v] = at as u16;
-        q += graph::TARGET;
+        at
     }
-    at
-}
 
-// Links the targets of h hyperedges, which end at `middle`, and gives how many they are. The next position is told by the places that
-// were linked, and not by the count: so it need not wait for the count to be read.
-fn link_hypers(
-    s: &[u8],
-    n: usize,
-    h: u32,
-    middle: usize,
-    heads: &mut [u16],
-    places: &mut [u64],
-) -> usize
-    requires sound { Sound (hyper_layout s.now n) h graph_header }
-    requires middle_value { middle ≡ end (hyper_layout s.now n) h graph_header }
-    requires middle_bound { (middle ≤ 65535) × (middle ≤ graph_header + h * hyper_width + length places.old * target_width) }
-    requires linked { Linked s.now n middle 0 [] 0 0 heads.old places.old }
-    ensures middle_value_2 { middle ≡ graph_header + h * hyper_width + result * target_width }
-    ensures linked_2 { Linked s.now n middle h [] 0 result heads.new places.new }
-{
-    let mut j: u32 = 0;
-    let mut p: usize = graph::HEADER;
-    let mut place: usize = 0;
-    while j < h {
-        let count = wire::number_at(s, p + graph::TARGET_COUNT_AT, Width::Two);
-        j += 1;
-        let next = link(s, n, p, count, place, heads, places);
-        p += graph::HYPER + (next - place) * graph::TARGET;
-        place = next;
+    // Links the targets of all hyperedges, and gives how many they are. The next position is told by the places that were linked, and not by
+    // the count: so it need not wait for the count to be read.
+    fn link_hypers(&mut self, g: Scanned) -> usize
+        requires middle_small { (g.middle ≤ 65535) × (g.middle ≤ graph_header + g.hypers * hyper_width + M * target_width) }
+        requires nothing { Linked g.bytes.now g.nodes g.middle M 0 [] 0 0 self.old.heads self.old.places }
+        ensures many { g.entry.middle ≡ graph_header + g.entry.hypers * hyper_width + result * target_width }
+        ensures linked { Linked g.entry.bytes.now g.entry.nodes g.entry.middle M g.entry.hypers [] 0 result self.new.heads self.new.places }
+    {
+        let mut p: usize = graph::HEADER;
+        let mut place: usize = 0;
+        for j in 0..g.hypers {
+            let count = wire::number_at(g.bytes, p + graph::TARGET_COUNT_AT, Width::Two);
+            let next = self.link(g, p, count, place);
+            p += graph::HYPER + (next - place) * graph::TARGET;
+            place = next;
+        }
+        place
     }
-    place
-}
 
-// Links the targets of c cover edges at `middle`, from a place on, behind those of h hyperedges.
-fn link_covers(
-    s: &[u8],
-    n: usize,
-    h: u32,
-    c: u32,
-    middle: usize,
-    place: usize,
-    heads: &mut [u16],
-    places: &mut [u64],
-)
-    requires sound { Sound (cover_layout s.now n) c middle }
-    requires cover_width_bound { (middle + c * cover_width ≤ 65535) × (place + c ≤ length places.old) }
-    requires linked { Linked s.now n middle h [] 0 place heads.old places.old }
-    ensures { Index s.now n h c middle heads.new places.new }
-{
-    let mut j: u32 = 0;
-    let mut p = middle;
-    let mut at = place;
-    while j < c {
-        let target = wire::number_at(s, p + graph::COVER_TARGET_AT, Width::Two) as usize;
-        let head = heads[target];
-        let from = wire::number_at(s, p, Width::Two);
-        places[at] = place_of(head, p, from);
-        at += 1;
-        heads[target] = at as u16;
-        p += graph::COVER;
-        j += 1;
+    // Links the targets of all cover edges, from a place on, behind those of the hyperedges.
+    fn link_covers(&mut self, g: Scanned, place: usize)
+        requires room { (g.middle + g.covers * cover_width ≤ 65535) × (place + g.covers ≤ M) }
+        requires linked { Linked g.bytes.now g.nodes g.middle M g.hypers [] 0 place self.old.heads self.old.places }
+        ensures { Index g.entry.bytes.now g.entry.nodes g.entry.hypers g.entry.covers g.entry.middle M self.new.heads self.new.places }
+    {
+        let mut edge = g.middle;
+        let mut at = place;
+        for j in 0..g.covers {
+            let target = wire::number_at(
+                g.bytes,
+                edge + graph::COVER_TARGET_AT,
+                Width::Two,
+            ) as usize;
+            self.places[at] = Place {
+                link: self.heads[target],
+                spot: edge as u16,
+                source: wire::number_at(g.bytes, edge, Width::Two),
+            };
+            at += 1;
+            self.heads[target] = at as u16;
+            edge += graph::COVER;
+        }
     }
-}
 
-// Links all places of a graph that is small enough, where none is linked yet. A place tells the source of its record too: who follows a
-// chain reads it beside the position, and need not wait for the message to say it.
-pub fn link_all(
-    s: &[u8],
-    n: usize,
-    h: u32,
-    c: u32,
-    middle: usize,
-    heads: &mut [u16],
-    places: &mut [u64],
-)
-    requires scannable { Scannable s.now n h c }
-    requires middle_value { middle ≡ end (hyper_layout s.now n) h graph_header }
-    requires fits { Fits n h c middle (length places.old) }
-    requires linked { Linked s.now n middle 0 [] 0 0 heads.old places.old }
-    ensures { Index s.now n h c middle heads.new places.new }
-{
-    let place = link_hypers(s, n, h, middle, heads, places);
-    link_covers(s, n, h, c, middle, place, heads, places);
+    // Links all places of a graph that is small enough, where none is linked yet. A place tells the source of its record too: who follows a
+    // chain reads it beside the position, and need not wait for the message to say it.
+    pub fn link_all(&mut self, g: Scanned)
+        requires fits { Fits g.nodes g.hypers g.covers g.middle M }
+        requires nothing { Linked g.bytes.now g.nodes g.middle M 0 [] 0 0 self.old.heads self.old.places }
+        ensures { Index g.entry.bytes.now g.entry.nodes g.entry.hypers g.entry.covers g.entry.middle M self.new.heads self.new.places }
+    {
+        let place = self.link_hypers(g);
+        self.link_covers(g, place);
+    }
 }

@@ -7,7 +7,7 @@ use mathlib.Core.Logic.{◌⊎◌, inl, inr, ⊎_elim}
 use mathlib.Core.Path.{◌≡◌, refl, sym, ap, subst, ◌∙◌}
 use lib.ListN.{get_or}
 use lib.Dec.{leb, ltb}
-use borrow.Author.Tests.{leb-true, lt-leb, ltb-true, ltb-false}
+use borrow.Author.Tests.{leb-true, ltb-true, ltb-false}
 use native.Mathlib.Omega.{arith}
 use Rattle.value.specs.Value.{least, ◌≼◌}
 use Rattle.value.specs.Stored.{stored}
@@ -22,13 +22,14 @@ use Rattle.rules.specs.Rounds.{Assignment, round}
 use Rattle.rules.proofs.Reasons.{Reason, by_cover, by_hyper, reason, at_most_lem}
 use Rattle.graph.specs.Format.{graph_header, cover_width}
 use Rattle.graph.specs.Layouts.{hyper_layout, cover_layout}
+use Rattle.graph.specs.declared.view.Records.{Records}
 use Rattle.halves.specs.Held.{held}
 use Rattle.halves.specs.Room.{half}
 use Rattle.scans.specs.Scan.{Done, part_of}
-use Rattle.notes.specs.Index.{more_marks}
+use Rattle.notes.specs.Index.{more_marks, whole_of, spread_of}
 use Rattle.notes.specs.declared.Marks.{Marks}
 use Rattle.notes.specs.declared.Span.{Span}
-use Rattle.marked.specs.Took.{Within, Either, Among, spread_of, Stands, Took}
+use Rattle.marked.specs.Took.{Within, Either, Among, Stands, Took}
 
 -- two parts of a graph together; their round is the least of both rounds
 abbrev both : Graph → Graph → Graph
@@ -63,9 +64,6 @@ module _ (lo hi from to : ℕ) where
       go false e true f = rw (e, f) (b, leb-true to lo f, a, c)
       go false e false f = rw (e, f) (omega arith, omega arith, omega arith, omega arith)
 
-  pub spread_whole : {x y : ℕ} → from < hi → lo < to → x ≡ min lo from → y ≡ max hi to → record { lo = x; gap = x; behind = x; hi = y } ≡ spread_of lo hi from to
-  spread_whole a b e f = rw (lt-leb hi from a, lt-leb to lo b, e, f) refl
-
   among_spread : (v : ℕ) → lo ≤ hi → from ≤ to → Within lo hi v ⊎ Within from to v → Among (spread_of lo hi from to) v
   among_spread v a b w = go (leb hi from) refl (leb to lo) refl w
     where
@@ -77,10 +75,10 @@ module _ (lo hi from to : ℕ) where
       go false e false f (inl w) = rw (e, f) (record { outer = (omega (arith, w.0), omega (arith, w.1)); inner = λ g. omega (arith, g.0, g.1) })
       go false e false f (inr w) = rw (e, f) (record { outer = (omega (arith, w.0), omega (arith, w.1)); inner = λ g. omega (arith, g.0, g.1) })
 
-module _ {s : List ℕ} {n h c middle : ℕ} where
+module _ {g : Records} where
   -- one range after the other
-  pub took_both : {P Q P' Q' : ℕ → Type 0} {b₀ b₁ b₂ : List ℕ} {d d' : Span} → Took s n h c middle P Q b₀ b₁ d → Took s n h c middle P' Q' b₁ b₂ d'
-      → Took s n h c middle (Either P P') (Either Q Q') b₀ b₂ (spread_of d.lo d.hi d'.lo d'.hi)
+  pub took_both : {P Q P' Q' : ℕ → Type 0} {b₀ b₁ b₂ : List ℕ} {d d' : Span} → Took g P Q b₀ b₁ d → Took g P' Q' b₁ b₂ d'
+      → Took g (Either P P') (Either Q Q') b₀ b₂ (spread_of d.lo d.hi d'.lo d'.hi)
   took_both {P} {Q} {P'} {Q'} {b₀} {b₁} {b₂} {d} {d'} t u = record {
     part = both t.part u.part;
     nodes = t.nodes;
@@ -89,7 +87,7 @@ module _ {s : List ℕ} {n h c middle : ℕ} where
       this = u.room.this ∙ t.room.this;
       past = u.room.past ∙ t.room.past;
       each = λ v l.
-          let x = held (half n 0 b₀) in
+          let x = held (half g.nodes 0 b₀) in
           let behind = ap (λ (a : List ℕ). stored (round u.part (held a) v)) t.room.this in
           omega (arith, u.room.each v l, t.room.each v l, behind, ap stored (round_both t.part u.part x v), stored_least (round t.part x v) (round u.part x v));
     };
@@ -97,15 +95,15 @@ module _ {s : List ℕ} {n h c middle : ℕ} where
     cover_of = λ m. ⊎_elim (λ l. t.cover_of l) (λ l. u.cover_of l) (Memᴰ.append_cases t.part.covers m);
     hyper_has = λ j k. ⊎_elim (λ l. Memᴰ.append_left {s = t.part.hypers} u.part.hypers (t.hyper_has j l)) (λ l. Memᴰ.append_right t.part.hypers (u.hyper_has j l)) k;
     cover_has = λ j k. ⊎_elim (λ l. Memᴰ.append_left {s = t.part.covers} u.part.covers (t.cover_has j l)) (λ l. Memᴰ.append_right t.part.covers (u.cover_has j l)) k;
-    in_order = spread_order d.lo d.hi d'.lo d'.hi n near far o.3 q.3;
+    in_order = spread_order d.lo d.hi d'.lo d'.hi g.nodes near far o.3 q.3;
     hyper_among = λ m. among (⊎_elim (λ l. inl (t.hyper_among l).outer) (λ l. inr (u.hyper_among l).outer) (Memᴰ.append_cases t.part.hypers m));
     cover_among = λ m. among (⊎_elim (λ l. inl (t.cover_among l).outer) (λ l. inr (u.cover_among l).outer) (Memᴰ.append_cases t.part.covers m));
   }
     where
-      o : (d.lo ≤ d.gap) × (d.gap ≤ d.behind) × (d.behind ≤ d.hi) × (d.hi ≤ n)
+      o : (d.lo ≤ d.gap) × (d.gap ≤ d.behind) × (d.behind ≤ d.hi) × (d.hi ≤ g.nodes)
       o = t.in_order
 
-      q : (d'.lo ≤ d'.gap) × (d'.gap ≤ d'.behind) × (d'.behind ≤ d'.hi) × (d'.hi ≤ n)
+      q : (d'.lo ≤ d'.gap) × (d'.gap ≤ d'.behind) × (d'.behind ≤ d'.hi) × (d'.hi ≤ g.nodes)
       q = u.in_order
 
       near : d.lo ≤ d.hi
@@ -118,8 +116,8 @@ module _ {s : List ℕ} {n h c middle : ℕ} where
       among {v} = among_spread d.lo d.hi d'.lo d'.hi v near far
 
   -- fewer numbers
-  pub took_fewer : {P Q P' Q' : ℕ → Type 0} {b₀ b : List ℕ} {d : Span} → Took s n h c middle P Q b₀ b d → ((j : ℕ) → P' j → P j) → ((j : ℕ) → Q' j → Q j)
-      → Took s n h c middle P' Q' b₀ b d
+  pub took_fewer : {P Q P' Q' : ℕ → Type 0} {b₀ b : List ℕ} {d : Span} → Took g P Q b₀ b d → ((j : ℕ) → P' j → P j) → ((j : ℕ) → Q' j → Q j)
+      → Took g P' Q' b₀ b d
   took_fewer t ps qs = record {
     part = t.part;
     nodes = t.nodes;
@@ -134,8 +132,8 @@ module _ {s : List ℕ} {n h c middle : ℕ} where
   }
 
   -- the same spans
-  pub took_spread : {P Q : ℕ → Type 0} {b₀ b : List ℕ} {d d' : Span} → d' ≡ d → Took s n h c middle P Q b₀ b d → Took s n h c middle P Q b₀ b d'
-  took_spread {P} {Q} {b₀} {b} e t = subst (Took s n h c middle P Q b₀ b) (sym e) t
+  pub took_spread : {P Q : ℕ → Type 0} {b₀ b : List ℕ} {d d' : Span} → d' ≡ d → Took g P Q b₀ b d → Took g P Q b₀ b d'
+  took_spread {P} {Q} {b₀} {b} e t = subst (Took g P Q b₀ b) (sym e) t
 
 -- two ranges of hyperedges that overlap are within one
 module _ (m l : Marks) where
@@ -143,11 +141,11 @@ module _ (m l : Marks) where
   joined_within j (inl w) = (omega (arith, w.0), omega (arith, w.1))
   joined_within j (inr w) = (omega (arith, w.0), omega (arith, w.1))
 
-  pub joined_stands : {s : List ℕ} {n h c : ℕ} → Stands s n h c m → Stands s n h c l → m.first < l.last → l.first < m.last
-      → Stands s n h c (more_marks m l.first l.last l.at l.low l.high)
-  joined_stands {s} {n} d e low high = record { upto = omega (arith, d.upto, e.upto); there = λ q. at (ltb l.first m.first) refl; covers_upto = omega (arith, d.covers_upto, e.covers_upto) }
+  pub joined_stands : {g : Records} → Stands g m → Stands g l → m.first < l.last → l.first < m.last
+      → Stands g (more_marks m l)
+  joined_stands {g} d e low high = record { upto = omega (arith, d.upto, e.upto); there = λ q. at (ltb l.first m.first) refl; covers_upto = omega (arith, d.covers_upto, e.covers_upto) }
     where
-      at : (t : Bool) → ltb l.first m.first ≡ t → cond (ltb l.first m.first) l.at m.at ≡ end (hyper_layout s n) (min m.first l.first) graph_header
+      at : (t : Bool) → ltb l.first m.first ≡ t → cond (ltb l.first m.first) l.at m.at ≡ end (hyper_layout g.bytes.now g.nodes) (min m.first l.first) graph_header
       at true t =
           let h = ltb-true l.first m.first t in
           let is : min m.first l.first ≡ l.first = omega arith in
@@ -158,39 +156,39 @@ module _ (m l : Marks) where
           rw (t, is) (d.there (omega arith))
 
 -- a range
-module _ {s : List ℕ} {n h c : ℕ} {m : Marks} (d : Stands s n h c m) where
-  pub range_sound : {k : ℕ} → k ≡ m.last - m.first → Sound (hyper_layout s n) h graph_header → Sound (hyper_layout s n) k m.at
-  range_sound e whole = rw e (part_sound (hyper_layout s n) h graph_header m.first m.last m.at d.upto d.there whole)
+module _ {g : Records} {m : Marks} (d : Stands g m) where
+  pub range_sound : {k : ℕ} → k ≡ m.last - m.first → Sound (hyper_layout g.bytes.now g.nodes) g.hypers graph_header → Sound (hyper_layout g.bytes.now g.nodes) k m.at
+  range_sound e whole = rw e (part_sound (hyper_layout g.bytes.now g.nodes) g.hypers graph_header m.first m.last m.at d.upto d.there whole)
 
   -- where its hyperedges end
-  pub range_past : {k p : ℕ} → k ≡ m.last - m.first → p ≡ end (hyper_layout s n) k m.at → m.first < m.last → p ≡ end (hyper_layout s n) m.last graph_header
-  range_past counted e l = e ∙ ap (λ (k : ℕ). end (hyper_layout s n) k m.at) counted ∙ part_end (hyper_layout s n) h graph_header m.first m.last m.at d.upto d.there l
+  pub range_past : {k p : ℕ} → k ≡ m.last - m.first → p ≡ end (hyper_layout g.bytes.now g.nodes) k m.at → m.first < m.last → p ≡ end (hyper_layout g.bytes.now g.nodes) m.last graph_header
+  range_past counted e l = e ∙ ap (λ (k : ℕ). end (hyper_layout g.bytes.now g.nodes) k m.at) counted ∙ part_end (hyper_layout g.bytes.now g.nodes) g.hypers graph_header m.first m.last m.at d.upto d.there l
 
-  cover_at : (middle : ℕ) → m.low < m.high → middle + m.low * cover_width ≡ end (cover_layout s n) m.low middle
-  cover_at middle q = sym (end_wide (cover_layout s n) 8 (λ p. refl) m.low middle)
+  cover_at : m.low < m.high → g.middle + m.low * cover_width ≡ end (cover_layout g.bytes.now g.nodes) m.low g.middle
+  cover_at q = sym (end_wide (cover_layout g.bytes.now g.nodes) 8 (λ p. refl) m.low g.middle)
 
-  pub took_range : {middle k lo hi : ℕ} {b₀ b : List ℕ} → k ≡ m.last - m.first → lo ≤ hi → hi ≤ n
-      → Done n 0 n b₀ b (λ v. min (get_or b₀ (n + v) 0) (stored (round (part_of s n k m.at (m.high - m.low) (middle + m.low * cover_width)) (held (half n 0 b₀)) v)))
-      → ((j : ℕ) → m.first ≤ j → j < m.last → Within lo hi (number 2 s (end (hyper_layout s n) j graph_header)))
-      → ((j : ℕ) → m.low ≤ j → j < m.high → Within lo hi (number 2 s (end (cover_layout s n) j middle)))
-      → Took s n h c middle (Within m.first m.last) (Within m.low m.high) b₀ b (record { lo = lo; gap = lo; behind = lo; hi = hi })
+  pub took_range : {k lo hi : ℕ} {b₀ b : List ℕ} → k ≡ m.last - m.first → lo ≤ hi → hi ≤ g.nodes
+      → Done g.nodes 0 g.nodes b₀ b (λ v. min (get_or b₀ (g.nodes + v) 0) (stored (round (part_of g.bytes.now g.nodes k m.at (m.high - m.low) (g.middle + m.low * cover_width)) (held (half g.nodes 0 b₀)) v)))
+      → ((j : ℕ) → m.first ≤ j → j < m.last → Within lo hi (number 2 g.bytes.now (end (hyper_layout g.bytes.now g.nodes) j graph_header)))
+      → ((j : ℕ) → m.low ≤ j → j < m.high → Within lo hi (number 2 g.bytes.now (end (cover_layout g.bytes.now g.nodes) j g.middle)))
+      → Took g (Within m.first m.last) (Within m.low m.high) b₀ b (whole_of lo hi)
   unfolding part_of
-  took_range {middle} {k} {lo} {hi} {b₀} {b} counted low high done hypers covers = record {
-    part = part_of s n (m.last - m.first) m.at (m.high - m.low) (middle + m.low * cover_width);
+  took_range {k} {lo} {hi} {b₀} {b} counted low high done hypers covers = record {
+    part = part_of g.bytes.now g.nodes (m.last - m.first) m.at (m.high - m.low) (g.middle + m.low * cover_width);
     nodes = refl;
     room = rw counted at done;
-    hyper_of = λ i. part_of_lem (hyper_layout s n) h graph_header m.first m.last m.at d.upto d.there i;
-    cover_of = λ i. part_of_lem (cover_layout s n) c middle m.low m.high (middle + m.low * cover_width) d.covers_upto (cover_at middle) i;
-    hyper_has = λ j w. part_has (hyper_layout s n) h graph_header m.first m.last m.at d.upto d.there j w.0 w.1;
-    cover_has = λ j w. part_has (cover_layout s n) c middle m.low m.high (middle + m.low * cover_width) d.covers_upto (cover_at middle) j w.0 w.1;
+    hyper_of = λ i. part_of_lem (hyper_layout g.bytes.now g.nodes) g.hypers graph_header m.first m.last m.at d.upto d.there i;
+    cover_of = λ i. part_of_lem (cover_layout g.bytes.now g.nodes) g.covers g.middle m.low m.high (g.middle + m.low * cover_width) d.covers_upto cover_at i;
+    hyper_has = λ j w. part_has (hyper_layout g.bytes.now g.nodes) g.hypers graph_header m.first m.last m.at d.upto d.there j w.0 w.1;
+    cover_has = λ j w. part_has (cover_layout g.bytes.now g.nodes) g.covers g.middle m.low m.high (g.middle + m.low * cover_width) d.covers_upto cover_at j w.0 w.1;
     in_order = (omega arith, omega arith, low, high);
     hyper_among = λ i.
-        let r = part_number (hyper_layout s n) h graph_header m.first m.last m.at d.upto d.there i in
-        subst (λ (x : Hyper). Among (record { lo = lo; gap = lo; behind = lo; hi = hi }) x.source) (sym r.3) (whole (hypers r.0 r.1 r.2));
+        let r = part_number (hyper_layout g.bytes.now g.nodes) g.hypers graph_header m.first m.last m.at d.upto d.there i in
+        subst (λ (x : Hyper). Among (whole_of lo hi) x.source) (sym r.3) (whole (hypers r.0 r.1 r.2));
     cover_among = λ i.
-        let r = part_number (cover_layout s n) c middle m.low m.high (middle + m.low * cover_width) d.covers_upto (cover_at middle) i in
-        subst (λ (x : Cover). Among (record { lo = lo; gap = lo; behind = lo; hi = hi }) x.source) (sym r.3) (whole (covers r.0 r.1 r.2));
+        let r = part_number (cover_layout g.bytes.now g.nodes) g.covers g.middle m.low m.high (g.middle + m.low * cover_width) d.covers_upto cover_at i in
+        subst (λ (x : Cover). Among (whole_of lo hi) x.source) (sym r.3) (whole (covers r.0 r.1 r.2));
   }
     where
-      whole : {v : ℕ} → Within lo hi v → Among (record { lo = lo; gap = lo; behind = lo; hi = hi }) v
+      whole : {v : ℕ} → Within lo hi v → Among (whole_of lo hi) v
       whole w = record { outer = w; inner = λ g. omega (arith, g.0, g.1) }

@@ -1,166 +1,77 @@
 // Rounds on a graph of any size: a round takes in the records between those that the changed nodes mark.
 #![tactic(auto)]
 
-ghost use Rattle.std.specs.Prelude.{◌≡◌, true, false, ◌+◌, ◌-◌, ◌≤◌, length};
-ghost use Rattle.wire.specs.Layout.{end};
-ghost use Rattle.graph.specs.Format.{graph_header};
-ghost use Rattle.graph.specs.Layouts.{hyper_layout, decoded};
-ghost use Rattle.graph.specs.Ready.{Ready};
+ghost use Rattle.std.specs.Prelude.{◌≡◌, ◌+◌, ◌≤◌, length};
+ghost use Rattle.graph.specs.Viewed.{decoded_of};
 ghost use Rattle.halves.specs.Room.{Same};
-ghost use Rattle.notes.specs.Index.{Besides};
-ghost use Rattle.marked.specs.Took.{Within, Either, spread_of, Stands, Took};
+ghost use Rattle.marked.specs.Took.{Within, Either, Stands, Took};
 ghost use Rattle.turns.specs.Turns.{AtRound};
 ghost use Rattle.turns.specs.Outcome.{outcome_count, ended, filled};
 
-use notes::{Marks, Span};
+use graph::Records;
+use notes::{Marks, Notes, Span};
 use turns::Outcome;
 
-fn above(a: u32, b: u32) -> u32
-    ensures { result ≡ a - b }
-{
-    if a < b {
-        return 0;
-    }
-    a - b
-}
-
 // Takes the records that are marked into the second half from the first.
-fn take_range(s: &[u8], n: usize, h: u32, c: u32, middle: usize, m: Marks, room: &mut [u64]) -> Span
-    requires ready { Ready s.now n h c }
-    requires middle_value { middle ≡ end (hyper_layout s.now n) h graph_header }
-    requires n_in_bounds { n + n ≤ length room.old }
-    requires stands { Stands s.now n h c m }
-    ensures { Took s.now n h c middle (Within m.first m.last) (Within m.low m.high) room.old room.new result }
+fn take_range(g: Records, m: Marks, room: &mut [u64]) -> Span
+    requires n_in_bounds { g.nodes + g.nodes ≤ length room.old }
+    requires stands { Stands g m }
+    ensures { Took g.entry (Within m.first m.last) (Within m.low m.high) room.old room.new result }
 {
-    let k = above(m.last, m.first);
-    let past = scans::next_round(s, n, k, m.at, c, middle, m.low, m.high, room);
-    let from = sources::hypers_from(s, n, h, m.first, m.last, m.at);
-    let to = sources::hypers_to(s, n, h, m.first, m.last, past);
-    let covers_lo = sources::covers_from(s, n, c, middle, m.low, m.high);
-    let covers_hi = sources::covers_to(s, n, c, middle, m.low, m.high);
-    let lo = sources::nearer(from, covers_lo);
-    let past_all = sources::farther(to, covers_hi);
-    Span {
-        lo: lo,
-        gap: lo,
-        behind: lo,
-        hi: sources::farther(lo, past_all),
-    }
-}
-
-// Two spans in order, with what is between them as the gap; without a gap where they overlap.
-fn spread(lo: usize, hi: usize, from: usize, to: usize) -> Span
-    ensures { result ≡ spread_of lo hi from to }
-{
-    if hi <= from {
-        return Span {
-            lo: lo,
-            gap: hi,
-            behind: from,
-            hi: to,
-        };
-    }
-    if to <= lo {
-        return Span {
-            lo: from,
-            gap: to,
-            behind: lo,
-            hi: hi,
-        };
-    }
-    let least = sources::nearer(lo, from);
-    Span {
-        lo: least,
-        gap: least,
-        behind: least,
-        hi: sources::farther(hi, to),
-    }
-}
-
-// Whether both halves are the same, where they are but for two spans.
-fn unchanged(n: usize, span: Span, room: &[u64]) -> bool
-    requires n_in_bounds { n + n ≤ length room.now }
-    requires besides { Besides n span room.now }
-    ensures { (result ≡ true → Same n room.now) × (result ≡ false → ¬ Same n room.now) }
-{
-    if !halves::between(n, span.lo, span.gap, room) {
-        return false;
-    }
-    halves::between(n, span.behind, span.hi, room)
+    let k = m.last.saturating_sub(m.first);
+    let hypers = g.hyperedges();
+    let covers = g.cover_edges();
+    let past = scans::next_round(covers, k, m.at, m.low, m.high, room);
+    let from = sources::hypers_from(hypers, m.first, m.last, m.at);
+    let to = sources::hypers_to(hypers, m.first, m.last, past);
+    let covers_from = sources::covers_from(covers, m.low, m.high);
+    let covers_to = sources::covers_to(covers, m.low, m.high);
+    let lo = from.min(covers_from);
+    let hi = to.max(covers_to);
+    Span::whole(lo, lo.max(hi))
 }
 
 // Takes in the records that are marked, and the long ones; all at once where the ones stand among the others.
-fn take_both(
-    s: &[u8],
-    n: usize,
-    h: u32,
-    c: u32,
-    middle: usize,
-    m: Marks,
-    longs: Marks,
-    room: &mut [u64],
-) -> Span
-    requires ready { Ready s.now n h c }
-    requires middle_value { middle ≡ end (hyper_layout s.now n) h graph_header }
-    requires n_in_bounds { n + n ≤ length room.old }
-    requires stands { Stands s.now n h c m }
-    requires stands_2 { Stands s.now n h c longs }
-    ensures { Took s.now n h c middle (Either (Within m.first m.last) (Within longs.first longs.last)) (Within m.low m.high)
-        room.old room.new result }
+fn take_both(g: Records, m: Marks, longs: Marks, room: &mut [u64]) -> Span
+    requires n_in_bounds { g.nodes + g.nodes ≤ length room.old }
+    requires stands { Stands g m }
+    requires longs_stand { Stands g longs }
+    ensures { Took g.entry (Either (Within m.first m.last) (Within longs.first longs.last)) (Within m.low m.high) room.old room.new result }
 {
     if m.first < longs.last && longs.first < m.last {
-        let all = m.more(longs.first, longs.last, longs.at, longs.low, longs.high);
-        return take_range(s, n, h, c, middle, all, room);
+        return take_range(g, m.more(longs), room);
     }
-    let near = take_range(s, n, h, c, middle, m, room);
-    let far = take_range(s, n, h, c, middle, longs, room);
-    spread(near.lo, near.hi, far.lo, far.hi)
+    let near = take_range(g, m, room);
+    let far = take_range(g, longs, room);
+    near.join(far)
 }
 
 // From a round and the next on, until a round changes nothing or the budget is spent. The next round is worked out in the second half; then
 // the first is brought up to it. Why skipping is exact: a record whose targets stayed in the last round gives what it gave before, which
 // its source has already, since rounds fall; so only records of changed targets are worked out, and only their sources are compared.
-fn run_noted(
-    s: &[u8],
-    n: usize,
-    h: u32,
-    c: u32,
-    middle: usize,
-    round: u32,
-    budget: u32,
-    room: &mut [u64],
-) -> Outcome
-    requires ready { Ready s.now n h c }
-    requires middle_value { middle ≡ end (hyper_layout s.now n) h graph_header }
-    requires n_in_bounds { n + n ≤ length room.old }
-    requires at_round { AtRound (decoded s.now n h c) budget round room.old room.old }
-    ensures value { result ≡ ended (decoded s.now n h c) budget }
-    ensures room_after { room.new ≡ filled (decoded s.now n h c) (outcome_count result) room.old }
+fn run_noted(g: Records, round: u32, budget: u32, room: &mut [u64]) -> Outcome
+    requires n_in_bounds { g.nodes + g.nodes ≤ length room.old }
+    requires at_round { AtRound (decoded_of g) budget round room.old room.old }
+    ensures value { result ≡ ended (decoded_of g.entry) budget }
+    ensures room_after { room.new ≡ filled (decoded_of g.entry) (outcome_count result) room.old }
 {
-    let mut first = [4294967295u32; 512];
-    let mut last = [0u32; 512];
-    let mut pos = [0usize; 512];
-    let longs = notes::note_hypers(s, n, h, &mut first, &mut last, &mut pos);
-    let mut lows = [4294967295u32; 512];
-    let mut highs = [0u32; 512];
-    notes::note_covers(s, n, c, middle, &mut lows, &mut highs);
-    let all = notes::mark_all(&first, &last, &pos, &lows, &highs);
-    let mut i = round;
-    let mut span = Span {
-        lo: 0,
-        gap: 0,
-        behind: 0,
-        hi: n,
+    let mut noted = Notes {
+        slots: [Marks::NONE; notes::SLOTS],
     };
+    let longs = noted.note_hypers(g.hyperedges());
+    noted.note_covers(g.cover_edges());
+    let all = noted.all();
+    let mut i = round;
+    let mut span = Span::whole(0, g.nodes);
     loop {
-        if unchanged(n, span, room) {
+        if span.unchanged(g.nodes, room) {
             break Outcome::Settled(i);
         }
         if i == budget {
             break Outcome::Spent(i);
         }
-        let m = notes::advance(n, span, &first, &last, &pos, &lows, &highs, all, room);
-        span = take_both(s, n, h, c, middle, m, longs, room);
+        let m = noted.advance(g.nodes, span, all, room);
+        span = take_both(g, m, longs, room);
         i += 1;
     }
 }
@@ -171,12 +82,8 @@ fn many_changed(n: usize, room: &[u64]) -> bool
     requires { n + n ≤ length room.now }
 {
     let mut many: usize = 0;
-    let mut v: usize = 0;
-    while v < n {
-        let w = v;
-        let other = n + w;
-        v += 8;
-        if room[w] != room[other] {
+    for v in (0..n).step_by(8) {
+        if room[v] != room[n + v] {
             many += 1;
         }
     }
@@ -185,34 +92,24 @@ fn many_changed(n: usize, room: &[u64]) -> bool
 
 // From rounds 1 and 2 on, which differ, until a round changes nothing or the budget is spent. As long as many nodes change every record is
 // taken in; what a node reaches is noted only after that: to note it takes longer than some rounds, and many questions settle in these.
-pub fn run_on(
-    s: &[u8],
-    n: usize,
-    h: u32,
-    c: u32,
-    middle: usize,
-    budget: u32,
-    room: &mut [u64],
-) -> Outcome
-    requires ready { Ready s.now n h c }
-    requires middle_value { middle ≡ end (hyper_layout s.now n) h graph_header }
-    requires n_in_bounds { n + n ≤ length room.old }
-    requires at_round { AtRound (decoded s.now n h c) budget 1 room.old room.old }
-    requires not_same { ¬ Same n room.old }
-    ensures value { result ≡ ended (decoded s.now n h c) budget }
-    ensures room_after { room.new ≡ filled (decoded s.now n h c) (outcome_count result) room.old }
+pub fn run_on(g: Records, budget: u32, room: &mut [u64]) -> Outcome
+    requires n_in_bounds { g.nodes + g.nodes ≤ length room.old }
+    requires at_round { AtRound (decoded_of g) budget 1 room.old room.old }
+    requires not_same { ¬ Same g.nodes room.old }
+    ensures value { result ≡ ended (decoded_of g.entry) budget }
+    ensures room_after { room.new ≡ filled (decoded_of g.entry) (outcome_count result) room.old }
 {
     let mut round: u32 = 1;
-    while many_changed(n, room) {
+    while many_changed(g.nodes, room) {
         if round == budget {
             return Outcome::Spent(round);
         }
-        halves::raise(n, room);
-        scans::next_round(s, n, h, graph::HEADER, c, middle, 0, c, room);
+        halves::raise(g.nodes, room);
+        scans::next_round(g.cover_edges(), g.hypers, graph::HEADER, 0, g.covers, room);
         round += 1;
-        if halves::same(n, 0, n, room) {
+        if halves::same(g.nodes, 0, g.nodes, room) {
             return Outcome::Settled(round);
         }
     }
-    run_noted(s, n, h, c, middle, round, budget, room)
+    run_noted(g, round, budget, room)
 }

@@ -10,7 +10,7 @@ use borrow.Author.Tests.{eq-eqb}
 use Rattle.lists.specs.Lists.{◌∈◌}
 use Rattle.wire.specs.declared.State.{State}
 use Rattle.wire.specs.Bytes.{bytes, Bytes}
-use Rattle.wire.specs.Read.{good, field}
+use Rattle.wire.specs.Read.{Ok, field}
 use Rattle.wire.specs.Start.{start_width}
 use Rattle.wire.specs.Write.{write_all, message}
 use Rattle.wire.proofs.Bytes.{length_bytes}
@@ -19,12 +19,13 @@ use Rattle.wire.proofs.Stands.{Stands, stands_first, stands_second, stands_both,
 use Rattle.wire.proofs.Counts.{good_count}
 use Rattle.wire.proofs.Exact.{good_bind, good_after, good_demand, length_write_all, Exact, FitsAll, all_reads, all_written, fits_map, fits_both, fits_each, each_fits, fits_rising, rising_fits, message_length, message_rest, start_reads, start_written}
 use Rattle.model.specs.Model.{Model, Transition}
-use Rattle.wire.specs.Step.{start}
+use Rattle.wire.specs.Begin.{start}
 use Rattle.model.specs.Format.{model_header, model_head, states_count, propositions_count, transitions_count, label_width, weight_at, action_at, to_at, transition_width, label_at, model_length}
+use Rattle.model.specs.Answers.{counts_of}
 use Rattle.model.specs.Message.{read_label, read_transition, read_header, read_model, labels, transitions}
 use Rattle.model.specs.Write.{write_transition, write_body, write_model}
 use Rattle.model.specs.WellFormed.{WellFormed}
-use Rattle.model.proofs.Good.{label_good, transition_good, HeaderAt, header_good, counts, ModelAt, model_good}
+use Rattle.model.proofs.Good.{label_good, transition_good, HeaderAt, header_good, ModelAt, model_good}
 
 -- ---- records
 
@@ -52,7 +53,7 @@ module _ (s : List ℕ) where
         ((value_stands 4 b g.label_there).0, g.label_fits);
     written = λ st l h fits.
         let most = pow-le-pow_right {n = 2} (omega arith) {i = p} {j = 32} small in
-        let label_there : field 4 s st.at ≡ good l = stands_field 4 (omega arith) h (omega arith) in
+        let label_there : field 4 s st.at ≡ Ok l = stands_field 4 (omega arith) h (omega arith) in
         good_below 4 s st.at (2 ^ p) _ label_there fits;
     moves = λ st l. rw length_bytes;
   }
@@ -75,12 +76,12 @@ module _ (s : List ℕ) where
     written = λ st t stands f.
         let three : Stands s st.at (bytes 2 t.from ++ bytes 4 t.weight ++ bytes 2 t.action) = stands_first _ _ stands in
         let front : Stands s st.at (bytes 2 t.from ++ bytes 4 t.weight) = stands_first _ _ three in
-        let from_there : field 2 s st.at ≡ good t.from = stands_field 2 (omega arith) (stands_first _ _ front) (omega arith) in
-        let weight_there : field 4 s (st.at + weight_at) ≡ good t.weight =
+        let from_there : field 2 s st.at ≡ Ok t.from = stands_field 2 (omega arith) (stands_first _ _ front) (omega arith) in
+        let weight_there : field 4 s (st.at + weight_at) ≡ Ok t.weight =
         stands_field 4 (omega arith) (stands_second (bytes 2 t.from) _ (simp length_bytes) front) f.1.weight_fits in
-        let action_there : field 2 s (st.at + action_at) ≡ good t.action =
+        let action_there : field 2 s (st.at + action_at) ≡ Ok t.action =
         stands_field 2 (omega arith) (stands_second (bytes 2 t.from ++ bytes 4 t.weight) _ (simp (length-append, length_bytes) (omega arith)) three) f.1.action_fits in
-        let to_there : field 2 s (st.at + to_at) ≡ good t.to =
+        let to_there : field 2 s (st.at + to_at) ≡ Ok t.to =
         stands_field 2 (omega arith) (stands_second (bytes 2 t.from ++ bytes 4 t.weight ++ bytes 2 t.action) _ (simp (length-append, length_bytes) (omega arith)) stands) (omega arith) in
         good_bind _ (good_source s st.at n st.prev st.at from_there f.1.from_named f.0)
         (good_bind _ weight_there (good_bind _ action_there (good_bind _ (good_below 2 s (st.at + to_at) n _ to_there f.1.to_named) refl)));
@@ -128,13 +129,13 @@ body_laid {s} M h =
     }
 
 -- parts that a good message has make it good
-good_model : {s : List ℕ} (M : Model) → ModelAt s M → read_model s ≡ good M
+good_model : {s : List ℕ} (M : Model) → ModelAt s M → read_model s ≡ Ok M
 unfolding read_model
 good_model M p =
     good_bind _ p.header (good_bind _ p.labels_there (good_bind _ p.transitions_there refl))
 
 -- a model is well-formed when its counts are within their limits and its records are those that the states demand
-fits_well : {s : List ℕ} {M : Model} {middle : ℕ} → HeaderAt s (counts M) → length M.labels ≡ M.states
+fits_well : {s : List ℕ} {M : Model} {middle : ℕ} → HeaderAt s (counts_of M) → length M.labels ≡ M.states
     → FitsAll (labels s M.propositions) (λ st l. l < 2 ^ M.propositions) (start model_header) M.labels
     → FitsAll (transitions s M.states) (TransitionNext M.states) (start middle) M.transitions
     → WellFormed M
@@ -171,7 +172,7 @@ module _ (s : List ℕ) (M : Model) (w : WellFormed M) where
         action_fits = w.actions_fit m;
       }))
 
-pub accepted_written : (s : List ℕ) (M : Model) → Bytes s → read_model s ≡ good M → (s ≡ write_model M) × WellFormed M
+pub accepted_written : (s : List ℕ) (M : Model) → Bytes s → read_model s ≡ Ok M → (s ≡ write_model M) × WellFormed M
 unfolding write_model
 accepted_written s M b e =
     let p = model_good {s = s} {M = M} e in
@@ -189,7 +190,7 @@ accepted_written s M b e =
     let rest : drop start_width s ≡ write_body M = stands_last body (omega (arith, body_length M, p.labelled, header.long)) in
     (started.whole ∙ ap (message model_head) rest, fits_well header p.labelled ls.1 ts.1)
 
-pub written_accepted : (M : Model) → WellFormed M → read_model (write_model M) ≡ good M
+pub written_accepted : (M : Model) → WellFormed M → read_model (write_model M) ≡ Ok M
 unfolding read_header write_model
 written_accepted M w =
     let s : List ℕ = message model_head (write_body M) in
@@ -212,7 +213,7 @@ written_accepted M w =
           all_written (transitions_exact s M.states (omega arith)) (start middle) M.transitions (rw w.labelled at laid.transitions_there) (transitions_well s M w middle);
     })
 
-pub accepted_exactly : (s : List ℕ) (M : Model) → Bytes s → (read_model s ≡ good M) ↔ ((s ≡ write_model M) × WellFormed M)
+pub accepted_exactly : (s : List ℕ) (M : Model) → Bytes s → (read_model s ≡ Ok M) ↔ ((s ≡ write_model M) × WellFormed M)
 accepted_exactly s M b = (accepted_written s M b, λ p. ap read_model p.0 ∙ written_accepted M p.1)
 
 -- two well-formed models are never written alike

@@ -9,15 +9,16 @@ use Rattle.refusal.specs.declared.Fault.{Fault}
 use Rattle.refusal.specs.Number.{nowhere}
 use Rattle.wire.specs.declared.State.{State}
 use Rattle.wire.specs.declared.Width.TheVariants.{Two, Four}
-use Rattle.wire.specs.Read.{good, bad}
+use Rattle.wire.specs.Read.{Ok, Err}
 use Rattle.wire.specs.Reader.{read_all, past}
-use Rattle.wire.specs.Step.{start}
+use Rattle.wire.specs.Begin.{start}
 use Rattle.wire.specs.Located.{told, Located, From, SameBefore, Mendable}
 use Rattle.wire.proofs.Fields.{value_is}
 use Rattle.wire.proofs.Readers.{all_length, past_wide}
 use Rattle.wire.proofs.Onward.{Onward, Reached, onward_sooner, onward_on, onward_good, onward_demand, onward_free, onward_below, onward_named, onward_source, onward_count, onward_bind, onward_then, onward_and, onward_start, onward_all, placed, none_before, mendable}
 use Rattle.model.specs.Format.{model_header, model_head, states_count, propositions_count, transitions_count, label_width, weight_at, action_at, to_at, transition_width, label_at, transition_at, model_length}
-use Rattle.model.specs.Message.{read_label, read_transition, read_header, read_model, labels, transitions, Counts}
+use Rattle.model.specs.Message.{read_label, read_transition, read_header, read_model, labels, transitions}
+use Rattle.model.specs.declared.Counts.{Counts}
 use Rattle.model.specs.Located.{FieldStart, version, kind, state_count, proposition_count, transition_count, label, from, to}
 use Rattle.model.proofs.Good.{transition_good, header_good}
 
@@ -50,7 +51,7 @@ module _ {On : List ℕ → Type 0} (st : State) where
 -- in a message with this header
 module _ (k : Counts) (reached : Reached read_header k) where
   abbrev Headed : List ℕ → Type 0
-  Headed s = read_header s ≡ good k
+  Headed s = read_header s ≡ Ok k
 
   states_told : (s : List ℕ) → Headed s → told s states_count ≡ k.states
   states_told s e = value_is _ s _ (header_good s k e).states_counted.there
@@ -95,13 +96,13 @@ model_onward =
 -- ---- the laws
 
 -- the field at the offset of a fault is one of these, and lies inside the message
-pub fault_located : (s : List ℕ) {f : Fault} → read_model s ≡ bad f → Located (FieldStart s) s f
+pub fault_located : (s : List ℕ) {f : Fault} → read_model s ≡ Err f → Located (FieldStart s) s f
 fault_located s e = placed model_onward s e
 
 -- nothing before the offset is to blame: whatever one writes from there on, no field before it is found at fault
-pub nothing_before : (s s' : List ℕ) {f f' : Fault} → read_model s ≡ bad f → SameBefore f.offset s s' → read_model s' ≡ bad f' → From f.offset f'
+pub nothing_before : (s s' : List ℕ) {f f' : Fault} → read_model s ≡ Err f → SameBefore f.offset s s' → read_model s' ≡ Err f' → From f.offset f'
 nothing_before s s' e alike e' = none_before model_onward s e s' alike e'
 
 -- one number put into the field at the offset makes the message read past it
-pub mended : (s : List ℕ) {f : Fault} → read_model s ≡ bad f → nowhere < f.offset → Mendable (FieldStart s) read_model s f.offset
+pub mended : (s : List ℕ) {f : Fault} → read_model s ≡ Err f → nowhere < f.offset → Mendable (FieldStart s) read_model s f.offset
 mended s e some = mendable model_onward s e some

@@ -3,13 +3,14 @@
 use Rattle.std.specs.Prelude.{ℕ, ◌+◌, ◌^◌, List, length, eqb}
 use Rattle.refusal.specs.declared.Refusal.TheVariants.{Length, Form}
 use Rattle.refusal.specs.Number.{nowhere}
-use Rattle.wire.specs.Read.{Read, good, ◌>>=◌, ◌>>◌, demand, field, below, named, source}
+use Rattle.wire.specs.Read.{Read, Ok, ◌>>=◌, ◌>>◌, demand, field, below, named, source}
 use Rattle.wire.specs.Reader.{Reader, read_all}
 use Rattle.wire.specs.Start.{read_start}
 use Rattle.wire.specs.Counts.{read_count}
-use Rattle.wire.specs.Step.{start}
+use Rattle.wire.specs.Begin.{start}
 use Rattle.wire.specs.declared.State.{State}
 use Rattle.model.specs.Model.{Model, Transition}
+use Rattle.model.specs.declared.Counts.{Counts}
 use Rattle.model.specs.Format.{model_header, model_head, states_count, propositions_count, transitions_count, label_width, weight_at, action_at, to_at, transition_width, label_at, model_length}
 
 module _ (s : List ℕ) where
@@ -32,7 +33,7 @@ module _ (s : List ℕ) where
     weight ← field 4 s (st.at + weight_at)
     action ← field 2 s (st.at + action_at)
     to ← named 2 s (st.at + to_at) n
-    good (record { from = from; weight = weight; action = action; to = to })
+    Ok (record { from = from; weight = weight; action = action; to = to })
 
   -- the transitions, one behind another
   abbrev pub transitions : ℕ → Reader State Transition
@@ -42,12 +43,6 @@ module _ (s : List ℕ) where
     next = λ st t. record { at = st.at + transition_width; prev = t.from; seen = st.seen };
   }
 
--- the counts of a header
-pub record Counts : Type 0 where
-  pub states : ℕ
-  pub propositions : ℕ
-  pub transitions : ℕ
-
 -- the header: its start, then states, propositions, transitions; then the message is exactly as long as they say
 unfoldable pub read_header : List ℕ → Read Counts
 read_header s = do
@@ -56,7 +51,7 @@ read_header s = do
   p ← read_count s propositions_count
   t ← read_count s transitions_count
   demand (eqb (length s) (model_length n t)) Length nowhere
-  good (record { states = n; propositions = p; transitions = t })
+  Ok (record { states = n; propositions = p; transitions = t })
 
 -- a whole message: the header, the labels, the transitions
 unfoldable pub read_model : List ℕ → Read Model
@@ -64,4 +59,4 @@ read_model s = do
   counts ← read_header s
   ls ← read_all (labels s counts.propositions) counts.states (start model_header)
   ts ← read_all (transitions s counts.states) counts.transitions (start (label_at counts.states))
-  good (record { states = counts.states; propositions = counts.propositions; labels = ls; transitions = ts })
+  Ok (record { states = counts.states; propositions = counts.propositions; labels = ls; transitions = ts })

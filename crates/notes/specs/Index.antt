@@ -18,6 +18,10 @@ slot_of n v = cond (leb n 512) (v % 512) (v / 8 % 512)
 abbrev pub unnoted : ℕ
 unnoted = 4294967295
 
+-- no marks
+abbrev pub no_marks : Marks
+no_marks = record { first = unnoted; last = 0; at = graph_header; low = unnoted; high = 0 }
+
 -- the targets of hyperedge i
 abbrev pub targets_at : List ℕ → (n i : ℕ) → List Target
 targets_at s n i = ((hyper_layout s n).item (end (hyper_layout s n) i graph_header)).targets
@@ -26,19 +30,25 @@ targets_at s n i = ((hyper_layout s n).item (end (hyper_layout s n) i graph_head
 unfoldable pub long_for : (n k : ℕ) → Bool
 long_for n k = leb 64 k && leb n (k + k)
 
--- hyperedge i is not before the slot's first, nor behind its last
-pub record Spans (first last : List ℕ) (u i : ℕ) : Type 0 where
-  pub from : get_or first u 0 ≤ i
-  pub upto : i < get_or last u 0
+-- what is noted of a slot; zeros, which nothing speaks of, where there is no such slot
+abbrev pub zeros : Marks
+zeros = record { first = 0; last = 0; at = 0; low = 0; high = 0 }
+
+abbrev pub slot_at : List Marks → ℕ → Marks
+slot_at slots u = get_or slots u zeros
+
+-- record i is not before the first, nor behind the last
+pub record Spans (first last i : ℕ) : Type 0 where
+  pub from : first ≤ i
+  pub upto : i < last
 
 -- those of the first j hyperedges that are not long are noted, but for the targets left of the last
-pub record Noted (s : List ℕ) (n j : ℕ) (rest : List Target) (first last pos : List ℕ) : Type 0 where
-  pub firsts : length first ≡ 512
-  pub lasts : length last ≡ 512
-  pub places : length pos ≡ 512
-  pub reach : (i : ℕ) (t : Target) → i < j → long_for n (length (targets_at s n i)) ≡ false → t ∈ targets_at s n i → Spans first last (slot_of n t.node) i ⊎ ((i + 1 ≡ j) × (t ∈ rest))
-  pub placed : (u : ℕ) → u < 512 → get_or first u 0 < unnoted → get_or pos u 0 ≡ end (hyper_layout s n) (get_or first u 0) graph_header
-  pub within : (u : ℕ) → u < 512 → get_or last u 0 ≤ j
+pub record Noted (s : List ℕ) (n j : ℕ) (rest : List Target) (slots : List Marks) : Type 0 where
+  pub all : length slots ≡ 512
+  pub reach : (i : ℕ) (t : Target) → i < j → long_for n (length (targets_at s n i)) ≡ false → t ∈ targets_at s n i
+      → let m = slot_at slots (slot_of n t.node) in Spans m.first m.last i ⊎ ((i + 1 ≡ j) × (t ∈ rest))
+  pub placed : (u : ℕ) → u < 512 → let m = slot_at slots u in m.first < unnoted → m.at ≡ end (hyper_layout s n) m.first graph_header
+  pub within : (u : ℕ) → u < 512 → (slot_at slots u).last ≤ j
 
 -- the long ones of the first j hyperedges are between those that are marked, and no cover edge is
 pub record Longs (s : List ℕ) (n j : ℕ) (m : Marks) : Type 0 where
@@ -48,51 +58,76 @@ pub record Longs (s : List ℕ) (n j : ℕ) (m : Marks) : Type 0 where
   pub no_covers : m.high ≡ 0
 
 -- the first j cover edges from a position are noted
-pub record NotedCovers (s : List ℕ) (n j middle : ℕ) (first last : List ℕ) : Type 0 where
-  pub firsts : length first ≡ 512
-  pub lasts : length last ≡ 512
-  pub reach : (i : ℕ) → i < j → Spans first last (slot_of n (number 2 s (middle + i * cover_width + cover_target_at))) i
-  pub within : (u : ℕ) → u < 512 → get_or last u 0 ≤ j
+pub record NotedCovers (s : List ℕ) (n j middle : ℕ) (slots : List Marks) : Type 0 where
+  pub all : length slots ≡ 512
+  pub reach : (i : ℕ) → i < j → let m = slot_at slots (slot_of n (number 2 s (middle + i * cover_width + cover_target_at))) in Spans m.low m.high i
+  pub within : (u : ℕ) → u < 512 → (slot_at slots u).high ≤ j
 
--- the records of the slots of those of the first i nodes that changed are from a to z
-pub record Marked (n i : ℕ) (first last b : List ℕ) (a z : ℕ) : Type 0 where
-  pub reach : (v : ℕ) → v < i → ¬ (get_or b v 0 ≡ get_or b (n + v) 0) → (a ≤ get_or first (slot_of n v) 0) × (get_or last (slot_of n v) 0 ≤ z)
-  pub top : (k : ℕ) → ((u : ℕ) → u < 512 → get_or last u 0 ≤ k) → z ≤ k
+-- of hyperedges, and of cover edges, the same is noted
+pub record SameHypers (slots₀ slots : List Marks) : Type 0 where
+  pub same_length : length slots ≡ length slots₀
+  pub first : (u : ℕ) → (slot_at slots u).first ≡ (slot_at slots₀ u).first
+  pub last : (u : ℕ) → (slot_at slots u).last ≡ (slot_at slots₀ u).last
+  pub at : (u : ℕ) → (slot_at slots u).at ≡ (slot_at slots₀ u).at
 
--- no marks; what a slot has noted is marked too
-abbrev pub no_marks : Marks
-no_marks = record { first = unnoted; last = 0; at = graph_header; low = unnoted; high = 0 }
+pub record SameCovers (slots₀ slots : List Marks) : Type 0 where
+  pub same_length : length slots ≡ length slots₀
+  pub low : (u : ℕ) → (slot_at slots u).low ≡ (slot_at slots₀ u).low
+  pub high : (u : ℕ) → (slot_at slots u).high ≡ (slot_at slots₀ u).high
 
-abbrev pub more_marks : Marks → (first last at low high : ℕ) → Marks
-more_marks m first last at low high = record {
-  first = min m.first first;
-  last = max m.last last;
-  at = cond (ltb first m.first) at m.at;
-  low = min m.low low;
-  high = max m.high high;
+-- the records of the slots of those of the first i nodes that changed are from a to z; those of a slot are from `first` to `last`
+pub record Marked (first last : Marks → ℕ) (n i : ℕ) (slots : List Marks) (b : List ℕ) (a z : ℕ) : Type 0 where
+  pub reach : (v : ℕ) → v < i → ¬ (get_or b v 0 ≡ get_or b (n + v) 0) → let m = slot_at slots (slot_of n v) in (a ≤ first m) × (last m ≤ z)
+  pub top : (k : ℕ) → ((u : ℕ) → u < 512 → last (slot_at slots u) ≤ k) → z ≤ k
+
+-- a hyperedge noted, or a cover edge, behind all that are; and two marks together
+abbrev pub hyper_noted : Marks → (j p : ℕ) → Marks
+hyper_noted m j p = record { first = min m.first j; last = j + 1; at = cond (ltb j m.first) p m.at; low = m.low; high = m.high }
+
+abbrev pub cover_noted : Marks → (j : ℕ) → Marks
+cover_noted m j = record { first = m.first; last = m.last; at = m.at; low = min m.low j; high = j + 1 }
+
+abbrev pub more_marks : Marks → Marks → Marks
+more_marks m o = record {
+  first = min m.first o.first;
+  last = max m.last o.last;
+  at = cond (ltb o.first m.first) o.at m.at;
+  low = min m.low o.low;
+  high = max m.high o.high;
 }
 
 -- the first marked hyperedge stands at its position
-abbrev pub Placed : (first pos : List ℕ) → Marks → Type 0
-Placed first pos m = m.first < unnoted → (u : ℕ) × (u < 512) × (m.first ≡ get_or first u 0) × (m.at ≡ get_or pos u 0)
+abbrev pub Placed : List Marks → Marks → Type 0
+Placed slots m = m.first < unnoted → (u : ℕ) × (u < 512) × (m.first ≡ (slot_at slots u).first) × (m.at ≡ (slot_at slots u).at)
 
 -- the records of the first i slots are from a to z
-pub record Slots (i : ℕ) (first last : List ℕ) (a z : ℕ) : Type 0 where
-  pub reach : (u : ℕ) → u < i → (a ≤ get_or first u 0) × (get_or last u 0 ≤ z)
-  pub top : (k : ℕ) → ((u : ℕ) → u < 512 → get_or last u 0 ≤ k) → z ≤ k
+pub record Slots (first last : Marks → ℕ) (i : ℕ) (slots : List Marks) (a z : ℕ) : Type 0 where
+  pub reach : (u : ℕ) → u < i → let m = slot_at slots u in (a ≤ first m) × (last m ≤ z)
+  pub top : (k : ℕ) → ((u : ℕ) → u < 512 → last (slot_at slots u) ≤ k) → z ≤ k
 
 -- the first i slots are marked
-pub record Everything (first last pos lows highs : List ℕ) (i : ℕ) (m : Marks) : Type 0 where
-  pub hypers : Slots i first last m.first m.last
-  pub placed : Placed first pos m
-  pub covers : Slots i lows highs m.low m.high
+pub record Everything (slots : List Marks) (i : ℕ) (m : Marks) : Type 0 where
+  pub hypers : Slots (λ m. m.first) (λ m. m.last) i slots m.first m.last
+  pub placed : Placed slots m
+  pub covers : Slots (λ m. m.low) (λ m. m.high) i slots m.low m.high
 
 -- the first i numbers are brought up to the next round, and what they reach is marked
-pub record Published (n i : ℕ) (first last pos lows highs b₀ b : List ℕ) (m : Marks) : Type 0 where
+pub record Published (n i : ℕ) (slots : List Marks) (b₀ b : List ℕ) (m : Marks) : Type 0 where
   pub raised : Raised n i b₀ b
-  pub hypers : Marked n i first last b₀ m.first m.last
-  pub placed : Placed first pos m
-  pub covers : Marked n i lows highs b₀ m.low m.high
+  pub hypers : Marked (λ m. m.first) (λ m. m.last) n i slots b₀ m.first m.last
+  pub placed : Placed slots m
+  pub covers : Marked (λ m. m.low) (λ m. m.high) n i slots b₀ m.low m.high
+
+-- all nodes from one to before another
+abbrev pub whole_of : (lo hi : ℕ) → Span
+whole_of lo hi = record { lo = lo; gap = lo; behind = lo; hi = hi }
+
+-- two spans in order, and what is between them the gap; none where they overlap
+abbrev pub spread_of : (lo hi from to : ℕ) → Span
+spread_of lo hi from to =
+    cond (leb hi from) (record { lo = lo; gap = hi; behind = from; hi = to })
+    (cond (leb to lo) (record { lo = from; gap = to; behind = lo; hi = hi })
+    (whole_of (min lo from) (max hi to)))
 
 -- outside of the two spans both halves are the same
 pub record Besides (n : ℕ) (d : Span) (b : List ℕ) : Type 0 where

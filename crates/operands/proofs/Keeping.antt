@@ -6,9 +6,7 @@ use mathlib.Core.Path.{◌≡◌, refl, ◌∙◌}
 use native.Mathlib.Omega.{arith}
 use lib.Dec.{ltb}
 use borrow.Author.Tests.{le-leb, lt-ltb, le-ltb}
-use Rattle.wire.specs.declared.Field.TheVariants.{Number}
-use Rattle.wire.specs.Field.{field_at}
-use Rattle.wire.specs.Read.{Read, good, bad, ◌>>=◌, below, misnamed}
+use Rattle.wire.specs.Read.{Read, Ok, Err, ◌>>=◌, below, misnamed, field}
 use Rattle.wire.proofs.Reading.{reading, good_below}
 use Rattle.kinds.specs.declared.Fields.{Fields}
 use Rattle.kinds.specs.declared.Operands.{Operands}
@@ -22,15 +20,15 @@ use Rattle.operands.proofs.Operators.{by_operator, Uses, constant_uses, proposit
 use Rattle.operands.proofs.Spared.{names_from, fields_told}
 
 -- a row of a known operator is read by its fields
-pub row_known : (s : List ℕ) (at offset p place : ℕ) {o : ℕ} → field_at 1 s at ≡ Number o → o ≤ 11 → row_from s at offset p place ≡ fields_from s at offset p place o
+pub row_known : (s : List ℕ) (at offset p place : ℕ) {o : ℕ} → field 1 s at ≡ Ok o → o ≤ 11 → row_from s at offset p place ≡ fields_from s at offset p place o
 unfolding row_from
 row_known s at offset p place {o} there known = simp (reading, there, le-leb o 11 known)
 
 -- what follows two readings
 then_then : {A B C : Type 0} (x : Read A) (f : A → Read B) (g : B → Read C) → (x >>= f) >>= g ≡ x >>= λ a. f a >>= g
 unfolding ◌>>=◌
-then_then (good a) f g = refl
-then_then (bad e) f g = refl
+then_then (Ok a) f g = refl
+then_then (Err e) f g = refl
 
 -- the operands by the operator
 operands_are : (o l r b : ℕ) → o ≤ 11 → operands_of (row_of o l r b) ≡ cond (ltb o 4) None (cond (ltb o 6) (Both l r) (cond (ltb o 8) (One l) (cond (ltb o 10) (Both l r) (One l))))
@@ -41,7 +39,7 @@ operands_are o l r b =
 
 module _ {s : List ℕ} {f : Fields} (t : Told s f) (offset p place : ℕ) where
   abbrev pub kept_of : ℕ → Read Operands
-  kept_of o = fields_from s 0 offset p place o >>= λ row. good (operands_of row)
+  kept_of o = fields_from s 0 offset p place o >>= λ row. Ok (operands_of row)
 
   pub constant_kept : (o : ℕ) → o ≤ 1 → kept_of o ≡ constant offset f
   unfolding names_from operand constant
@@ -61,7 +59,7 @@ module _ {s : List ℕ} {f : Fields} (t : Told s f) (offset p place : ℕ) where
       → kept_of o ≡ one_operand s offset place (idle (cond right 0 f.right) f.zero 0)
   unfolding names_from operand one_operand left_name
   one_kept {o} true u acting few one =
-      let action : below 1 s right_at 256 (misnamed (offset + right_at)) ≡ good f.right = good_below 1 s right_at 256 _ (simp (t.right_told, reading)) few in
+      let action : below 1 s right_at 256 (misnamed (offset + right_at)) ≡ Ok f.right = good_below 1 s right_at 256 _ (simp (t.right_told, reading)) few in
       simp (fields_told t u offset p place, then_then, u.of_left, u.of_right, u.names, acting, action, t.bound_told, reading, one)
   one_kept {o} false u acting few one =
       simp (fields_told t u offset p place, then_then, u.of_left, u.of_right, u.names, t.bound_told, reading, one)

@@ -8,9 +8,7 @@ use lib.Dec.{eqb, ltb}
 use borrow.Author.Tests.{eqb-true, eqb-false, lt-ltb, le-ltb}
 use Rattle.lists.proofs.Tests.{by_test}
 use Rattle.refusal.specs.declared.Refusal.TheVariants.{Form}
-use Rattle.wire.specs.declared.Field.TheVariants.{Number}
-use Rattle.wire.specs.Field.{field_at}
-use Rattle.wire.specs.Read.{Read, good, bad, ◌>>=◌, ◌>>◌, demand, field, below}
+use Rattle.wire.specs.Read.{Read, Ok, Err, ◌>>=◌, ◌>>◌, demand, field, below}
 use Rattle.wire.proofs.Reading.{reading}
 use Rattle.kinds.specs.declared.Fields.{Fields}
 use Rattle.syntax.specs.declared.Row.{Row}
@@ -27,11 +25,11 @@ zero_below n = by_test (eqb n 0) (λ t. lt-ltb n 1 (omega (arith, eqb-true n 0 t
 -- what follows a reading that demands something first
 demand_then : {A B : Type 0} (x : Read Unit) (r : Read A) (k : A → Read B) → (x >> r) >>= k ≡ x >> (r >>= k)
 unfolding ◌>>=◌ ◌>>◌
-demand_then (good u) r k = refl
-demand_then (bad e) r k = refl
+demand_then (Ok u) r k = refl
+demand_then (Err e) r k = refl
 
 -- a field that is there is spare where it is used, or zero
-spare_told : {B : Type 0} (used : Bool) (k : ℕ) (s : List ℕ) (at offset : ℕ) {n : ℕ} {x y : Read B} → field_at k s at ≡ Number n → x ≡ y
+spare_told : {B : Type 0} (used : Bool) (k : ℕ) (s : List ℕ) (at offset : ℕ) {n : ℕ} {x y : Read B} → field k s at ≡ Ok n → x ≡ y
     → (spare used k s at offset >>= λ u. x) ≡ demand (eqb (cond used 0 n) 0) Form offset >> y
 unfolding spare below
 spare_told true k s at offset there e = simp (reading, e)
@@ -43,7 +41,7 @@ names_from s offset p place o = do
   left ← operand (uses_left o) s left_at (left_limit p place o) (offset + left_at)
   right ← operand (uses_right o) s right_at (right_limit place o) (offset + right_at)
   bound ← field 4 s bound_at
-  good (row_of o left right bound)
+  Ok (row_of o left right bound)
 
 -- a row's fields: those that its operator doesn't use, then the others
 pub fields_told : {s : List ℕ} {f : Fields} → Told s f → {o : ℕ} {left right bound proposition : Bool} → Uses o left right bound proposition → (offset p place : ℕ)

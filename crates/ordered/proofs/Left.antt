@@ -9,12 +9,8 @@ use borrow.Author.Tests.{leb-true, le-leb, ltb-true, lt-ltb}
 use native.Mathlib.Numerals.{sub-one}
 use native.Mathlib.Omega.{arith}
 use Rattle.lists.proofs.Tests.{by}
-use Rattle.refusal.specs.declared.Fault.{Fault}
-use Rattle.refusal.specs.declared.Refusal.TheVariants.{Name}
-use Rattle.refusal.specs.Number.{unplaced}
 use Rattle.wire.specs.Bytes.{number}
-use Rattle.wire.specs.declared.Field.{Field}
-use Rattle.wire.specs.declared.Field.TheVariants.{Number, Refused}
+use Rattle.std.specs.Prelude.{Option, Some, None}
 use Rattle.ordered.specs.Ordered.{record_width, in_order, source_behind, last_named}
 
 -- records of one width that are left up to an end: none, some, and one less
@@ -37,27 +33,27 @@ unasked a true false b rest says = and-false a
 unasked a true true false rest says = and-false a
 unasked a true true true rest says = rw (says refl refl) refl
 
--- a source that is found behind a target passed both tests, and one that is refused did not
+-- a source that is found behind a target passed both tests, and where none is found one did not pass
 module _ (s : List ℕ) (n before at : ℕ) where
   abbrev follows : Bool
   follows = ltb (number 2 s at) n && leb before (number 2 s (at + 2))
 
-  abbrev answer : Bool → Field
-  answer t = cond t (Number (number 2 s (at + 2))) (Refused (unplaced Name))
+  abbrev answer : Bool → Option ℕ
+  answer t = cond t (Some (number 2 s (at + 2))) None
 
-  behind_is : {v : ℕ} → source_behind s n before at ≡ Number v → (follows ≡ true) × (number 2 s (at + 2) ≡ v)
+  behind_is : {v : ℕ} → source_behind s n before at ≡ Some v → (follows ≡ true) × (number 2 s (at + 2) ≡ v)
   unfolding source_behind
   behind_is {v} e = go follows e
     where
-      go : (t : Bool) → answer t ≡ Number v → (t ≡ true) × (number 2 s (at + 2) ≡ v)
+      go : (t : Bool) → answer t ≡ Some v → (t ≡ true) × (number 2 s (at + 2) ≡ v)
       go true h = (refl, cc)
       go false h = let z : ◌≡◌ {A = ℕ} 0 1 = cc in absurd (omega arith)
 
-  behind_not : {f : Fault} → source_behind s n before at ≡ Refused f → follows ≡ false
+  behind_not : source_behind s n before at ≡ None → follows ≡ false
   unfolding source_behind
-  behind_not {f} e = go follows e
+  behind_not e = go follows e
     where
-      go : (t : Bool) → answer t ≡ Refused f → t ≡ false
+      go : (t : Bool) → answer t ≡ None → t ≡ false
       go true h = let z : ◌≡◌ {A = ℕ} 0 1 = cc in absurd (omega arith)
       go false h = refl
 
@@ -126,14 +122,14 @@ module _ (s : List ℕ) (n target_at : ℕ) where
     left_another more = omega (arith, one_less more)
 
     -- its target was read with the source behind it: the answer, or what is left from that one on
-    module _ {target : ℕ} {r : Field} (more : at + record_width target_at < end) (here : target ≡ at + target_at) (read : r ≡ source_behind s n source target) where
+    module _ {target : ℕ} {r : Option ℕ} (more : at + record_width target_at < end) (here : target ≡ at + target_at) (read : r ≡ source_behind s n source target) where
       goes_on : (follows s n source target && from_here (l.behind - 1) (number 2 s (target + 2)) (at + record_width target_at)) ≡ in_order s n target_at k 0 first
       goes_on = rw here (by (order_goes_on l.behind source at (some_behind more)) l.whole)
 
-      pub left_fails : {f : Fault} → r ≡ Refused f → false ≡ in_order s n target_at k 0 first
+      pub left_fails : r ≡ None → false ≡ in_order s n target_at k 0 first
       left_fails is = rw (behind_not s n source target (by read is)) at goes_on
 
-      pub left_passes : {v next : ℕ} → r ≡ Number v → next ≡ at + record_width target_at → Left k first end v next
+      pub left_passes : {v next : ℕ} → r ≡ Some v → next ≡ at + record_width target_at → Left k first end v next
       left_passes is there =
           let found = behind_is s n source target (by read is) in
           record {

@@ -10,7 +10,7 @@ use native.Mathlib.Numerals.{sub-one}
 use native.Mathlib.Omega.{arith}
 use Rattle.lists.proofs.Tests.{and_left, and_right}
 use Rattle.wire.specs.Bytes.{number}
-use Rattle.wire.specs.Read.{good}
+use Rattle.wire.specs.Read.{Ok}
 use Rattle.wire.specs.Reader.{Reader, one, run}
 use Rattle.wire.specs.declared.State.{State}
 use Rattle.wire.proofs.Reading.{good_then}
@@ -27,12 +27,12 @@ module _ (s : List ℕ) (n target_at : ℕ) where
     abbrev pub ReadsInOrder : Type 0
     ReadsInOrder =
         (st : State) → st.at + record_width target_at ≤ length s → st.prev ≤ number 2 s st.at
-        → number 2 s st.at < n → number 2 s (st.at + target_at) < n → one R st ≡ good (passed st)
+        → number 2 s st.at < n → number 2 s (st.at + target_at) < n → one R st ≡ Ok (passed st)
 
     -- a run of k records that ends behind them
     pub record Ended (k : ℕ) (st : State) : Type 0 where
       pub last : State
-      pub runs : run R k st ≡ good last
+      pub runs : run R k st ≡ Ok last
       pub there : last.at ≡ st.at + k * record_width target_at
 
     pub in_order_runs : ReadsInOrder → (k : ℕ) (st : State) → st.at + k * record_width target_at ≤ length s

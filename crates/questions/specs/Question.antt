@@ -1,6 +1,6 @@
 -- A question: a model, and a formula checked with the model's p.
 use Rattle.std.specs.Prelude.{ℕ, ◌+◌, ◌*◌, ◌-◌, List, length}
-use Rattle.wire.specs.Read.{Read, good, bad, ◌>>=◌}
+use Rattle.wire.specs.Read.{Read, Ok, Err, ◌>>=◌}
 use Rattle.rules.specs.Graph.{Graph}
 use Rattle.graph.specs.Stored.{StoredGraph, ruled}
 use Rattle.model.specs.Model.{Model}
@@ -18,7 +18,7 @@ unfoldable pub read_question : (model formula : List ℕ) → Read Question
 read_question model formula = do
   M ← read_model model
   rows ← read_formula M.propositions formula
-  good (record { model = M; rows = rows })
+  Ok (record { model = M; rows = rows })
 
 -- the graph that is built for it
 abbrev pub graph_for : Question → StoredGraph
@@ -30,8 +30,8 @@ ruled_for question = ruled (graph_for question)
 
 -- the number of nodes of what was read; 0 where it was refused
 unfoldable pub nodes_of : Read Question → ℕ
-nodes_of (good question) = (ruled_for question).nodes
-nodes_of (bad e) = 0
+nodes_of (Ok question) = (ruled_for question).nodes
+nodes_of (Err e) = 0
 
 -- the root row's node of a state
 abbrev pub root_node : Question → (state : ℕ) → ℕ

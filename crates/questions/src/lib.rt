@@ -1,26 +1,30 @@
 // A question: the check of a model, and of a formula with the model's p.
 #![tactic(auto)]
 
+mod asked;
+
 ghost use Rattle.questions.specs.Asking.{Asking};
 
+pub use asked::Asked;
 use refusal::Fault;
+use transitions::{AcceptedModel, AcceptedRows};
 
-// The counts of an accepted model and formula, or the first fault.
-#[derive(Clone, Copy)]
-pub enum Asked {
-    Question(u32, u32, u32, u32),
-    Refused(Fault),
-}
-
-// The model first, then the formula with the model's p.
-pub fn question(m: &[u8], f: &[u8]) -> Asked
+// The model first, then the formula with the model's p: both as they were accepted, or the first fault.
+pub fn question<'a>(m: &'a [u8], f: &'a [u8]) -> Result<Asked<'a>, Fault>
     ensures { Asking m.now f.now result }
 {
-    match model::check(m) {
-        model::Checked::Refused(e) => Asked::Refused(e),
-        model::Checked::Model(n, p, t) => match formula::check(f, p) {
-            formula::Checked::Refused(e) => Asked::Refused(e),
-            formula::Checked::Formula(k) => Asked::Question(n, p, t, k),
-        },
-    }
+    let counts = model::check(m)?;
+    let rows = formula::check(f, counts.propositions)?;
+    let model = AcceptedModel {
+        bytes: m,
+        states: counts.states,
+        propositions: counts.propositions,
+        transitions: counts.transitions,
+    };
+    let formula = AcceptedRows {
+        bytes: f,
+        rows,
+        propositions: counts.propositions,
+    };
+    Ok(Asked { model, formula })
 }

@@ -1,14 +1,16 @@
 -- Ranks given one after another: the claims keep their values, the ranks rest on smaller ones, and there are as many ranked nodes as were given
 -- ranks. Assumes nothing.
-use Prim.Native.Nat.{ℕ, ◌+◌, ◌-◌, ◌*◌, ◌≤◌, ◌<◌}
+use Prim.Native.Nat.{ℕ, zero, suc, ◌+◌, ◌-◌, ◌*◌, ◌≤◌, ◌<◌}
 use mathlib.Core.Bool.{Bool, true}
+use mathlib.Core.List.Memᴰ
 use mathlib.Core.List.{List}
 use mathlib.Core.Path.{◌≡◌, refl, sym, subst, ◌∙◌}
 use lib.Dec.{ltb}
 use lib.ListN.{length}
 use borrow.Author.Tests.{ltb-true, lt-ltb, le-ltb}
 use native.Mathlib.Decide.{ℕ_discrete, dec_lt}
-use native.Mathlib.Nat.{le_refl}
+use native.Mathlib.Nat.{le_refl, not-suc-le-zero}
+use Rattle.std.proofs.Common.{sub-one}
 use native.Mathlib.Omega.{arith}
 use Rattle.lists.specs.Lists.{◌∈◌, up_to}
 use Rattle.lists.proofs.Lists.{how_many, how_many_le, how_many_more, up_to_length, up_to-∈}
@@ -16,14 +18,13 @@ use Rattle.lists.proofs.Tests.{by_test}
 use Rattle.value.specs.Value.{finite}
 use Rattle.wire.specs.Bytes.{put}
 use Rattle.wire.specs.Field.{long_width}
-use Rattle.wire.specs.Layout.{Layout, items, Sound}
+use Rattle.wire.specs.Layout.{Layout, items}
 use Rattle.wire.proofs.Layouts.{items_length}
 use Rattle.rules.specs.Graph.{Graph, Hyper, Cover, Closed}
 use Rattle.rules.specs.Rounds.{Assignment, Obeys}
 use Rattle.support.specs.Claims.{rank_at, claim_width, claimed_value, claimed_rank, Supported, Support, by_hyper, by_cover}
 use Rattle.support.specs.Backing.{HyperBacks, CoverBacks}
-use Rattle.ranking.specs.Ranking.{unranked, Kept, Ranks, none, more, RankedBy}
-use Rattle.support.proofs.Passing.{Passing, passing_all, passing_one, passing_turn, passing_done}
+use Rattle.ranking.specs.Ranking.{unranked, Kept, Ranks, none, more, RankedBy, Passed, over, gives, had, idle}
 use Rattle.support.proofs.Edgewise.{holds_zero}
 use Rattle.ranking.proofs.Puts.{put_length, put_past, rank_fits, rank_here, rank_other, rank_values}
 use Rattle.ranking.proofs.Ranks.{Ranked, ranked_more}
@@ -143,45 +144,64 @@ stable_all {g} closed b obeys hypers covers v l f support = go support (dec_lt (
 
 -- ---- a walk over edges that gives ranks
 
-pub record Given {A : Type 0} (L : Layout A) (k at : ℕ) (source : A → ℕ) (Backing : List ℕ → A → Type 0) (given₀ : ℕ) (b₀ : List ℕ) (next : ℕ) (b : List ℕ) (i p : ℕ) : Type 0 where
-  pub walk : Passing L k at (λ e. next ≡ given₀ → Backing b₀ e → claimed_rank b₀ (source e) < unranked) i p
-  pub steps : Ranks (items L k at) source Backing given₀ b₀ next b
-  pub few : next + i ≤ given₀ + k
-  pub same_length : length b ≡ length b₀
+module _ {source next : ℕ → ℕ} {Backing : List ℕ → ℕ → Type 0} where
+  -- one edge more in front of others: its source is ranked, or has a rank, or isn't backed by it; or none is left
+  pub passed_gives : (left : ℕ) {at given given' : ℕ} {b b' : List ℕ} → 0 < left → claimed_rank b (source at) ≡ unranked → Backing b at
+      → Passed source next Backing (left - 1) (next at) (given + 1) (put b (source at * claim_width + rank_at) long_width given) given' b'
+      → Passed source next Backing left at given b given' b'
+  passed_gives zero h bare backs p = absurd (not-suc-le-zero h)
+  passed_gives (suc left) h bare backs p = gives bare backs (rw sub-one at p)
 
-module _ {A : Type 0} {L : Layout A} {k at : ℕ} {source : A → ℕ} {Backing : List ℕ → A → Type 0} {given₀ : ℕ} {b₀ : List ℕ} where
-  pub given_none : Sound L k at → Given L k at source Backing given₀ b₀ given₀ b₀ k at
-  given_none sound = record { walk = passing_all sound; steps = none; few = le_refl (given₀ + k); same_length = refl }
+  pub passed_had : (left : ℕ) {at given given' : ℕ} {b b' : List ℕ} → 0 < left → claimed_rank b (source at) < unranked
+      → Passed source next Backing (left - 1) (next at) given b given' b' → Passed source next Backing left at given b given' b'
+  passed_had zero h ranked p = absurd (not-suc-le-zero h)
+  passed_had (suc left) h ranked p = had ranked (rw sub-one at p)
 
-  module _ {next : ℕ} {b : List ℕ} {i p : ℕ} (d : Given L k at source Backing given₀ b₀ next b i p) where
-    module _ (h : 0 < i) where
-      -- the next edge's source is ranked
-      pub given_rank : source (L.item p) * claim_width + rank_at + long_width ≤ length b₀ → claimed_rank b (source (L.item p)) ≡ unranked → Backing b (L.item p)
-          → Given L k at source Backing given₀ b₀ (next + 1) (put b (source (L.item p) * claim_width + rank_at) long_width next) (i - 1) (L.next p)
-      given_rank inside bare backs =
-          let grown = steps_grow d.steps in
-          record {
-            walk = passing_turn d.walk h (λ e f q. absurd (omega arith)) (λ q. absurd (omega arith));
-            steps = more d.steps (passing_one d.walk h) bare backs;
-            few = omega (arith, d.few);
-            same_length = put_length b (source (L.item p) * claim_width + rank_at) long_width next (omega (arith, d.same_length)) ∙ d.same_length;
-          }
+  pub passed_idle : (left : ℕ) {at given given' : ℕ} {b b' : List ℕ} → 0 < left → ¬ Backing b at
+      → Passed source next Backing (left - 1) (next at) given b given' b' → Passed source next Backing left at given b given' b'
+  passed_idle zero h not p = absurd (not-suc-le-zero h)
+  passed_idle (suc left) h not p = idle not (rw sub-one at p)
 
-      -- or is left as it is
-      left : (next ≡ given₀ → Backing b₀ (L.item p) → claimed_rank b₀ (source (L.item p)) < unranked) → Given L k at source Backing given₀ b₀ next b (i - 1) (L.next p)
-      left f = record { walk = passing_turn d.walk h (λ e g. g) f; steps = d.steps; few = omega (arith, d.few); same_length = d.same_length }
+  pub passed_over : (left : ℕ) {at given : ℕ} {b : List ℕ} → left ≡ 0 → Passed source next Backing left at given b given b
+  passed_over left {at} {given} {b} h = subst (λ (j : ℕ). Passed source next Backing j at given b given b) (sym h) over
 
-      -- since the edge does not back it
-      pub given_idle : ¬ Backing b (L.item p) → Given L k at source Backing given₀ b₀ next b (i - 1) (L.next p)
-      given_idle idle = left (λ e f. absurd (idle (subst (λ (x : List ℕ). Backing x (L.item p)) (sym (steps_none d.steps e)) f)))
+-- the edges of a layout that were passed are those from which ranks were given
+module _ {A : Type 0} (L : Layout A) (source : A → ℕ) (Backing : List ℕ → A → Type 0) (edges : List A) (given₀ : ℕ) (b₀ : List ℕ) where
+  -- a layout's edges from a position, passed
+  abbrev PassedAt : (left at given : ℕ) → List ℕ → (given' : ℕ) → List ℕ → Type 0
+  PassedAt = Passed (λ p. source (L.item p)) L.next (λ b p. Backing b (L.item p))
 
-      -- or since it has a rank
-      pub given_had : claimed_rank b (source (L.item p)) < unranked → Given L k at source Backing given₀ b₀ next b (i - 1) (L.next p)
-      given_had had = left (λ e f. subst (λ (x : List ℕ). claimed_rank x (source (L.item p)) < unranked) (steps_none d.steps e) had)
+  passed_steps : {left at given given' : ℕ} {b b' : List ℕ} → ((e : A) → e ∈ items L left at → e ∈ edges)
+      → Ranks edges source Backing given₀ b₀ given b → PassedAt left at given b given' b' → Ranks edges source Backing given₀ b₀ given' b'
+  unfolding items
+  passed_steps among r over = r
+  passed_steps among r (gives bare backs p) = passed_steps (λ e m. among e (Memᴰ.tail m)) (more r (among _ (Memᴰ.head refl)) bare backs) p
+  passed_steps among r (had ranked p) = passed_steps (λ e m. among e (Memᴰ.tail m)) r p
+  passed_steps among r (idle not p) = passed_steps (λ e m. among e (Memᴰ.tail m)) r p
 
-    pub given_end : i ≡ 0 → RankedBy (items L k at) source Backing given₀ b₀ next b
-    given_end h = record {
-      steps = d.steps;
-      few = omega (arith, d.few, items_length L k at);
-      stable = λ e x m. passing_done d.walk h x m e;
-    }
+  -- a rank for each at most
+  passed_few : {left at given given' : ℕ} {b b' : List ℕ} → PassedAt left at given b given' b' → (given ≤ given') × (given' ≤ given + left)
+  passed_few {given = given} over = (le_refl given, omega arith)
+  passed_few (gives bare backs p) = let few = passed_few p in (omega arith, omega arith)
+  passed_few (had ranked p) = let few = passed_few p in (omega arith, omega arith)
+  passed_few (idle not p) = let few = passed_few p in (omega arith, omega arith)
+
+  -- where none was given, each that backs its source had one
+  passed_stable : {left at given given' : ℕ} {b b' : List ℕ} → PassedAt left at given b given' b' → given' ≡ given
+      → (e : A) → e ∈ items L left at → Backing b e → claimed_rank b (source e) < unranked
+  unfolding items
+  passed_stable over q e m k = elim m [ ]
+  passed_stable (gives bare backs p) q e m k = absurd (omega (arith, (passed_few p).0))
+  passed_stable {b = b} (had ranked p) q e (Memᴰ.head is) k = rw is ranked
+  passed_stable (had ranked p) q e (Memᴰ.tail m) k = passed_stable p q e m k
+  passed_stable {b = b} (idle not p) q e (Memᴰ.head is) k = absurd (not (subst (Backing b) is k))
+  passed_stable (idle not p) q e (Memᴰ.tail m) k = passed_stable p q e m k
+
+module _ {A : Type 0} (L : Layout A) (source : A → ℕ) (Backing : List ℕ → A → Type 0) where
+  pub passed_ranked : (k at : ℕ) {given given' : ℕ} {b b' : List ℕ} → PassedAt L source Backing (items L k at) given b k at given b given' b'
+      → RankedBy (items L k at) source Backing given b given' b'
+  passed_ranked k at {given} {b = b} p = record {
+    steps = passed_steps L source Backing (items L k at) given b (λ e m. m) none p;
+    few = omega (arith, (passed_few L source Backing (items L k at) given b p).1, items_length L k at);
+    stable = λ q e m back. passed_stable L source Backing (items L k at) given b p q e m back;
+  }

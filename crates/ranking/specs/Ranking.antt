@@ -1,5 +1,5 @@
 -- What the writer knows of ranks on its way: how they were given, and that the claims keep their values.
-use Rattle.std.specs.Prelude.{ℕ, ◌+◌, ◌*◌, ◌≤◌, ◌<◌, List, ◌≡◌, length, drop}
+use Rattle.std.specs.Prelude.{ℕ, zero, suc, ◌+◌, ◌*◌, ◌≤◌, ◌<◌, List, ◌≡◌, length, drop}
 use Rattle.lists.specs.Lists.{◌∈◌}
 use Rattle.value.specs.Stored.{infinite}
 use Rattle.wire.specs.Bytes.{put}
@@ -28,3 +28,14 @@ module _ {A : Type 0} (edges : List A) (source : A → ℕ) (Backing : List ℕ 
     pub steps : Ranks given b
     pub few : given ≤ given₀ + length edges
     pub stable : given ≡ given₀ → (e : A) → e ∈ edges → Backing b₀ e → claimed_rank b₀ (source e) < unranked
+
+-- so many edges from a position, one after another: the next rank is given to the source of each that backs it and has none
+pub data Passed (source next : ℕ → ℕ) (Backing : List ℕ → ℕ → Type 0) : (left at given : ℕ) → List ℕ → (given' : ℕ) → List ℕ → Type 0 where
+  over : {at given : ℕ} {b : List ℕ} → Passed source next Backing zero at given b given b
+  gives : {left at given given' : ℕ} {b b' : List ℕ} → claimed_rank b (source at) ≡ unranked → Backing b at
+      → Passed source next Backing left (next at) (given + 1) (put b (source at * claim_width + rank_at) long_width given) given' b'
+      → Passed source next Backing (suc left) at given b given' b'
+  had : {left at given given' : ℕ} {b b' : List ℕ} → claimed_rank b (source at) < unranked
+      → Passed source next Backing left (next at) given b given' b' → Passed source next Backing (suc left) at given b given' b'
+  idle : {left at given given' : ℕ} {b b' : List ℕ} → ¬ Backing b at
+      → Passed source next Backing left (next at) given b given' b' → Passed source next Backing (suc left) at given b given' b'

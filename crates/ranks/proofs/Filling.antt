@@ -1,13 +1,11 @@
 -- The rooms of the writer: words cleared, claims begun, and what the filled rooms hold. Assumes nothing.
-use Prim.Native.Nat.{ℕ, zero, suc, ◌+◌, ◌-◌, ◌*◌, ◌<◌, ◌≤◌}
-use mathlib.Core.List.{List, [], ◌∷◌, ◌++◌}
+use Prim.Native.Nat.{ℕ, suc, ◌+◌, ◌-◌, ◌*◌, ◌<◌, ◌≤◌}
+use mathlib.Core.List.{List, ◌++◌}
 use mathlib.Core.Logic.{inl}
 use mathlib.Core.Path.{◌≡◌, refl, sym, ap, ◌∙◌}
-use lib.ListN.{length, drop, get_or, set, replicate, length-append}
+use lib.ListN.{length, drop, get_or, replicate, length-append}
 use lib.Seq.{drop-drop, drop-append-add}
 use native.Mathlib.Decide.{ℕ_discrete}
-use native.Mathlib.Nat.{not-suc-le-zero}
-use native.Mathlib.Numerals.{add-one}
 use native.Mathlib.Omega.{arith}
 use Rattle.value.specs.Stored.{infinite, stored, meaning}
 use Rattle.value.proofs.Stored.{meaning_stored}
@@ -29,16 +27,6 @@ use Rattle.ranking.specs.Ranking.{unranked, Kept}
 use Rattle.ranks.specs.Begun.{Begun}
 use Rattle.support.proofs.Accepted.{accepted_largest}
 use Rattle.ranking.proofs.Puts.{put_length, put_other, put_same, put_past}
-
--- ---- words that are cleared one after another
-
-more : (i : ℕ) (b : List ℕ) → i < length b → set (replicate i 0 ++ drop i b) i 0 ≡ replicate (suc i) 0 ++ drop (suc i) b
-more i [] h = absurd (not-suc-le-zero h)
-more zero (a ∷ b) h = refl
-more (suc i) (a ∷ b) h = ap (λ (l : List ℕ). 0 ∷ l) (more i b (omega arith))
-
-pub zeros_more : (i : ℕ) (b : List ℕ) → i < length b → set (replicate i 0 ++ drop i b) i 0 ≡ replicate (i + 1) 0 ++ drop (i + 1) b
-zeros_more i b h = rw add-one (more i b h)
 
 -- ---- claims that are begun one after another
 

@@ -14,7 +14,8 @@ use Rattle.value.specs.Value.{Value, plus, greatest, finite, meets}
 use Rattle.value.specs.Stored.{meaning}
 use Rattle.wire.specs.Bytes.{Bytes, number}
 use Rattle.wire.specs.Field.{long_width}
-use Rattle.wire.specs.Read.{Read, good}
+use mathlib.Core.Bool.{Bool, true, false}
+use Rattle.wire.specs.Read.{Read, Ok, Err}
 use Rattle.wire.proofs.Exact.{good_bind, good_demand}
 use Rattle.rules.specs.Graph.{Graph, Target, Closed}
 use Rattle.rules.specs.Rounds.{Assignment, worst, Agree}
@@ -23,8 +24,6 @@ use Rattle.graph.specs.Stored.{StoredGraph, ruled}
 use Rattle.graph.specs.Message.{read_graph}
 use Rattle.graph.proofs.Exact.{accepted_written}
 use Rattle.support.specs.Claims.{rank_at, claim_width, Support, by_hyper, by_cover, Accepts, AcceptsClaims}
-use Rattle.claims.specs.declared.Judged.{Judged}
-use Rattle.ranks.specs.declared.Written.TheVariants as Written
 use Rattle.claims.specs.Answers.{claims_length, read_claims, Judges}
 use Rattle.ranks.specs.Answers.{Narrow, Filled, WritesOf, filled, Writes}
 use Rattle.ranking.proofs.Puts.{number_same}
@@ -74,12 +73,12 @@ wide_enough g claims words wide = go (dec_lt (length claims) (claims_length g))
     go (no l) = omega arith
 
 -- claims that were written of a message are accepted: whatever satisfies the checker's contract of the message and them is yes
-pub written_accepted : (s : List ℕ) → Bytes s → {g : StoredGraph} → read_graph s ≡ good g → (claims words claims' words' : List ℕ)
-    → Writes (read_graph s) claims words claims' words' Written.Claims → (r : Judged)
-    → Judges (read_claims s (take (claims_length (ruled g)) claims')) (take (claims_length (ruled g)) claims') r → r ≡ Judged.Yes
+pub written_accepted : (s : List ℕ) → Bytes s → {g : StoredGraph} → read_graph s ≡ Ok g → (claims words claims' words' : List ℕ)
+    → Writes (read_graph s) claims words claims' words' (Ok tt) → (r : Read Bool)
+    → Judges (read_claims s (take (claims_length (ruled g)) claims')) (take (claims_length (ruled g)) claims') r → ◌≡◌ {A = Read Bool} r (Ok true)
 unfolding read_claims
 written_accepted s bytes {g} reads claims words claims' words' w r j =
-    go r (subst (λ (x : Read StoredGraph). Writes x claims words claims' words' Written.Claims) reads w)
+    go r (subst (λ (x : Read StoredGraph). Writes x claims words claims' words' (Ok tt)) reads w)
     (λ long. subst (λ (x : Read StoredGraph). Judges x (take (claims_length (ruled g)) claims') r)
     (good_bind _ reads (good_demand _ (eq-eqb (length (take (claims_length (ruled g)) claims')) (claims_length (ruled g)) long) refl)) j)
   where
@@ -89,8 +88,8 @@ written_accepted s bytes {g} reads claims words claims' words' w r j =
     long : Filled (ruled g) claims words claims' words' → ¬ Narrow (ruled g) claims words → length (take (claims_length (ruled g)) claims') ≡ claims_length (ruled g)
     long f wide = length-take-le (claims_length (ruled g)) claims' (omega (arith, f.same_length, wide_enough (ruled g) claims words wide))
 
-    go : (r : Judged) → WritesOf (ruled g) claims words claims' words' Written.Claims
-        → (length (take (claims_length (ruled g)) claims') ≡ claims_length (ruled g) → Judges (good g) (take (claims_length (ruled g)) claims') r) → r ≡ Judged.Yes
-    go Judged.Yes (filled free wide f) j = refl
-    go Judged.No (filled free wide f) j = absurd (j (long f wide) (first_accepts (ruled g) closed claims' f.accepted))
-    go (Judged.Refused e) (filled free wide f) j = absurd (j (long f wide))
+    go : (r : Read Bool) → WritesOf (ruled g) claims words claims' words' (Ok tt)
+        → (length (take (claims_length (ruled g)) claims') ≡ claims_length (ruled g) → Judges (Ok g) (take (claims_length (ruled g)) claims') r) → ◌≡◌ {A = Read Bool} r (Ok true)
+    go (Ok true) (filled free wide f) j = refl
+    go (Ok false) (filled free wide f) j = absurd (j (long f wide) (first_accepts (ruled g) closed claims' f.accepted))
+    go (Err e) (filled free wide f) j = absurd (j (long f wide))

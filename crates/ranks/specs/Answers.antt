@@ -1,25 +1,14 @@
 -- What the writer of claims answers, and what it leaves in its rooms.
 use Rattle.std.specs.Prelude.{ℕ, ◌*◌, ◌<◌, List, ◌++◌, ◌⊎◌, ◌≡◌, length, drop, replicate}
-use Rattle.refusal.specs.Number.{ok, number_of, nowhere, unplaced}
+use Rattle.refusal.specs.Number.{unplaced}
 use Rattle.refusal.specs.declared.Refusal.TheVariants.{Room, Profile}
-use Rattle.wire.specs.Read.{Read, good, bad}
+use Rattle.wire.specs.Read.{Read, Ok, Err}
 use Rattle.rules.specs.Graph.{Graph}
 use Rattle.rules.specs.Rounds.{Largest}
 use Rattle.rules.specs.Walks.{CoverCycle}
 use Rattle.graph.specs.Stored.{StoredGraph, ruled}
 use Rattle.support.specs.Claims.{claimed_value, AcceptsClaims}
 use Rattle.claims.specs.Answers.{claims_length}
-use Rattle.ranks.specs.declared.Written.{Written}
-
--- the paper's number of an answer
-abbrev pub written_number : Written → ℕ
-written_number Written.Claims = ok
-written_number (Written.Refused e) = number_of e.refusal
-
--- where the field starts that was found wrong
-abbrev pub written_offset : Written → ℕ
-written_offset Written.Claims = nowhere
-written_offset (Written.Refused e) = e.offset
 
 -- how many words are lent: 8n
 abbrev pub words_lent : Graph → ℕ
@@ -43,12 +32,12 @@ pub record Filled (g : Graph) (claims words claims' words' : List ℕ) : Type 0 
   pub words_are : words' ≡ replicate (words_lent g) 0 ++ drop (words_lent g) words
 
 -- PROFILE exactly where some cycle passes through a cover edge; then ROOM
-pub data WritesOf (g : Graph) (claims words claims' words' : List ℕ) : Written → Type 0 where
-  cyclic : CoverCycle g → Untouched claims words claims' words' → WritesOf g claims words claims' words' (Written.Refused (unplaced Profile))
-  narrow : ¬ CoverCycle g → Narrow g claims words → Untouched claims words claims' words' → WritesOf g claims words claims' words' (Written.Refused (unplaced Room))
-  filled : ¬ CoverCycle g → ¬ Narrow g claims words → Filled g claims words claims' words' → WritesOf g claims words claims' words' Written.Claims
+pub data WritesOf (g : Graph) (claims words claims' words' : List ℕ) : Read Unit → Type 0 where
+  cyclic : CoverCycle g → Untouched claims words claims' words' → WritesOf g claims words claims' words' (Err (unplaced Profile))
+  narrow : ¬ CoverCycle g → Narrow g claims words → Untouched claims words claims' words' → WritesOf g claims words claims' words' (Err (unplaced Room))
+  filled : ¬ CoverCycle g → ¬ Narrow g claims words → Filled g claims words claims' words' → WritesOf g claims words claims' words' (Ok tt)
 
 -- a fault of the graph is the answer
-abbrev pub Writes : Read StoredGraph → (claims words claims' words' : List ℕ) → Written → Type 0
-Writes (good g) claims words claims' words' r = WritesOf (ruled g) claims words claims' words' r
-Writes (bad e) claims words claims' words' r = (r ≡ Written.Refused e) × Untouched claims words claims' words'
+abbrev pub Writes : Read StoredGraph → (claims words claims' words' : List ℕ) → Read Unit → Type 0
+Writes (Ok g) claims words claims' words' r = WritesOf (ruled g) claims words claims' words' r
+Writes (Err e) claims words claims' words' r = (◌≡◌ {A = Read Unit} r (Err e)) × Untouched claims words claims' words'

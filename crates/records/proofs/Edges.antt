@@ -24,7 +24,7 @@ use Rattle.model.specs.Format.{weight_at, action_at, to_at, transition_width, tr
 use Rattle.model.specs.Model.{Transition}
 use Rattle.syntax.specs.declared.Action.{Action}
 use Rattle.reduction.specs.Built.{to, hyper, looks_at}
-use Rattle.transitions.specs.Held.{transition_layout, transitions_from, Reads}
+use Rattle.transitions.specs.Held.{transition_layout, transitions_from, Reads, LeadTo}
 use Rattle.records.specs.Bytes.{single_width, pair_width, hypers_bytes, every_next}
 
 -- ---- lists of records
@@ -97,11 +97,11 @@ module _ (m : List ℕ) (n : ℕ) (one : Transition → List ℕ) where
     pub named : {u : Transition} → u ∈ items (transition_layout m) i p → u.to < n
     pub left : Left b at whole b' next (write_all one (items (transition_layout m) i p))
 
-  pub filling_all : {first many shift : ℕ} → Reads m n first many shift → (b : List ℕ) (at p : ℕ) {whole : List ℕ} → whole ≡ write_all one (transitions_from m n first many)
+  pub filling_all : {first many : ℕ} → Reads m n first many → LeadTo n (transitions_from m n first many) → (b : List ℕ) (at p : ℕ) {whole : List ℕ} → whole ≡ write_all one (transitions_from m n first many)
       → at + length whole ≤ length b → p ≡ transition_at n first → Filling b at whole b at p many
-  filling_all {first} {many} r b at p {whole} e fits is = rw is record {
+  filling_all {first} {many} r named b at p {whole} e fits is = rw is record {
     readable = omega (arith, r.long);
-    named = r.named;
+    named = λ {u} i. named u i;
     left = subst (Left b at whole b at) e (all_left b at whole fits);
   }
 

@@ -27,7 +27,7 @@ use Rattle.model.specs.Model.{Transition}
 use Rattle.syntax.specs.declared.Quantifier.{Quantifier}
 use Rattle.syntax.specs.declared.Quantifier.TheVariants.{Some, Every}
 use Rattle.reduction.specs.Built.{to, looks_at}
-use Rattle.transitions.specs.Held.{transition_layout, transitions_from, Reads}
+use Rattle.transitions.specs.Held.{transition_layout, transitions_from, Reads, LeadTo}
 use Rattle.records.specs.Bytes.{hypers_bytes, some_next, every_next, near_bytes, near_width, nearby_bytes}
 use Rattle.transitions.specs.Looked.{is_near}
 use Rattle.transitions.proofs.Counting.{passing_le}
@@ -73,13 +73,20 @@ near_wide Some = omega arith
 near_wide Every = omega arith
 
 -- fewer transitions can be read too
-pub fewer_read : {m : List ℕ} {n first many shift : ℕ} → Reads m n first many shift → (k : ℕ) → k ≤ many → Reads m n first k shift
+among : (m : List ℕ) (n first many k : ℕ) → k ≤ many → {u : Transition} → u ∈ transitions_from m n first k → u ∈ transitions_from m n first many
+among m n first many k h e =
+    let at = ∈-items (transition_layout m) k (transition_at n first) e in
+    subst (λ (x : Transition). x ∈ transitions_from m n first many) (sym at.2) (items-∈ (transition_layout m) many (transition_at n first) at.0 (omega (arith, at.1)))
+
+pub fewer_read : {m : List ℕ} {n first many : ℕ} → Reads m n first many → (k : ℕ) → k ≤ many → Reads m n first k
 fewer_read {m} {n} {first} {many} r k h = record {
   long = omega (arith, r.long);
-  named = λ {u} e. let at = ∈-items (transition_layout m) k (transition_at n first) e in
-      r.named {u = u} (subst (λ (x : Transition). x ∈ transitions_from m n first many) (sym at.2) (items-∈ (transition_layout m) many (transition_at n first) at.0 (omega (arith, at.1))));
-  shift_fits = r.shift_fits;
+  weights_fit = λ e. r.weights_fit (among m n first many k h e);
+  actions_fit = λ e. r.actions_fit (among m n first many k h e);
 }
+
+pub fewer_named : (m : List ℕ) (n first many : ℕ) → LeadTo n (transitions_from m n first many) → (k : ℕ) → k ≤ many → LeadTo n (transitions_from m n first k)
+fewer_named m n first many named k h u e = named u (among m n first many k h e)
 
 -- for those that are looked at it is the hyperedges of EX, or the targets of that of AX
 module _ {q : Quantifier} (v low high most shift : ℕ) (us : List Transition) (A : Action) (b : Bound)

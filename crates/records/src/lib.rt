@@ -8,12 +8,13 @@ ghost use Rattle.wire.specs.Laid.{Laid};
 ghost use Rattle.graph.specs.Format.{hyper_width, target_width};
 ghost use Rattle.graph.specs.Write.{write_target, write_hyper};
 ghost use Rattle.reduction.specs.Built as built;
-ghost use Rattle.transitions.specs.Held.{transitions_from, Reads};
-ghost use Rattle.transitions.specs.Looked.{leaf_edges};
+ghost use Rattle.transitions.specs.Looked.{leaf_edges, lowest, highest, is_near};
+ghost use Rattle.transitions.specs.Held.{LeadTo};
+ghost use Rattle.transitions.specs.Views.{list_of};
 ghost use Rattle.records.specs.Bytes.{single_width, pair_width, hypers_bytes, near_bytes, near_width, nearby_bytes, step_bytes, steps_bytes, next_edges};
-ghost use Rattle.transitions.specs.Looked.{lowest, highest, is_near};
 
 use syntax::{Action, Quantifier};
+use transitions::{Look, Out};
 use value::Bound;
 use wire::Width;
 
@@ -86,79 +87,70 @@ fn near_width(q: Quantifier) -> usize
 fn put_nearby(
     room: &mut [u8],
     at: usize,
-    m: &[u8],
-    n: u32,
     q: Quantifier,
     v: u32,
-    first: u32,
-    many: u32,
-    low: u32,
-    high: u32,
-    most: u32,
+    out: Out,
+    look: Look,
     shift: u32,
 ) -> u64
-    requires reads { Reads m.now n first many shift }
-    requires many_in_bounds { at + length (nearby_bytes q v low high most shift (transitions_from m.now n first many)) ≤ length room.old }
-    requires low_le_high { low ≤ high }
-    ensures value { result ≡ length (keep (is_near low high most) (transitions_from m.now n first many)) }
-    ensures laid { Laid room.old at (nearby_bytes q v low high most shift (transitions_from m.now n first many)) room.new
+    requires named { LeadTo out.states (list_of out) }
+    requires shift_fits { shift + out.states ≤ 4096 }
+    requires inside { at + length (nearby_bytes q v look.low look.high look.most shift (list_of out)) ≤ length room.old }
+    ensures value { result ≡ length (keep (is_near look.low look.high look.most) (list_of out.entry)) }
+    ensures laid { Laid room.old at (nearby_bytes q v look.low look.high look.most shift (list_of out.entry)) room.new
         (at + result * near_width q) }
 {
     let width = near_width(q);
     let mut near: u64 = 0;
-    let mut p = transitions::transition_at(n, first);
-    let mut i = transitions::near_end(m, n, first, many, low, high, most);
-    while 0 < i {
-        let both = wire::number_at(m, p + model::ACTION_AT, Width::Four);
-        let here = transitions::is_near_of(m, p, both, low, high, most);
+    let mut p = out.start();
+    let upto = look.last_in(out);
+    for _ in 0..upto {
+        let both = wire::number_at(out.bytes, p + model::ACTION_AT, Width::Four);
+        let here = look.is_near_of(out.bytes, p, both);
         let to = both % wire::TWO_MORE;
         let next = at + (near as usize) * width;
         p += model::TRANSITION;
-        i -= 1;
         put_near(room, next, q, v, to + shift);
-        if here {
-            near += 1;
-        }
+        near += here as u64;
     }
     near
 }
 
-// The same, by the action: each kind has a call of its own, as in `near_count`.
+// The same, by the action: each kind has a call of its own, as in `Out::count_near`.
 fn put_looked(
     room: &mut [u8],
     at: usize,
-    m: &[u8],
-    n: u32,
     q: Quantifier,
     v: u32,
-    first: u32,
-    many: u32,
+    out: Out,
     action: Action,
     most: u32,
     shift: u32,
 ) -> u64
-    requires reads { Reads m.now n first many shift }
-    requires many_in_bounds { at + length (nearby_bytes q v (lowest action) (highest action) most shift (transitions_from m.now n first many)) ≤ length room.old }
-    ensures value { result ≡ length (keep (is_near (lowest action) (highest action) most) (transitions_from m.now n first many)) }
-    ensures laid { Laid room.old at (nearby_bytes q v (lowest action) (highest action) most shift (transitions_from m.now n first many))
+    requires named { LeadTo out.states (list_of out) }
+    requires shift_fits { shift + out.states ≤ 4096 }
+    requires inside { at + length (nearby_bytes q v (lowest action) (highest action) most shift (list_of out)) ≤ length room.old }
+    ensures value { result ≡ length (keep (is_near (lowest action) (highest action) most) (list_of out.entry)) }
+    ensures laid { Laid room.old at (nearby_bytes q v (lowest action) (highest action) most shift (list_of out.entry))
         room.new (at + result * near_width q) }
 {
     match action {
-        Action::Any => put_nearby(
-            room,
-            at,
-            m,
-            n,
-            q,
-            v,
-            first,
-            many,
-            0,
-            transitions::MOST_ACTION,
-            most,
-            shift,
-        ),
-        Action::Only(k) => { put_nearby(room, at, m, n, q, v, first, many, k, k, most, shift) }
+        Action::Any => {
+            let look = Look {
+                low: 0,
+                high: transitions::MOST_ACTION,
+                most,
+            };
+            put_nearby(room, at, q, v, out, look, shift)
+        }
+        Action::Only(k) => {
+            let look = Look {
+                low: k,
+                high: k,
+                most,
+            };
+            put_nearby(room, at, q, v, out, look, shift)
+        }
     }
 }
 
@@ -185,28 +177,24 @@ fn put_step(
 pub fn put_steps(
     room: &mut [u8],
     at: usize,
-    m: &[u8],
-    n: u32,
     q: Quantifier,
     v: u32,
-    first: u32,
-    many: u32,
+    out: Out,
     left: u32,
     shift: u32,
 ) -> usize
-    requires reads { Reads m.now n first many shift }
-    requires many_in_bounds { at + length (steps_bytes q v left shift (transitions_from m.now n first many)) ≤ length room.old }
-    ensures { Laid room.old at (steps_bytes q v left shift (transitions_from m.now n first many)) room.new result }
+    requires named { LeadTo out.states (list_of out) }
+    requires shift_fits { shift + out.states ≤ 4096 }
+    requires inside { at + length (steps_bytes q v left shift (list_of out)) ≤ length room.old }
+    ensures { Laid room.old at (steps_bytes q v left shift (list_of out.entry)) room.new result }
 {
     let mut next = at;
-    let mut p = transitions::transition_at(n, first);
-    let mut i = many;
-    while 0 < i {
-        let weight = wire::number_at(m, p + model::WEIGHT_AT, Width::Four);
-        let to = wire::number_at(m, p + model::TO_AT, Width::Two);
+    let mut p = out.start();
+    for _ in 0..out.many {
+        let weight = wire::number_at(out.bytes, p + model::WEIGHT_AT, Width::Four);
+        let to = wire::number_at(out.bytes, p + model::TO_AT, Width::Two);
         next = put_step(room, next, q, v, left, weight, to + shift);
         p += model::TRANSITION;
-        i -= 1;
     }
     next
 }
@@ -226,30 +214,27 @@ pub fn put_leaf(room: &mut [u8], at: usize, v: u32, one: bool) -> usize
 pub fn put_next(
     room: &mut [u8],
     at: usize,
-    m: &[u8],
-    n: u32,
     v: u32,
-    first: u32,
-    many: u32,
+    out: Out,
     q: Quantifier,
     action: Action,
     bound: Bound,
     shift: u32,
 ) -> usize
-    requires reads { Reads m.now n first many shift }
-    requires shift_in_bounds { at + length (hypers_bytes v (next_edges q (transitions_from m.now n first many) action bound shift)) ≤ length room.old }
-    ensures { Laid room.old at (hypers_bytes v (next_edges q (transitions_from m.now n first many) action bound shift))
-        room.new result }
+    requires named { LeadTo out.states (list_of out) }
+    requires shift_fits { shift + out.states ≤ 4096 }
+    requires inside { at + length (hypers_bytes v (next_edges q (list_of out) action bound shift)) ≤ length room.old }
+    ensures { Laid room.old at (hypers_bytes v (next_edges q (list_of out.entry) action bound shift)) room.new result }
 {
     let most = bound.code();
     match q {
         Quantifier::Some => {
-            let near = put_looked(room, at, m, n, q, v, first, many, action, most, shift);
+            let near = put_looked(room, at, q, v, out, action, most, shift);
             at + (near as usize) * SINGLE
         }
         Quantifier::Every => {
             let targets = at + graph::HYPER;
-            let near = put_looked(room, targets, m, n, q, v, first, many, action, most, shift);
+            let near = put_looked(room, targets, q, v, out, action, most, shift);
             put_head(room, at, v, near as u32);
             targets + (near as usize) * graph::TARGET
         }

@@ -1,5 +1,5 @@
 -- The numbers given back: 0 is OK, 1 is BUDGET, and each refusal has its own. 7, DEAD, stays in the table and is no longer given.
-use Rattle.std.specs.Prelude.{ℕ}
+use Rattle.std.specs.Prelude.{ℕ, Result, Ok, Err}
 use Rattle.refusal.specs.declared.Refusal.{Refusal}
 use Rattle.refusal.specs.declared.Fault.{Fault}
 use Rattle.refusal.specs.declared.Refusal.TheVariants.{Length, Version, Limit, Order, Name, Size, Room, Form, Profile}
@@ -30,3 +30,13 @@ nowhere = 0
 -- a refusal that no field of a message is at fault for
 abbrev pub unplaced : Refusal → Fault
 unplaced e = record { refusal = e; offset = nowhere }
+
+-- the number of an answer: OK, or that of its refusal
+abbrev pub answer_number : {A : Type 0} → Result A Fault → ℕ
+answer_number (Ok a) = ok
+answer_number (Err e) = number_of e.refusal
+
+-- the offset of an answer: nowhere, or that of its fault
+abbrev pub answer_offset : {A : Type 0} → Result A Fault → ℕ
+answer_offset (Ok a) = nowhere
+answer_offset (Err e) = e.offset

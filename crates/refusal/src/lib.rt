@@ -3,9 +3,9 @@
 #![tactic(auto)]
 
 ghost use Rattle.std.specs.Prelude.{◌≡◌};
-ghost use Rattle.refusal.specs.Number.{number_of};
+ghost use Rattle.refusal.specs.Number.{number_of, answer_number, answer_offset};
 
-#[derive(Clone, Copy)]
+#[derive(Clone, Copy, Debug, PartialEq, Eq)]
 pub enum Refusal {
     Length,
     Version,
@@ -19,7 +19,7 @@ pub enum Refusal {
 }
 
 // A refusal, and where in the message at fault the field starts that was found wrong: its offset, and 0 where no field is at fault.
-#[derive(Clone, Copy)]
+#[derive(Clone, Copy, Debug, PartialEq, Eq)]
 pub struct Fault {
     pub refusal: Refusal,
     pub offset: usize,
@@ -28,6 +28,11 @@ pub struct Fault {
 // Faults that no field of a message has.
 pub const NAME: Fault = Fault {
     refusal: Refusal::Name,
+    offset: 0,
+};
+
+pub const LIMIT: Fault = Fault {
+    refusal: Refusal::Limit,
     offset: 0,
 };
 
@@ -72,5 +77,25 @@ impl Fault {
     {
         let refusal = self.refusal;
         refusal.number()
+    }
+}
+
+// The number that the paper gives an answer: 0 is OK.
+pub fn number<T>(answer: &Result<T, Fault>) -> u8
+    ensures { result ≡ answer_number answer.now }
+{
+    match answer {
+        Ok(_) => 0,
+        Err(e) => e.number(),
+    }
+}
+
+// Where the field starts that an answer found wrong, and 0 where none was.
+pub fn offset<T>(answer: &Result<T, Fault>) -> usize
+    ensures { result ≡ answer_offset answer.now }
+{
+    match answer {
+        Ok(_) => 0,
+        Err(e) => e.offset,
     }
 }

@@ -8,7 +8,7 @@ use mathlib.Core.Path.{◌≡◌, refl, sym, ap, ◌∙◌}
 use lib.ListN.{length, take, drop}
 use Rattle.value.specs.Value.{at_most}
 use Rattle.wire.specs.Bytes.{Bytes}
-use Rattle.wire.specs.Read.{Read, good, bad}
+use Rattle.wire.specs.Read.{Read, Ok, Err}
 use Rattle.wire.proofs.Bytes.{front_bytes, rest_bytes}
 use Rattle.wire.proofs.Reading.{bind_good}
 use Rattle.rules.specs.Rounds.{rounds}
@@ -29,7 +29,7 @@ use Rattle.report.specs.Output.{read_input, budget_of, settled_lines, output_wit
 use Rattle.report.proofs.Ended.{within_settles}
 
 -- within its budget every question settles
-pub outputs : (q : Question) → model.WellFormed q.model → formula.WellFormed q.model.propositions q.rows → output_of (good q) ≡ settled_lines q (count (graph_for q))
+pub outputs : (q : Question) → model.WellFormed q.model → formula.WellFormed q.model.propositions q.rows → output_of (Ok q) ≡ settled_lines q (count (graph_for q))
 outputs q m f = within_settles budget_of q (built_count m f)
 
 -- the test behind a state's line, once the rounds have settled
@@ -40,7 +40,7 @@ line_exactly q m f e a l = test_when q m f (count (graph_for q)) (count_first (g
 -- ---- joined to the input
 
 -- an accepted input writes a model and a formula, and its graph passes no limit
-pub input_asks : (s b v : List ℕ) (q : Question) → Bytes s → read_input s b v ≡ good q
+pub input_asks : (s b v : List ℕ) (q : Question) → Bytes s → read_input s b v ≡ Ok q
     → ((k : ℕ) × Asks (take k s) (drop k s) q) × (fits (graph_for q) ≡ true)
 unfolding read_input read_settled
 input_asks s b v q bytes e =
@@ -48,11 +48,11 @@ input_asks s b v q bytes e =
     let k = x.value in
     let y = bind_good _ _ x.rest in
     let (r, same) = roomed_good y.value b v y.rest in
-    let reads = y.first ∙ ap good same in
+    let reads = y.first ∙ ap Ok same in
     ((k, asks (take k s) (drop k s) q (front_bytes k s bytes) (rest_bytes k s bytes) reads), rw (← same) r.fitting)
 
 -- it settles: the output is the lines of the settled question, and the test behind a state's line is the state's answer
-pub input_exactly : (s b v : List ℕ) (q : Question) → Bytes s → read_input s b v ≡ good q
+pub input_exactly : (s b v : List ℕ) (q : Question) → Bytes s → read_input s b v ≡ Ok q
     → let m = count (ruled_for q) in
     (output_of (read_input s b v) ≡ settled_lines q m)
     × ((a : ℕ) → a < q.model.states → (at_most (rounds (ruled_for q) m (root_node q a)) 0 ≡ true) ↔ Satisfies q a)
@@ -70,7 +70,7 @@ same_output s b v bytes = go (read_input s b v) refl
     former q = (ruled_for q).nodes * (length (ruled_for q).covers + 1)
 
     go : (x : Read Question) → read_input s b v ≡ x → output_of x ≡ output_within former x
-    go (good q) e =
+    go (Ok q) e =
         let asked = (input_asks s b v q bytes e).0.1 in
         outputs q asked.model_fits asked.formula_fits ∙ sym (within_settles former q (count_le (graph_for q)))
-    go (bad r) e = refl
+    go (Err r) e = refl

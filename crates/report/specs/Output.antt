@@ -3,7 +3,7 @@ use Rattle.std.specs.Prelude.{ℕ, List, ◌++◌, cond, length, take, drop, rep
 use Rattle.lists.specs.Making.{span}
 use Rattle.refusal.specs.Number.{over_budget, number_of, nowhere}
 use Rattle.value.specs.Value.{at_most}
-use Rattle.wire.specs.Read.{Read, good, bad, ◌>>=◌}
+use Rattle.wire.specs.Read.{Read, Ok, Err, ◌>>=◌}
 use Rattle.rules.specs.Rounds.{rounds}
 use Rattle.rules.specs.Count.{count}
 use Rattle.syntax.specs.Formula.{root_of}
@@ -29,17 +29,17 @@ settled_lines question m =
 
 -- any refusal writes only its line; BUDGET exactly when the count is greater than the budget
 unfoldable pub output_within : (budget : Question → ℕ) → Read Question → List ℕ
-output_within budget (good question) =
+output_within budget (Ok question) =
     cond (leb (count (ruled_for question)) (budget question)) (settled_lines question (count (ruled_for question))) (refused_line over_budget nowhere)
-output_within budget (bad e) = refused_line (number_of e.refusal) e.offset
+output_within budget (Err e) = refused_line (number_of e.refusal) e.offset
 
 abbrev pub output_of : Read Question → List ℕ
 output_of x = output_within budget_of x
 
 -- what is left in the room of values
 unfoldable pub left_of : Read Question → (values : List ℕ) → List ℕ
-left_of (good question) values = values_of (good question) (budget_of question) values
-left_of (bad e) values = values
+left_of (Ok question) values = values_of (Ok question) (budget_of question) values
+left_of (Err e) values = values
 
 -- the output stands at the front of a room of at least 8,192 bytes, and its length is returned; with less nothing is done
 unfoldable pub report_length : Read Question → (out : List ℕ) → ℕ

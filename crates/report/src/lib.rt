@@ -1,31 +1,55 @@
 // What the program writes for what it reads.
 #![tactic(auto)]
 
-ghost use Rattle.std.specs.Prelude.{◌≡◌, ◌≤◌, length};
+ghost use Rattle.std.specs.Prelude.{◌≡◌, ◌+◌, ◌≤◌, length};
 ghost use Rattle.std.specs.Counts.{IsPrefixLen};
-ghost use Rattle.wire.specs.Laid.{Laid};
+ghost use Rattle.decimals.specs.Writer.{Wrote};
 ghost use Rattle.settling.specs.Answer.{read_settled, bytes_of};
 ghost use Rattle.report.specs.Output.{read_input, output_of, left_of, report_length, report_out, report_bytes, report_values, zero_bytes, zero_values};
 
-use pieces::Cut;
+use decimals::Writer;
 use verdict::AllStates;
 use wire::Width;
 
-// The output for a model and a formula; the budget is n.
-fn answer(m: &[u8], f: &[u8], bytes: &mut [u8], values: &mut [u64], out: &mut [u8]) -> usize
-    requires { 8192 ≤ length out.old }
-    ensures laid { Laid out.old 0 (output_of (read_settled m.now f.now bytes.old values.old)) out.new result }
+// Writes the output for a model and a formula; the budget is n.
+fn put_answer(m: &[u8], f: &[u8], bytes: &mut [u8], values: &mut [u64], out: &mut Writer<'_>)
+    requires { out.old.at + 8192 ≤ length out.old.room.now }
+    ensures wrote { Wrote out.old (output_of (read_settled m.now f.now bytes.old values.old)) out.new }
     ensures bytes_after { bytes.new ≡ bytes_of (read_settled m.now f.now bytes.old values.old) bytes.old }
     ensures values_after { values.new ≡ left_of (read_settled m.now f.now bytes.old values.old) values.old }
 {
     let budget = verdict::nodes(m, f);
     match verdict::settle(m, f, budget, bytes, values) {
-        AllStates::Settled(count, _, first, n) => {
+        Ok(
+            AllStates::Settled {
+                count,
+                first,
+                states,
+                ..
+            },
+        ) => {
             let p = wire::number_at(m, model::PROPOSITIONS_AT, Width::One);
-            pieces::put_settled(f, p, count, values, first, n, out)
+            let (first, states) = (first as usize, states as usize);
+            pieces::put_settled(out, f, p, count, &values[first..first + states]);
         }
-        AllStates::Spent(_, _) => pieces::put_refused(out, 1, 0),
-        AllStates::Refused(e) => pieces::put_refused(out, e.number(), e.offset),
+        Ok(AllStates::Spent { .. }) => pieces::put_refused(out, 1, 0),
+        Err(e) => pieces::put_refused(out, e.number(), e.offset),
+    }
+}
+
+// Writes the output for an input.
+fn put_output(input: &[u8], bytes: &mut [u8], values: &mut [u64], out: &mut Writer<'_>)
+    requires { out.old.at + 8192 ≤ length out.old.room.now }
+    ensures wrote { Wrote out.old (output_of (read_input input.now bytes.old values.old)) out.new }
+    ensures bytes_after { bytes.new ≡ bytes_of (read_input input.now bytes.old values.old) bytes.old }
+    ensures values_after { values.new ≡ left_of (read_input input.now bytes.old values.old) values.old }
+{
+    match pieces::model_end(input) {
+        Err(e) => pieces::put_refused(out, e.number(), e.offset),
+        Ok(k) => {
+            let (m, f) = input.split_at(k);
+            put_answer(m, f, bytes, values, out);
+        }
     }
 }
 
@@ -40,10 +64,9 @@ pub fn report(input: &[u8], bytes: &mut [u8], values: &mut [u64], out: &mut [u8]
     if out.len() < 8192 {
         return 0;
     }
-    match pieces::model_end(input) {
-        Cut::Refused(e) => pieces::put_refused(out, e.number(), e.offset),
-        Cut::At(k) => answer(&input[..k], &input[k..], bytes, values, out),
-    }
+    let mut written = Writer { room: out, at: 0 };
+    put_output(input, bytes, values, &mut written);
+    written.at
 }
 
 // The same with rooms of the program's own: 65,536 bytes and 8,192 numbers, all zero.

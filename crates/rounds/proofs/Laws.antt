@@ -9,15 +9,15 @@ use lib.Dec.{leb}
 use borrow.Author.Tests.{leb-true, leb-false, le-leb, lt-leb}
 use native.Mathlib.Omega.{arith}
 use Rattle.lists.proofs.Tests.{by}
-use Rattle.refusal.specs.declared.Fault.{Fault}
-use Rattle.wire.specs.Read.{Read, good, bad}
+use Rattle.wire.specs.Read.{Read, Ok, Err}
 use Rattle.wire.proofs.Reading.{good_same}
 use Rattle.rules.specs.Graph.{Graph}
 use Rattle.rules.specs.Rounds.{rounds}
 use Rattle.rules.specs.Count.{count}
 use Rattle.graph.specs.Stored.{StoredGraph}
 use Rattle.graph.specs.Message.{read_graph}
-use Rattle.turns.specs.declared.Outcome.TheVariants.{Settled, Spent, Refused}
+use Rattle.turns.specs.declared.Outcome.{Outcome}
+use Rattle.turns.specs.declared.Outcome.TheVariants.{Settled, Spent}
 use Rattle.turns.specs.Outcome.{outcome_count, stored_values, filled, read_rounds, ended, outcome_of, rounds_room}
 use Rattle.rounds.proofs.Promised.{stored_length, rounds_read}
 
@@ -42,19 +42,16 @@ spent_above g budget h = rw (lt-leb (count g) budget h)
 -- a settled outcome is that of a graph, at its count
 pub record SettledOn (x : Read StoredGraph) (budget : ℕ) (b : List ℕ) (m : ℕ) : Type 0 where
   pub graph : StoredGraph
-  pub reads : x ≡ good graph
+  pub reads : x ≡ Ok graph
   pub count_is : m ≡ count graph
   pub room : rounds_room x budget b ≡ filled graph m b
 
-pub settled_on : (x : Read StoredGraph) (budget : ℕ) (b : List ℕ) (m : ℕ) → outcome_of x budget ≡ Settled m → SettledOn x budget b m
+pub settled_on : (x : Read StoredGraph) (budget : ℕ) (b : List ℕ) (m : ℕ) → outcome_of x budget ≡ Ok (Settled m) → SettledOn x budget b m
 unfolding outcome_of rounds_room ended
-settled_on (bad e) budget b m h = absurd (apart h)
+settled_on (Err e) budget b m h = absurd (cc)
+settled_on (Ok g) budget b m h = go (leb (count g) budget) refl h
   where
-    apart : {e : Fault} {m : ℕ} → Refused e ≡ Settled m → ⊥
-    apart z = let one : ◌≡◌ {A = ℕ} 0 1 = cc in omega arith
-settled_on (good g) budget b m h = go (leb (count g) budget) refl h
-  where
-    go : (u : Bool) → leb (count g) budget ≡ u → cond u (Settled (count g)) (Spent budget) ≡ Settled m → SettledOn (good g) budget b m
+    go : (u : Bool) → leb (count g) budget ≡ u → ◌≡◌ {A = Read Outcome} (Ok (cond u (Settled (count g)) (Spent budget))) (Ok (Settled m)) → SettledOn (Ok g) budget b m
     go true f z =
         let is : m ≡ count g = cc in
         let least : min (count g) budget ≡ m = omega (arith, leb-true (count g) budget f) in
@@ -62,8 +59,8 @@ settled_on (good g) budget b m h = go (leb (count g) budget) refl h
     go false f z = let one : ◌≡◌ {A = ℕ} 0 1 = cc in absurd (omega arith)
 
 -- two budgets that settle give the same values and count, whatever the rooms
-pub two_budgets : (s : List ℕ) (c d : ℕ) (b b' : List ℕ) (m k : ℕ) → outcome_of (read_rounds s b) c ≡ Settled m → outcome_of (read_rounds s b') d ≡ Settled k
-    → (g : StoredGraph) → read_graph s ≡ good g
+pub two_budgets : (s : List ℕ) (c d : ℕ) (b b' : List ℕ) (m k : ℕ) → outcome_of (read_rounds s b) c ≡ Ok (Settled m) → outcome_of (read_rounds s b') d ≡ Ok (Settled k)
+    → (g : StoredGraph) → read_graph s ≡ Ok g
     → (m ≡ k) × (take (g.nodes + g.nodes) (rounds_room (read_rounds s b) c b) ≡ take (g.nodes + g.nodes) (rounds_room (read_rounds s b') d b'))
 unfolding filled
 two_budgets s c d b b' m k p q g e =

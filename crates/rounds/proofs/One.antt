@@ -11,5 +11,5 @@ one_solve κs a r r' s s' p q = (p.0 ∙ sym q.0, p.1.0 ∙ sym q.1.0)
 
 -- `rounds::run`: the answer and the room
 pub one_run : (κs : _) (a : _) (r r' : _) (s s' : _) → run.Post κs a r s → run.Post κs a r' s'
-    → (r ≡ r') × (s.1.1.1.1.1.0.now ≡ s'.1.1.1.1.1.0.now)
+    → (r ≡ r') × (s.1.1.0.now ≡ s'.1.1.0.now)
 one_run κs a r r' s s' p q = let same : r ≡ r' = p.0 ∙ sym q.0 in (same, p.1 ∙ rw same (sym q.1))

@@ -15,7 +15,7 @@ use Rattle.value.proofs.Stored.{meaning_stored}
 use Rattle.refusal.specs.declared.Fault.{Fault}
 use Rattle.refusal.proofs.Numbers.{number_above}
 use Rattle.wire.specs.Bytes.{Bytes}
-use Rattle.wire.specs.Read.{Read, good, bad}
+use Rattle.wire.specs.Read.{Read, Ok, Err}
 use Rattle.wire.proofs.Reading.{bind_good, demand_good, good_same}
 use Rattle.rules.specs.Graph.{Graph, heaviest}
 use Rattle.rules.specs.Rounds.{Assignment, rounds}
@@ -30,7 +30,7 @@ use Rattle.graph.specs.Write.{write_graph}
 use Rattle.graph.specs.WellFormed.{WellFormed, Accepted}
 use Rattle.graph.proofs.Ready.{rounds_fit}
 use Rattle.graph.proofs.Exact.{accepted_written}
-use Rattle.turns.specs.declared.Outcome.TheVariants.{Settled, Spent, Refused}
+use Rattle.turns.specs.declared.Outcome.TheVariants.{Settled, Spent}
 use Rattle.halves.specs.Held.{held}
 use Rattle.turns.specs.Outcome.{stored_values, filled, read_rounds, ended, outcome_of, rounds_room}
 use Rattle.rounds.specs.Promise.{Halves, SettledAt, SpentAt, Promise}
@@ -121,10 +121,10 @@ module _ (g : Graph) (wf : WellFormed g) (budget : ℕ) (b₀ : List ℕ) where
 
 -- a message that the rounds take: the graph is accepted, and the room is large enough
 pub record RoundsRead (s b : List ℕ) (g : StoredGraph) : Type 0 where
-  pub reads : read_graph s ≡ good g
+  pub reads : read_graph s ≡ Ok g
   pub room : g.nodes + g.nodes ≤ length b
 
-pub rounds_read : (s b : List ℕ) (g : StoredGraph) → read_rounds s b ≡ good g → RoundsRead s b g
+pub rounds_read : (s b : List ℕ) (g : StoredGraph) → read_rounds s b ≡ Ok g → RoundsRead s b g
 unfolding read_rounds
 rounds_read s b g e =
     let x = bind_good _ _ e in
@@ -135,19 +135,19 @@ rounds_read s b g e =
 -- the outcome and the room of the definitions keep the promise
 module _ (s : List ℕ) (budget : ℕ) (b₀ : List ℕ) where
   -- a refusal's number is above BUDGET's
-  pub kept_refused : (e : Fault) → Promise s budget b₀ b₀ (Refused e)
+  pub kept_refused : (e : Fault) → Promise s budget b₀ b₀ (Err e)
   kept_refused e =
       let above = number_above e.refusal in
       record { settled = λ z. absurd (omega arith); spent = λ z. absurd (omega arith); refused = λ l. (refl, refl) }
 
-  kept_ended : (g : Graph) → s ≡ write_graph g → WellFormed g → Promise s budget b₀ (filled g (min (count g) budget) b₀) (ended g budget)
+  kept_ended : (g : Graph) → s ≡ write_graph g → WellFormed g → Promise s budget b₀ (filled g (min (count g) budget) b₀) (Ok (ended g budget))
   unfolding ended
   kept_ended g e wf = go (leb (count g) budget) refl
     where
       accepted : Accepted s g
       accepted = record { writing = e; well_formed = wf }
 
-      go : (t : Bool) → leb (count g) budget ≡ t → Promise s budget b₀ (filled g (min (count g) budget) b₀) (cond t (Settled (count g)) (Spent budget))
+      go : (t : Bool) → leb (count g) budget ≡ t → Promise s budget b₀ (filled g (min (count g) budget) b₀) (Ok (cond t (Settled (count g)) (Spent budget)))
       go true h =
           let within = leb-true (count g) budget h in
           let m : min (count g) budget ≡ count g = omega arith in
@@ -173,5 +173,5 @@ module _ (s : List ℕ) (budget : ℕ) (b₀ : List ℕ) where
   kept bytes = go (read_rounds s b₀) refl
     where
       go : (x : Read StoredGraph) → read_rounds s b₀ ≡ x → Promise s budget b₀ (rounds_room x budget b₀) (outcome_of x budget)
-      go (good g) e = let w = accepted_written s g bytes (rounds_read s b₀ g e).reads in kept_ended g w.0 w.1
-      go (bad e) r = kept_refused e
+      go (Ok g) e = let w = accepted_written s g bytes (rounds_read s b₀ g e).reads in kept_ended g w.0 w.1
+      go (Err e) r = kept_refused e

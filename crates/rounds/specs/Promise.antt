@@ -9,7 +9,8 @@ use Rattle.rules.specs.Walks.{CoverCycle}
 use Rattle.graph.specs.Stored.{StoredGraph, ruled}
 use Rattle.graph.specs.WellFormed.{Accepted}
 use Rattle.halves.specs.Held.{held}
-use Rattle.turns.specs.Outcome.{outcome_number, outcome_count}
+use Rattle.wire.specs.Read.{Read}
+use Rattle.turns.specs.Outcome.{rounds_number, rounds_count}
 use Rattle.turns.specs.declared.Outcome.{Outcome}
 
 -- the first n numbers are round i, the next n are round i + 1, and no finite number of the two is above (n - 1) w
@@ -37,8 +38,8 @@ pub record SpentAt (graph : Graph) (budget : ℕ) (room : List ℕ) (reported : 
   pub spent : reported ≡ budget
   pub later : (i : ℕ) → i ≤ budget → ¬ Settled graph i
 
--- by the number and the count that the paper gives the outcome: OK, BUDGET, or a refusal, which has count 0 and leaves the room as it came
-pub record Promise (message : List ℕ) (budget : ℕ) (before after : List ℕ) (outcome : Outcome) : Type 0 where
-  pub settled : outcome_number outcome ≡ ok → (graph : StoredGraph) × Accepted message graph × SettledAt (ruled graph) budget after (outcome_count outcome)
-  pub spent : outcome_number outcome ≡ over_budget → (graph : StoredGraph) × Accepted message graph × SpentAt (ruled graph) budget after (outcome_count outcome)
-  pub refused : over_budget < outcome_number outcome → (outcome_count outcome ≡ 0) × (after ≡ before)
+-- by the number and the count that the paper gives the answer: OK, BUDGET, or a refusal, which has count 0 and leaves the room as it came
+pub record Promise (message : List ℕ) (budget : ℕ) (before after : List ℕ) (answer : Read Outcome) : Type 0 where
+  pub settled : rounds_number answer ≡ ok → (graph : StoredGraph) × Accepted message graph × SettledAt (ruled graph) budget after (rounds_count answer)
+  pub spent : rounds_number answer ≡ over_budget → (graph : StoredGraph) × Accepted message graph × SpentAt (ruled graph) budget after (rounds_count answer)
+  pub refused : over_budget < rounds_number answer → (rounds_count answer ≡ 0) × (after ≡ before)

@@ -3,9 +3,11 @@ use Prim.Native.Nat.{ℕ, ◌+◌, ◌*◌, ◌-◌, ◌<◌, ◌≤◌, min}
 use mathlib.Core.List.{List, ◌∷◌}
 use mathlib.Core.Bool.{Bool, true, false, cond, ◌||◌, ◌&&◌}
 use mathlib.Core.Path.{◌≡◌, refl, sym, ap, subst, ◌∙◌}
-use lib.ListN.{length, get_or, set}
+use lib.ListN.{length, get_or, set, length-set, get_or-eq_default}
+use lib.Seq.{get_or-set_same, get_or-set_other}
 use lib.Dec.{eqb}
 use borrow.Author.Tests.{eq-eqb, ne_eqb}
+use native.Mathlib.Decide.{ℕ_discrete, dec_lt}
 use native.Mathlib.Omega.{arith}
 use Rattle.lists.specs.Lists.{any}
 use Rattle.value.specs.Value.{meets}
@@ -21,7 +23,7 @@ use Rattle.graph.specs.Format.{target_count_at, hyper_width, target_width, cover
 use Rattle.graph.specs.Layouts.{target_layout, hyper_layout, cover_layout, HyperOk, CoverOk}
 use Rattle.halves.specs.Held.{held}
 use Rattle.halves.specs.Room.{half}
-use Rattle.scans.specs.Scan.{Sides, hyper_in, Going, Done}
+use Rattle.scans.specs.Scan.{Sides, lowered, hyper_in, Going, Done}
 use Rattle.scans.proofs.Going.{going_on, going_set}
 
 -- what is left to do to a node's next number: the hyperedges, the cover edges
@@ -84,6 +86,17 @@ module _ (s : List ℕ) (n from to : ℕ) (x : Assignment) (i p : ℕ) {b₀ b :
         each = λ v l. omega (arith, g'.each v l, fits (to + v));
       }
 
+-- numbers that are stored fit still once a hyperedge is taken in
+pub lowered_fits : (s : List ℕ) (to at k : ℕ) (b : List ℕ) → ((v : ℕ) → get_or b v 0 ≤ infinite) → (v : ℕ) → get_or (lowered s to at k b) v 0 ≤ infinite
+lowered_fits s to at k b fits v = go (ℕ_discrete v (to + number 2 s at)) (dec_lt (to + number 2 s at) (length b))
+  where
+    go : Dec (v ≡ to + number 2 s at) → Dec (to + number 2 s at < length b) → get_or (lowered s to at k b) v 0 ≤ infinite
+    go (no e) q = rw (get_or-set_other b (to + number 2 s at) v (min (get_or b (to + number 2 s at) 0) k) 0 e) (fits v)
+    go (yes e) (yes h) = rw (e, get_or-set_same b (to + number 2 s at) (min (get_or b (to + number 2 s at) 0) k) 0 h) (omega (arith, fits (to + number 2 s at)))
+    go (yes e) (no h) =
+        let long = length-set b (to + number 2 s at) (min (get_or b (to + number 2 s at) 0) k) in
+        rw (e, get_or-eq_default (lowered s to at k b) 0 {n = to + number 2 s at} (omega (arith, long))) (omega arith)
+
 -- i hyperedges at p are left to take in, of k at a position
 pub record Left (s : List ℕ) (n from to k at : ℕ) (b₀ b : List ℕ) (i p : ℕ) : Type 0 where
   pub sound : Sound (hyper_layout s n) i p
@@ -102,10 +115,10 @@ module _ {s : List ℕ} {n from to k at : ℕ} {b₀ b : List ℕ} {i p : ℕ} (
 
   -- once it is taken in, one less is left, a stride further
   pub left_turn : Sides n from to → n + n ≤ length b₀ → 0 < i → {b' : List ℕ} → b' ≡ hyper_in s n from to p b
-      → {stride : ℕ} → stride ≡ hyper_width + number 2 s (p + target_count_at) * target_width → Left s n from to k at b₀ b' (i - 1) (p + stride)
-  left_turn sides room h is {stride} e =
+      → {stride : ℕ} → stride ≡ hyper_width + number 2 s (p + target_count_at) * target_width → {j : ℕ} → j ≡ i - 1 → Left s n from to k at b₀ b' j (p + stride)
+  left_turn sides room h is {stride} e less =
       let next : p + stride ≡ p + hyper_width + number 2 s (p + target_count_at) * target_width = omega arith in
-      rw (is, next) (record {
+      rw (is, next, less) (record {
         sound = (sound_more _ h d.sound).1;
         ends = sym (end_more _ _ _ h) ∙ d.ends;
         going = hypers_turn _ _ _ _ _ i p d.going sides room h (left_here h) (ap held d.going.this);

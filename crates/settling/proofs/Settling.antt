@@ -12,7 +12,7 @@ use Rattle.lists.proofs.Tests.{and_left, and_right}
 use Rattle.refusal.specs.Number.{nowhere, unplaced}
 use Rattle.refusal.specs.declared.Fault.{Fault}
 use Rattle.refusal.specs.declared.Refusal.TheVariants.{Room, Size}
-use Rattle.wire.specs.Read.{good, bad, ◌>>◌, unless, demand}
+use Rattle.wire.specs.Read.{Read, Ok, Err, ◌>>◌, unless, demand}
 use Rattle.wire.proofs.Exact.{good_after, good_demand}
 use Rattle.rules.specs.Graph.{Graph}
 use Rattle.rules.specs.Count.{count}
@@ -24,14 +24,14 @@ use Rattle.reduction.proofs.Built.{built_well_formed}
 use Rattle.turns.specs.declared.Outcome.{Outcome}
 use Rattle.turns.specs.Outcome as rounds
 use Rattle.rounds.proofs.Laws.{count_reported}
-use Rattle.build.specs.declared.Built.{Built}
 use Rattle.transitions.specs.Held.{held_model}
 use Rattle.transitions.proofs.Accepted.{rows_length}
 use Rattle.build.specs.Built.{fits, roomy, built_of, built_room}
 use Rattle.build.proofs.Writing.{fits_each}
 use Rattle.settling.specs.declared.AllStates.{AllStates}
 use Rattle.questions.specs.Question.{Question, graph_for, root_node}
-use Rattle.questions.specs.Asking.{held_question}
+use Rattle.questions.specs.declared.asked.Asked.{Asked}
+use Rattle.questions.specs.Asking.{question_of}
 use Rattle.settling.specs.Answer.{sized, roomed, all_of, bytes_of, values_of}
 
 -- the built graph of an accepted question that passes no limit is well-formed
@@ -44,12 +44,12 @@ pub record WasBuilt (g : Graph) (b : List ℕ) (n long : ℕ) : Type 0 where
   pub room : roomy g b n ≡ true
   pub long_is : long ≡ length (write_graph g)
 
-pub was_built : (g : Graph) (b : List ℕ) (n : ℕ) {long : ℕ} → built_of g b n ≡ Built.Graph long → WasBuilt g b n long
+pub was_built : (g : Graph) (b : List ℕ) (n : ℕ) {long : ℕ} → built_of g b n ≡ Ok long → WasBuilt g b n long
 unfolding built_of
 was_built g b n {long} e = go (fits g) (roomy g b n) refl refl e
   where
     go : (t u : Bool) → fits g ≡ t → roomy g b n ≡ u
-        → cond t (cond u (Built.Graph (length (write_graph g))) (Built.Refused (unplaced Room))) (Built.Refused (unplaced Size)) ≡ Built.Graph long → WasBuilt g b n long
+        → ◌≡◌ {A = Read ℕ} (cond t (cond u (Ok (length (write_graph g))) (Err (unplaced Room))) (Err (unplaced Size))) (Ok long) → WasBuilt g b n long
     go true true p q z = record { fitting = p; room = q; long_is = cc }
     go true false p q z = let w : ◌≡◌ {A = ℕ} 0 1 = cc in absurd (omega arith)
     go false u p q z = let w : ◌≡◌ {A = ℕ} 0 1 = cc in absurd (omega arith)
@@ -73,19 +73,18 @@ module _ {g : Graph} {b : List ℕ} {n long : ℕ} (built : WasBuilt g b n long)
 abbrev pub passed : Question → ℕ → Outcome → AllStates
 passed q long (Outcome.Settled m) = AllStates.Settled m long (root_node q 0) q.model.states
 passed q long (Outcome.Spent m) = AllStates.Spent m long
-passed q long (Outcome.Refused e) = AllStates.Refused e
 
 module _ (q : Question) (budget : ℕ) (b v : List ℕ) where
   -- what is shown of settling a question
-  abbrev pub Shows : AllStates → List ℕ → List ℕ → Type 0
+  abbrev pub Shows : Read AllStates → List ℕ → List ℕ → Type 0
   Shows r b' v' = let x = roomed q b v in (r ≡ all_of x budget) × ((b' ≡ bytes_of x b) × (v' ≡ values_of x budget v))
 
   -- the same answer
-  pub shows_as : {r r' : AllStates} {b' v' : List ℕ} → r' ≡ r → Shows r b' v' → Shows r' b' v'
+  pub shows_as : {r r' : Read AllStates} {b' v' : List ℕ} → r' ≡ r → Shows r b' v' → Shows r' b' v'
   shows_as e s = (e ∙ s.0, s.1)
 
   -- the builder refuses what the reading does
-  not_roomed : {e : Fault} → built_of (graph_for q) b (length v) ≡ Built.Refused e → (roomed q b v ≡ bad e) × (built_room (graph_for q) b (length v) ≡ b)
+  not_roomed : {e : Fault} → built_of (graph_for q) b (length v) ≡ Err e → (roomed q b v ≡ Err e) × (built_room (graph_for q) b (length v) ≡ b)
   unfolding built_of built_room roomy roomed sized ◌>>◌ unless
   not_roomed {e} h =
       go (fits (graph_for q)) (leb (length w) (length b)) (leb ((graph_for q).nodes + (graph_for q).nodes) (length v)) h
@@ -93,22 +92,22 @@ module _ (q : Question) (budget : ℕ) (b v : List ℕ) where
       w : List ℕ
       w = write_graph (graph_for q)
 
-      go : (t u r : Bool) → cond t (cond (u && r) (Built.Graph (length w)) (Built.Refused (unplaced Room))) (Built.Refused (unplaced Size)) ≡ Built.Refused e
-          → (demand t Size nowhere >> (demand u Room nowhere >> good q) >> (demand r Room nowhere >> good q) ≡ bad e) × (cond t (cond (u && r) (w ++ drop (length w) b) b) b ≡ b)
+      go : (t u r : Bool) → ◌≡◌ {A = Read ℕ} (cond t (cond (u && r) (Ok (length w)) (Err (unplaced Room))) (Err (unplaced Size))) (Err e)
+          → (demand t Size nowhere >> (demand u Room nowhere >> Ok q) >> (demand r Room nowhere >> Ok q) ≡ Err e) × (cond t (cond (u && r) (w ++ drop (length w) b) b) b ≡ b)
       go true true true z = let k : ◌≡◌ {A = ℕ} 0 1 = cc in absurd (omega arith)
-      go true true false z = let k : e ≡ unplaced Room = cc in (ap bad (sym k), refl)
-      go true false r z = let k : e ≡ unplaced Room = cc in (ap bad (sym k), refl)
-      go false u r z = let k : e ≡ unplaced Size = cc in (ap bad (sym k), refl)
+      go true true false z = let k : e ≡ unplaced Room = cc in (ap Err (sym k), refl)
+      go true false r z = let k : e ≡ unplaced Room = cc in (ap Err (sym k), refl)
+      go false u r z = let k : e ≡ unplaced Size = cc in (ap Err (sym k), refl)
 
   -- the graph was refused
-  pub shows_refused : {e : Fault} {b' : List ℕ} → built_of (graph_for q) b (length v) ≡ Built.Refused e → b' ≡ built_room (graph_for q) b (length v)
-      → Shows (AllStates.Refused e) b' v
+  pub shows_refused : {e : Fault} {b' : List ℕ} → built_of (graph_for q) b (length v) ≡ Err e → b' ≡ built_room (graph_for q) b (length v)
+      → Shows (Err e) b' v
   unfolding all_of bytes_of values_of
   shows_refused h r = let (is, stays) = not_roomed h in rw is (refl, (r ∙ stays, refl))
 
   -- the graph was built, and the rounds on it ended
   module _ {long : ℕ} (built : WasBuilt (graph_for q) b (length v) long) where
-    was_roomed : roomed q b v ≡ good q
+    was_roomed : roomed q b v ≡ Ok q
     unfolding roomed sized roomy
     was_roomed =
         let message = and_left _ (leb ((graph_for q).nodes + (graph_for q).nodes) (length v)) built.room in
@@ -116,23 +115,24 @@ module _ (q : Question) (budget : ℕ) (b v : List ℕ) where
         good_after (good_demand _ built.fitting (good_demand _ message refl)) (good_demand _ values refl)
 
     pub shows_ran : {d : Graph} {b' v' : List ℕ} {r r' : Outcome} → d ≡ graph_for q → b' ≡ built_room (graph_for q) b (length v)
-        → r ≡ rounds.ended d budget → v' ≡ rounds.filled d (rounds.outcome_count r) v → r ≡ r' → Shows (passed q long r') b' v'
+        → r ≡ rounds.ended d budget → v' ≡ rounds.filled d (rounds.outcome_count r) v → r ≡ r' → Shows (Ok (passed q long r')) b' v'
     unfolding all_of bytes_of values_of built_room rounds.ended
     shows_ran {d} {b'} {v'} {r} is rb ro rv same =
         let ended : r ≡ rounds.ended (graph_for q) budget = rw is at ro in
         let count_is = ap rounds.outcome_count ended ∙ count_reported (graph_for q) budget in
         rw was_roomed
-        (ap (passed q long) (sym same ∙ ended) ∙ go (leb (count (graph_for q)) budget), (rb ∙ rw (built.fitting, built.room), rv ∙ rw (is, count_is)))
+        (ap (λ (r : Outcome). Ok (passed q long r)) (sym same ∙ ended) ∙ ap Ok (go (leb (count (graph_for q)) budget)), (rb ∙ rw (built.fitting, built.room), rv ∙ rw (is, count_is)))
       where
         go : (t : Bool) → passed q long (cond t (Outcome.Settled (count (graph_for q))) (Outcome.Spent budget))
             ≡ cond t (AllStates.Settled (count (graph_for q)) (length (write_graph (graph_for q))) (root_node q 0) q.model.states) (AllStates.Spent budget (length (write_graph (graph_for q))))
         go true = ap (λ (k : ℕ). AllStates.Settled (count (graph_for q)) k (root_node q 0) q.model.states) built.long_is
         go false = ap (AllStates.Spent budget) built.long_is
 
--- the root's node of state 0 and the states of a question that the bytes hold, as the counts tell them
-pub held_done : (m : List ℕ) (n p t : ℕ) (f : List ℕ) (k rounds long : ℕ)
-    → AllStates.Settled rounds long (n * (k - 1)) n ≡ passed (held_question m n p t f k) long (Outcome.Settled rounds)
+-- the root's node of state 0 and the states of an accepted question, as the counts tell them
+pub held_done : (asked : Asked) (rounds long : ℕ)
+    → AllStates.Settled rounds long (asked.model.states * (asked.formula.rows - 1)) asked.model.states ≡ passed (question_of asked) long (Outcome.Settled rounds)
 unfolding held_model
-held_done m n p t f k rounds long =
-    let root : n * (k - 1) ≡ root_node (held_question m n p t f k) 0 = rw (rows_length f k) (omega arith) in
+held_done asked rounds long =
+    let n = asked.model.states in
+    let root : n * (asked.formula.rows - 1) ≡ root_node (question_of asked) 0 = rw (rows_length asked.formula.bytes.now asked.formula.rows) (omega arith) in
     ap (λ (r : ℕ). AllStates.Settled rounds long r n) root

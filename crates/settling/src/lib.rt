@@ -1,189 +1,191 @@
 // What a question answers, and the graph of an accepted one built and settled.
 #![tactic(auto)]
 
-ghost use Rattle.std.specs.Prelude.{◌≡◌};
-ghost use Rattle.transitions.specs.Held.{HoldsModel, HoldsRows};
-ghost use Rattle.questions.specs.Asking.{held_question};
-ghost use Rattle.settling.specs.Answer.{verdict_number, answer_number, answer_offset, answer_verdict, answer_count, answer_length, all_number, all_offset, all_count, all_length, roomed, all_of, bytes_of, values_of};
+ghost use Rattle.std.specs.Prelude.{◌≡◌, ℕ};
+ghost use Rattle.turns.specs.Outcome.{ended_count};
+ghost use Rattle.questions.specs.Asking.{question_of};
+ghost use Rattle.settling.specs.Answer.{verdict_number, ending_number, ending_count, ending_length, ending_within, states_number, states_count, states_length, states_within, answer_verdict, roomed, all_of, bytes_of, values_of};
 
-use build::Built;
+use graph::Graph;
+use questions::Asked;
 use refusal::Fault;
 use rounds::Outcome;
+use turns::Ended;
 use wire::Width;
 
-// Yes, no, or none where there is no verdict.
-#[derive(Clone, Copy)]
+// Yes or no.
+#[derive(Clone, Copy, Debug, PartialEq, Eq)]
 pub enum Verdict {
     Yes,
     No,
-    None,
 }
 
-// A verdict, with the count of rounds and the length of the graph; the budget spent, with both; or refused.
-#[derive(Clone, Copy)]
+// What a question about a state comes to where nothing is refused: a verdict, with the count of rounds and the length of the graph; or the
+// budget spent, with both.
+#[derive(Clone, Copy, Debug, PartialEq, Eq)]
 pub enum Answer {
-    Decided(Verdict, u32, usize),
-    Spent(u32, usize),
-    Refused(Fault),
+    Decided {
+        verdict: Verdict,
+        count: u32,
+        length: usize,
+    },
+    Spent {
+        count: u32,
+        length: usize,
+    },
 }
 
-// All states at once: settled, with the count of rounds, the length of the graph, the node of state 0, and how many states;
-// the budget spent; or refused.
-#[derive(Clone, Copy)]
+// All states at once, where nothing is refused: settled, with the count of rounds, the length of the graph, the node of state 0, and how many
+// states; or the budget spent.
+#[derive(Clone, Copy, Debug, PartialEq, Eq)]
 pub enum AllStates {
-    Settled(u32, usize, u32, u32),
-    Spent(u32, usize),
-    Refused(Fault),
+    Settled {
+        count: u32,
+        length: usize,
+        first: u32,
+        states: u32,
+    },
+    Spent {
+        count: u32,
+        length: usize,
+    },
 }
 
-impl Verdict {
-    // The number of a verdict.
-    pub fn number(self) -> u8
-        ensures { result ≡ verdict_number self }
-    {
+// The number of a verdict; 0 where there is none.
+pub fn verdict_number(verdict: Option<Verdict>) -> u8
+    ensures { result ≡ verdict_number verdict }
+{
+    match verdict {
+        None => 0,
+        Some(Verdict::Yes) => 1,
+        Some(Verdict::No) => 2,
+    }
+}
+
+// The verdict of an answer; none with a refusal and with a spent budget.
+pub fn verdict_in(answer: &Result<Answer, Fault>) -> Option<Verdict>
+    ensures { result ≡ answer_verdict answer.now }
+{
+    match *answer {
+        Ok(Answer::Decided { verdict, .. }) => Some(verdict),
+        _ => None,
+    }
+}
+
+impl Ended for Answer {
+    ghost number = { ending_number };
+
+    ghost count = { ending_count };
+
+    ghost within = { ending_within };
+
+    fn number(&self) -> u8 {
         match self {
-            Verdict::None => 0,
-            Verdict::Yes => 1,
-            Verdict::No => 2,
+            Answer::Decided { .. } => 0,
+            Answer::Spent { .. } => 1,
+        }
+    }
+
+    fn count(&self) -> u32 {
+        match *self {
+            Answer::Decided { count, .. } | Answer::Spent { count, .. } => count,
         }
     }
 }
 
-impl AllStates {
-    // The number that the paper gives the answer.
-    pub fn number(self) -> u8
-        ensures { result ≡ all_number self }
-    {
+impl Ended for AllStates {
+    ghost number = { states_number };
+
+    ghost count = { states_count };
+
+    ghost within = { states_within };
+
+    fn number(&self) -> u8 {
         match self {
-            AllStates::Settled(_, _, _, _) => 0,
-            AllStates::Spent(_, _) => 1,
-            AllStates::Refused(e) => e.number(),
+            AllStates::Settled { .. } => 0,
+            AllStates::Spent { .. } => 1,
         }
     }
 
-    // Where the field starts that was found wrong, and 0 where none was.
-    pub fn offset(self) -> usize
-        ensures { result ≡ all_offset self }
-    {
-        match self {
-            AllStates::Settled(_, _, _, _) => 0,
-            AllStates::Spent(_, _) => 0,
-            AllStates::Refused(e) => e.offset,
+    fn count(&self) -> u32 {
+        match *self {
+            AllStates::Settled { count, .. } | AllStates::Spent { count, .. } => count,
         }
     }
+}
 
-    // The reported count of rounds.
-    pub fn count(self) -> u32
-        ensures { result ≡ all_count self }
-    {
-        match self {
-            AllStates::Settled(m, _, _, _) => m,
-            AllStates::Spent(m, _) => m,
-            AllStates::Refused(_) => 0,
-        }
-    }
-
+// What comes of a graph that was built, and stands in its room.
+pub trait OnGraph {
     // The returned length of the graph.
-    pub fn length(self) -> usize
-        ensures { result ≡ all_length self }
-    {
-        match self {
-            AllStates::Settled(_, n, _, _) => n,
-            AllStates::Spent(_, n) => n,
-            AllStates::Refused(_) => 0,
+    ghost returned: { Self → ℕ };
+
+    fn length(&self) -> usize
+        ensures { result ≡ returned self.now };
+}
+
+impl OnGraph for Answer {
+    ghost returned = { ending_length };
+
+    fn length(&self) -> usize {
+        match *self {
+            Answer::Decided { length, .. } | Answer::Spent { length, .. } => length,
         }
     }
 }
 
-impl Answer {
-    // The number that the paper gives the answer.
-    pub fn number(self) -> u8
-        ensures { result ≡ answer_number self }
-    {
-        match self {
-            Answer::Decided(_, _, _) => 0,
-            Answer::Spent(_, _) => 1,
-            Answer::Refused(e) => e.number(),
+impl OnGraph for AllStates {
+    ghost returned = { states_length };
+
+    fn length(&self) -> usize {
+        match *self {
+            AllStates::Settled { length, .. } | AllStates::Spent { length, .. } => length,
         }
     }
+}
 
-    // Where the field starts that was found wrong, and 0 where none was.
-    pub fn offset(self) -> usize
-        ensures { result ≡ answer_offset self }
-    {
-        match self {
-            Answer::Decided(_, _, _) => 0,
-            Answer::Spent(_, _) => 0,
-            Answer::Refused(e) => e.offset,
-        }
-    }
-
-    // The verdict; none with a refusal and with a spent budget.
-    pub fn verdict(self) -> Verdict
-        ensures { result ≡ answer_verdict self }
-    {
-        match self {
-            Answer::Decided(v, _, _) => v,
-            Answer::Spent(_, _) => Verdict::None,
-            Answer::Refused(_) => Verdict::None,
-        }
-    }
-
-    // The reported count of rounds.
-    pub fn count(self) -> u32
-        ensures { result ≡ answer_count self }
-    {
-        match self {
-            Answer::Decided(_, m, _) => m,
-            Answer::Spent(m, _) => m,
-            Answer::Refused(_) => 0,
-        }
-    }
-
-    // The returned length of the graph.
-    pub fn length(self) -> usize
-        ensures { result ≡ answer_length self }
-    {
-        match self {
-            Answer::Decided(_, _, n) => n,
-            Answer::Spent(_, n) => n,
-            Answer::Refused(_) => 0,
-        }
+// The returned length of the graph: none with a refusal.
+pub fn length<G: OnGraph>(answer: &Result<G, Fault>) -> usize
+    ensures { result ≡ ended_count G.returned answer.now }
+{
+    match answer {
+        Ok(end) => end.length(),
+        Err(_) => 0,
     }
 }
 
 // Builds the graph of an accepted question and settles it, once for all states. What was built is not checked again: its header tells
 // the counts, and the rounds themselves refuse nothing.
 pub fn settle_question(
-    m: &[u8],
-    n: u32,
-    p: u32,
-    t: u32,
-    f: &[u8],
-    k: u32,
+    asked: Asked,
     budget: u32,
     bytes: &mut [u8],
     values: &mut [u64],
-) -> AllStates
-    requires holds_model { HoldsModel m.now n p t }
-    requires holds_rows { HoldsRows f.now k p }
-    ensures value { result ≡ all_of (roomed (held_question m.now n p t f.now k) bytes.old values.old) budget }
-    ensures bytes_after { bytes.new ≡ bytes_of (roomed (held_question m.now n p t f.now k) bytes.old values.old) bytes.old }
-    ensures values_after { values.new ≡ values_of (roomed (held_question m.now n p t f.now k) bytes.old values.old) budget values.old }
+) -> Result<AllStates, Fault>
+    ensures value { result ≡ all_of (roomed (question_of asked.entry) bytes.old values.old) budget }
+    ensures bytes_after { bytes.new ≡ bytes_of (roomed (question_of asked.entry) bytes.old values.old) bytes.old }
+    ensures values_after { values.new ≡ values_of (roomed (question_of asked.entry) bytes.old values.old) budget values.old }
 {
     let room = values.len();
-    let long = match build::build(m, n, p, t, f, k, room, bytes) {
-        Built::Graph(long) => long,
-        Built::Refused(e) => return AllStates::Refused(e),
-    };
-    let first = n * (k - 1);
-    let message = &bytes[..long];
+    let length = build::build(asked.model, asked.formula, room, bytes)?;
+    let states = asked.model.states;
+    let first = states * (asked.formula.rows - 1);
+    let message = &bytes[..length];
     let nodes = wire::number_at(message, graph::NODES_AT, Width::Two) as usize;
     let hypers = wire::number_at(message, graph::HYPERS_AT, Width::Four);
     let covers = wire::number_at(message, graph::COVERS_AT, Width::Two);
-    match rounds::run(message, nodes, hypers, covers, budget, values) {
-        Outcome::Settled(count) => AllStates::Settled(count, long, first, n),
-        Outcome::Spent(count) => AllStates::Spent(count, long),
-        Outcome::Refused(e) => AllStates::Refused(e),
+    let g = Graph {
+        bytes: message,
+        nodes,
+        hypers,
+        covers,
+    };
+    match rounds::run(g, budget, values) {
+        Outcome::Settled(count) => Ok(AllStates::Settled {
+            count,
+            length,
+            first,
+            states,
+        }),
+        Outcome::Spent(count) => Ok(AllStates::Spent { count, length }),
     }
 }

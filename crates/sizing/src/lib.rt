@@ -7,11 +7,12 @@ ghost use Rattle.graph.specs.Format.{graph_length};
 ghost use Rattle.model.specs.Model as model;
 ghost use Rattle.syntax.specs.declared.Quantifier.TheVariants.{Some, Every};
 ghost use Rattle.reduction.specs.Built as built;
-ghost use Rattle.transitions.specs.Held.{held_model, held_rows, HoldsModel, HoldsRows, Starts};
+ghost use Rattle.transitions.specs.Views.{model_of, rows_of};
 ghost use Rattle.sizing.specs.Size.{◌⊑◌, in_limits, add_size, bare_size, size_of, sizes, state_edges, rows_edges, next_size, step_size};
 ghost use Rattle.transitions.specs.Looked.{leaf_edges};
 
 use syntax::{Action, Quantifier, Row};
+use transitions::{AcceptedModel, AcceptedRows, Table};
 use value::Bound;
 
 // How many hyperedges, how many targets in all, and in the one with the most.
@@ -38,26 +39,19 @@ impl Size {
         Size {
             hypers: self.hypers + other.hypers,
             targets: self.targets + other.targets,
-            most: if self.most < other.most {
-                other.most
-            } else {
-                self.most
-            },
+            most: self.most.max(other.most),
         }
     }
 }
 
 // In how many states a proposition holds.
-fn count_held(m: &[u8], n: u32, p: u32, t: u32, i: u32) -> u64
-    requires { HoldsModel m.now n p t }
-    ensures { (result ≤ n) × (bare_size result ≡ sizes (λ a. size_of (leaf_edges (model.holds (held_model m.now n p t) i a))) 0 n) }
+fn count_held(m: AcceptedModel, i: u32) -> u64
+    ensures { (result ≤ m.entry.states) × (bare_size result ≡ sizes (λ a. size_of (leaf_edges (model.holds (model_of m.entry) i a))) 0 m.entry.states) }
 {
     let mut held: u64 = 0;
-    let mut a: u32 = 0;
-    while a < n {
-        let here = transitions::holds(m, n, p, t, a, i);
+    for a in 0..m.states {
+        let here = m.holds(a, i);
         held += here as u64;
-        a += 1;
     }
     held
 }
@@ -67,124 +61,89 @@ fn bare(hypers: u64) -> Size
     ensures { result ≡ bare_size hypers }
 {
     Size {
-        hypers: hypers,
+        hypers,
         targets: 0,
         most: 0,
     }
 }
 
-// The larger of two numbers.
-fn larger(x: u64, y: u64) -> u64
-    ensures { result ≡ max x y }
-{
-    if x < y {
-        return y;
-    }
-    x
-}
-
-// One of any, and none of none.
-fn any_of(x: u64) -> u64
-    ensures { result ≡ min x 1 }
-{
-    if x < 1 {
-        return 0;
-    }
-    1
-}
-
 // EX has a hyperedge for each transition that it looks at: those of all states are those of the model.
-fn some_next(m: &[u8], n: u32, p: u32, t: u32, action: Action, bound: Bound) -> Size
-    requires { HoldsModel m.now n p t }
-    ensures { result ≡ sizes (λ a. next_size Some (length (built.near (held_model m.now n p t) action bound a))) 0 n }
+fn some_next(m: AcceptedModel, action: Action, bound: Bound) -> Size
+    ensures { result ≡ sizes (λ a. next_size Some (length (built.near (model_of m.entry) action bound a))) 0 m.entry.states }
 {
-    let near = transitions::near_count(m, n, 0, t, action, bound);
+    let near = m.all().count_near(action, bound);
     Size {
         hypers: near,
         targets: near,
-        most: any_of(near),
+        most: near.min(1),
     }
 }
 
 // AX has a hyperedge in each state, with all transitions that it looks at.
-fn every_next(m: &[u8], n: u32, p: u32, t: u32, table: &[u32], action: Action, bound: Bound) -> Size
-    requires holds_model { HoldsModel m.now n p t }
-    requires n_in_bounds { (n < length table.now) × Starts m.now n t table.now }
-    ensures { result ≡ sizes (λ a. next_size Every (length (built.near (held_model m.now n p t) action bound a))) 0 n }
+fn every_next(table: Table, action: Action, bound: Bound) -> Size
+    ensures { result ≡ sizes (λ a. next_size Every (length (built.near (model_of table.entry.model) action bound a))) 0 table.entry.model.states }
 {
+    let n = table.model.states;
     let mut targets: u64 = 0;
     let mut most: u64 = 0;
-    let mut a: u32 = 0;
-    while a < n {
-        let i = a as usize;
-        let first = table[i];
-        let many = table[i + 1] - first;
-        let near = transitions::near_count(m, n, first, many, action, bound);
+    for a in 0..n {
+        let near = table.out_of(a).count_near(action, bound);
         targets += near;
-        most = larger(most, near);
-        a += 1;
+        most = most.max(near);
     }
     Size {
         hypers: n as u64,
-        targets: targets,
-        most: most,
+        targets,
+        most,
     }
 }
 
 // E until has a hyperedge in each state, and one for each transition: those of all states are those of the model.
-fn some_until(m: &[u8], n: u32, p: u32, t: u32) -> Size
-    requires { HoldsModel m.now n p t }
-    ensures { result ≡ sizes (λ a. step_size Some (length (built.out (held_model m.now n p t) a))) 0 n }
+fn some_until(m: AcceptedModel) -> Size
+    ensures { result ≡ sizes (λ a. step_size Some (length (built.out (model_of m.entry) a))) 0 m.entry.states }
 {
-    let all = n as u64;
-    let many = t as u64;
+    let all = m.states as u64;
+    let many = m.transitions as u64;
     Size {
         hypers: all + many,
         targets: all + 2 * many,
-        most: 1 + any_of(many),
+        most: 1 + many.min(1),
     }
 }
 
 // A until has a hyperedge in each state, and one more where there are transitions, with all of them.
-fn every_until(m: &[u8], n: u32, p: u32, t: u32, table: &[u32]) -> Size
-    requires holds_model { HoldsModel m.now n p t }
-    requires n_in_bounds { (n < length table.now) × Starts m.now n t table.now }
-    ensures { result ≡ sizes (λ a. step_size Every (length (built.out (held_model m.now n p t) a))) 0 n }
+fn every_until(table: Table) -> Size
+    ensures { result ≡ sizes (λ a. step_size Every (length (built.out (model_of table.entry.model) a))) 0 table.entry.model.states }
 {
     let mut hypers: u64 = 0;
     let mut targets: u64 = 0;
     let mut most: u64 = 0;
-    let mut a: u32 = 0;
-    while a < n {
-        let i = a as usize;
-        let first = table[i];
-        let many = (table[i + 1] - first) as u64;
-        let own = 1 + any_of(many);
+    for a in 0..table.model.states {
+        let many = table.out_of(a).many as u64;
+        let own = 1 + many.min(1);
         hypers += own;
         targets += own + many;
-        most = larger(most, 1 + many);
-        a += 1;
+        most = most.max(1 + many);
     }
     Size {
-        hypers: hypers,
-        targets: targets,
-        most: most,
+        hypers,
+        targets,
+        most,
     }
 }
 
 // The size of the hyperedges of a row's nodes and helpers, over all states.
-fn row_total(m: &[u8], n: u32, p: u32, t: u32, table: &[u32], row: Row) -> Size
-    requires holds_model { HoldsModel m.now n p t }
-    requires n_in_bounds { (n < length table.now) × Starts m.now n t table.now }
-    ensures { result ≡ size_of (span (state_edges (held_model m.now n p t) row) 0 n) }
+fn row_total(table: Table, row: Row) -> Size
+    ensures { result ≡ size_of (span (state_edges (model_of table.entry.model) row) 0 table.entry.model.states) }
 {
-    let all = n as u64;
+    let m = table.model;
+    let all = m.states as u64;
     let twice = all * 2;
     match row {
         Row::True => bare(all),
         Row::False => Size::NONE,
-        Row::Proposition(i) => bare(count_held(m, n, p, t, i)),
-        Row::Negation(i) => bare(all - count_held(m, n, p, t, i)),
+        Row::Proposition(i) => bare(count_held(m, i)),
+        Row::Negation(i) => bare(all - count_held(m, i)),
         Row::And(_, _) => Size {
             hypers: all,
             targets: twice,
@@ -196,25 +155,23 @@ fn row_total(m: &[u8], n: u32, p: u32, t: u32, table: &[u32], row: Row) -> Size
             most: 1,
         },
         Row::Next(q, k, _, b) => match q {
-            Quantifier::Some => some_next(m, n, p, t, k, b),
-            Quantifier::Every => every_next(m, n, p, t, table, k, b),
+            Quantifier::Some => some_next(m, k, b),
+            Quantifier::Every => every_next(table, k, b),
         },
         Row::Until(q, _, _, _) => match q {
-            Quantifier::Some => some_until(m, n, p, t),
-            Quantifier::Every => every_until(m, n, p, t, table),
+            Quantifier::Some => some_until(m),
+            Quantifier::Every => every_until(table),
         },
     }
 }
 
 // No less than that, without a look at a label or a transition: the rows that are worked out have hyperedges in every state or are untils.
-fn row_most(m: &[u8], n: u32, p: u32, t: u32, table: &[u32], row: Row) -> Size
-    requires holds_model { HoldsModel m.now n p t }
-    requires n_in_bounds { (n < length table.now) × Starts m.now n t table.now }
-    ensures size_of { size_of (span (state_edges (held_model m.now n p t) row) 0 n) ⊑ result }
+fn row_most(table: Table, row: Row) -> Size
+    ensures size_of { size_of (span (state_edges (model_of table.entry.model) row) 0 table.entry.model.states) ⊑ result }
     ensures hypers_bound { (result.hypers ≤ 67108864) × (result.targets ≤ 67108864) }
 {
-    let all = n as u64;
-    let many = t as u64;
+    let all = table.model.states as u64;
+    let many = table.model.transitions as u64;
     match row {
         Row::Proposition(_) => bare(all),
         Row::Negation(_) => bare(all),
@@ -230,61 +187,39 @@ fn row_most(m: &[u8], n: u32, p: u32, t: u32, table: &[u32], row: Row) -> Size
                 most: many,
             },
         },
-        _ => row_total(m, n, p, t, table, row),
+        _ => row_total(table, row),
     }
 }
 
 // The size of all hyperedges of the graph.
-pub fn total_size(m: &[u8], n: u32, p: u32, t: u32, table: &[u32], f: &[u8], k: u32) -> Size
-    requires holds_model { HoldsModel m.now n p t }
-    requires n_in_bounds { (n < length table.now) × Starts m.now n t table.now }
-    requires holds_rows { HoldsRows f.now k p }
-    ensures { result ≡ size_of (rows_edges (held_model m.now n p t) (held_rows f.now k)) }
+pub fn total_size(table: Table, f: AcceptedRows) -> Size
+    ensures { result ≡ size_of (rows_edges (model_of table.entry.model) (rows_of f.entry)) }
 {
     let mut sum = Size::NONE;
-    let mut at = syntax::HEADER;
-    let mut i = k;
-    while 0 < i {
-        let row = syntax::row_at(f, at);
-        sum = sum.plus(row_total(m, n, p, t, table, row));
-        at += syntax::ROW;
-        i -= 1;
+    for i in 0..f.rows {
+        sum = sum.plus(row_total(table, f.row(i)));
     }
     sum
 }
 
 // No less than the size of all hyperedges of the graph.
-pub fn total_most(m: &[u8], n: u32, p: u32, t: u32, table: &[u32], f: &[u8], k: u32) -> Size
-    requires holds_model { HoldsModel m.now n p t }
-    requires n_in_bounds { (n < length table.now) × Starts m.now n t table.now }
-    requires holds_rows { HoldsRows f.now k p }
-    ensures { size_of (rows_edges (held_model m.now n p t) (held_rows f.now k)) ⊑ result }
+pub fn total_most(table: Table, f: AcceptedRows) -> Size
+    ensures { size_of (rows_edges (model_of table.entry.model) (rows_of f.entry)) ⊑ result }
 {
     let mut sum = Size::NONE;
-    let mut at = syntax::HEADER;
-    let mut i = k;
-    while 0 < i {
-        let row = syntax::row_at(f, at);
-        sum = sum.plus(row_most(m, n, p, t, table, row));
-        at += syntax::ROW;
-        i -= 1;
+    for i in 0..f.rows {
+        sum = sum.plus(row_most(table, f.row(i)));
     }
     sum
 }
 
 // How many until rows there are.
-pub fn count_untils(f: &[u8], k: u32, p: u32) -> u32
-    requires { HoldsRows f.now k p }
-    ensures { result ≡ length (built.untils (held_rows f.now k)) }
+pub fn count_untils(f: AcceptedRows) -> u32
+    ensures { result ≡ length (built.untils (rows_of f.entry)) }
 {
     let mut untils: u32 = 0;
-    let mut at = syntax::HEADER;
-    let mut i = k;
-    while 0 < i {
-        let row = syntax::row_at(f, at);
-        at += syntax::ROW;
-        i -= 1;
-        if let Row::Until(_, _, _, _) = row {
+    for i in 0..f.rows {
+        if let Row::Until(_, _, _, _) = f.row(i) {
             untils += 1;
         }
     }
@@ -292,19 +227,11 @@ pub fn count_untils(f: &[u8], k: u32, p: u32) -> u32
 }
 
 // Whether the graph would pass a limit: there are no more cover edges than nodes.
+#[tactic(auto, unfolding(crate::specs::Size::in_limits))]
 pub fn too_large(nodes: u32, size: Size) -> bool
     ensures { result ≡ not (in_limits nodes size) }
 {
-    if 4096 < nodes {
-        return true;
-    }
-    if 65535 < size.hypers {
-        return true;
-    }
-    if 262144 < size.targets {
-        return true;
-    }
-    65535 < size.most
+    4096 < nodes || 65535 < size.hypers || 262144 < size.targets || 65535 < size.most
 }
 
 // The length of the message of a graph of this size, with so many cover edges.

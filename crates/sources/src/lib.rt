@@ -1,90 +1,68 @@
 // Between which sources some of a graph's records stand, whose sources never fall.
 #![tactic(auto)]
 
-ghost use Rattle.std.specs.Prelude.{◌≡◌, ℕ, ◌<◌, ◌≤◌, min, max};
+ghost use Rattle.std.specs.Prelude.{◌≡◌, ℕ, ◌<◌, ◌≤◌};
 ghost use Rattle.wire.specs.Bytes.{number};
-ghost use Rattle.wire.specs.Layout.{end, Sound};
+ghost use Rattle.wire.specs.Layout.{end};
 ghost use Rattle.graph.specs.Format.{graph_header};
 ghost use Rattle.graph.specs.Layouts.{hyper_layout, cover_layout};
 ghost use Rattle.graph.specs.Ready.{Climbs};
 
+use graph::{Covers, Hypers};
 use wire::Width;
 
 // The sources of the hyperedges from number a, at a position, to before number z, at another, are from the first on ..
-pub fn hypers_from(s: &[u8], n: usize, h: u32, a: u32, z: u32, at: usize) -> usize
-    requires sound { Sound (hyper_layout s.now n) h graph_header }
-    requires climbs { Climbs s.now (hyper_layout s.now n) h graph_header }
-    requires z_le_h { z ≤ h }
-    requires at_value { a < z → at ≡ end (hyper_layout s.now n) a graph_header }
-    ensures { (result ≤ n) × ((j : ℕ) → a ≤ j → j < z → result ≤ number 2 s.now (end (hyper_layout s.now n) j graph_header)) }
+pub fn hypers_from(g: Hypers, a: u32, z: u32, at: usize) -> usize
+    requires climbs { Climbs g.bytes.now (hyper_layout g.bytes.now g.nodes) g.count graph_header }
+    requires z_le_count { z ≤ g.count }
+    requires at_value { a < z → at ≡ end (hyper_layout g.bytes.now g.nodes) a graph_header }
+    ensures { let x = g.entry in (result ≤ x.nodes) × ((j : ℕ) → a ≤ j → j < z → result ≤ number 2 x.bytes.now (end (hyper_layout x.bytes.now x.nodes) j graph_header)) }
 {
     if a < z {
-        return wire::number_at(s, at, Width::Two) as usize;
+        return wire::number_at(g.bytes, at, Width::Two) as usize;
     }
-    n
+    g.nodes
 }
 
 // .. and before what this gives.
-pub fn hypers_to(s: &[u8], n: usize, h: u32, a: u32, z: u32, past: usize) -> usize
-    requires sound { Sound (hyper_layout s.now n) h graph_header }
-    requires climbs { Climbs s.now (hyper_layout s.now n) h graph_header }
-    requires z_le_h { z ≤ h }
-    requires past_value { a < z → past ≡ end (hyper_layout s.now n) z graph_header }
-    ensures { (result ≤ n) × ((j : ℕ) → a ≤ j → j < z → number 2 s.now (end (hyper_layout s.now n) j graph_header) < result) }
+pub fn hypers_to(g: Hypers, a: u32, z: u32, past: usize) -> usize
+    requires climbs { Climbs g.bytes.now (hyper_layout g.bytes.now g.nodes) g.count graph_header }
+    requires z_le_count { z ≤ g.count }
+    requires past_value { a < z → past ≡ end (hyper_layout g.bytes.now g.nodes) z graph_header }
+    ensures { let x = g.entry in (result ≤ x.nodes) × ((j : ℕ) → a ≤ j → j < z → number 2 x.bytes.now (end (hyper_layout x.bytes.now x.nodes) j graph_header) < result) }
 {
     if z <= a {
         return 0;
     }
-    if z < h {
-        let next = wire::number_at(s, past, Width::Two) as usize;
+    if z < g.count {
+        let next = wire::number_at(g.bytes, past, Width::Two) as usize;
         return next + 1;
     }
-    n
+    g.nodes
 }
 
 // The same of cover edges.
-pub fn covers_from(s: &[u8], n: usize, c: u32, middle: usize, a: u32, z: u32) -> usize
-    requires sound { Sound (cover_layout s.now n) c middle }
-    requires climbs { Climbs s.now (cover_layout s.now n) c middle }
-    requires z_le_c { z ≤ c }
-    ensures { (result ≤ n) × ((j : ℕ) → a ≤ j → j < z → result ≤ number 2 s.now (end (cover_layout s.now n) j middle)) }
+pub fn covers_from(g: Covers, a: u32, z: u32) -> usize
+    requires climbs { Climbs g.bytes.now (cover_layout g.bytes.now g.nodes) g.count g.at }
+    requires z_le_count { z ≤ g.count }
+    ensures { let x = g.entry in (result ≤ x.nodes) × ((j : ℕ) → a ≤ j → j < z → result ≤ number 2 x.bytes.now (end (cover_layout x.bytes.now x.nodes) j x.at)) }
 {
     if a < z {
-        let at = middle + (a as usize) * graph::COVER;
-        return wire::number_at(s, at, Width::Two) as usize;
+        let at = g.at + (a as usize) * graph::COVER;
+        return wire::number_at(g.bytes, at, Width::Two) as usize;
     }
-    n
+    g.nodes
 }
 
-pub fn covers_to(s: &[u8], n: usize, c: u32, middle: usize, a: u32, z: u32) -> usize
-    requires sound { Sound (cover_layout s.now n) c middle }
-    requires climbs { Climbs s.now (cover_layout s.now n) c middle }
-    requires z_le_c { z ≤ c }
-    ensures { (result ≤ n) × ((j : ℕ) → a ≤ j → j < z → number 2 s.now (end (cover_layout s.now n) j middle) < result) }
+pub fn covers_to(g: Covers, a: u32, z: u32) -> usize
+    requires climbs { Climbs g.bytes.now (cover_layout g.bytes.now g.nodes) g.count g.at }
+    requires z_le_count { z ≤ g.count }
+    ensures { let x = g.entry in (result ≤ x.nodes) × ((j : ℕ) → a ≤ j → j < z → number 2 x.bytes.now (end (cover_layout x.bytes.now x.nodes) j x.at) < result) }
 {
     if z <= a {
         return 0;
     }
-    let at = middle + ((z - 1) as usize) * graph::COVER;
-    let last = wire::number_at(s, at, Width::Two) as usize;
+    let at = g.at + ((z - 1) as usize) * graph::COVER;
+    let last = wire::number_at(g.bytes, at, Width::Two) as usize;
     last + 1
-}
-
-// The lesser and the greater of two numbers.
-pub fn nearer(a: usize, b: usize) -> usize
-    ensures { result ≡ min a b }
-{
-    if a < b {
-        return a;
-    }
-    b
-}
-
-pub fn farther(a: usize, b: usize) -> usize
-    ensures { result ≡ max a b }
-{
-    if a < b {
-        return b;
-    }
-    a
 }

@@ -8,6 +8,7 @@ use lib.ListN.{length, get_or}
 use lib.Dec.{leb, eqb}
 use borrow.Author.Tests.{leb-true, le-leb, eq-eqb, ne_eqb, eqb-true}
 use native.Mathlib.Omega.{arith}
+use Rattle.std.specs.Prelude.{Some}
 use Rattle.lists.proofs.Tests.{by_test, clash}
 use Rattle.value.specs.Value.{Value, fin, inf, at_most}
 use Rattle.value.specs.Stored.{stored, infinite}
@@ -52,6 +53,10 @@ yes_zero x = (λ e. (test_zero x).0 (is_yes _ e), λ e. ap verdict_of ((test_zer
     is_yes true e = refl
     is_yes false e = let k : ◌≡◌ {A = ℕ} 0 1 = cc in absurd (omega arith)
 
+-- a verdict that is there
+some_same : {x y : Verdict} → Some x ≡ Some y → x ≡ y
+some_same e = cc
+
 -- the root row's node of a state is a node
 pub root_inside : (q : Question) → 1 ≤ length q.rows → (a : ℕ) → a < q.model.states → root_node q a < (graph_for q).nodes
 root_inside q some a l = node_lt q.model q.rows l (omega arith)
@@ -72,17 +77,17 @@ module _ (q : Question) (m : model.WellFormed q.model) (f : formula.WellFormed q
 
   -- the verdict's yes and no
   pub yes_when : (i : ℕ) → Settled (graph_for q) i → (a : ℕ) → a < q.model.states
-      → (verdict_of (at_most (rounds (graph_for q) i (root_node q a)) 0) ≡ Verdict.Yes) ↔ Satisfies q a
+      → (Some (verdict_of (at_most (rounds (graph_for q) i (root_node q a)) 0)) ≡ Some Verdict.Yes) ↔ Satisfies q a
   yes_when i settled a l =
       let r = at_root i settled a l in
       let y = yes_zero (rounds (graph_for q) i (root_node q a)) in
-      (λ e. r.0 (y.0 e), λ s. y.1 (r.1 s))
+      (λ e. r.0 (y.0 (some_same e)), λ s. ap Some (y.1 (r.1 s)))
 
   pub no_when : (i : ℕ) → Settled (graph_for q) i → (a : ℕ) → a < q.model.states
-      → (verdict_of (at_most (rounds (graph_for q) i (root_node q a)) 0) ≡ Verdict.No) ↔ (¬ Satisfies q a)
+      → (Some (verdict_of (at_most (rounds (graph_for q) i (root_node q a)) 0)) ≡ Some Verdict.No) ↔ (¬ Satisfies q a)
   no_when i settled a l =
       let t = test_when i settled a l in
-      (λ e s. absurd (both _ e (t.1 s)), λ n. by_test _ (λ e. absurd (n (t.0 e))) (λ e. ap verdict_of e))
+      (λ e s. absurd (both _ (some_same e) (t.1 s)), λ n. by_test _ (λ e. absurd (n (t.0 e))) (λ e. ap Some (ap verdict_of e)))
     where
       both : (b : Bool) → verdict_of b ≡ Verdict.No → b ≡ true → ⊥
       both true e t = let k : ◌≡◌ {A = ℕ} 0 1 = cc in omega arith

@@ -8,7 +8,7 @@ use lib.ListN.{length, get_or, drop, length-append}
 use lib.Dec.{leb}
 use borrow.Author.Tests.{leb-true, leb-false, eq-eqb, ne_eqb}
 use native.Mathlib.Omega.{arith}
-use Rattle.wire.specs.Read.{Read, good, bad, ◌>>◌}
+use Rattle.wire.specs.Read.{Read, Ok, Err, ◌>>◌}
 use Rattle.wire.proofs.Reading.{demand_good, good_same, never}
 use Rattle.value.specs.Value.{at_most}
 use Rattle.value.specs.Stored.{stored}
@@ -30,24 +30,24 @@ use Rattle.states.proofs.Deciding.{zero_test, root_inside}
 -- a question that passes SIZE and has both rooms
 pub record Roomed (q : Question) (b v : List ℕ) : Type 0 where
   pub fitting : fits (graph_for q) ≡ true
-  pub is : roomed q b v ≡ good q
+  pub is : roomed q b v ≡ Ok q
 
-and_first : {A B : Type 0} (x : Read A) (r : Read B) {c : B} → x >> r ≡ good c → ((a : A) × (x ≡ good a)) × (r ≡ good c)
+and_first : {A B : Type 0} (x : Read A) (r : Read B) {c : B} → x >> r ≡ Ok c → ((a : A) × (x ≡ Ok a)) × (r ≡ Ok c)
 unfolding ◌>>◌
-and_first (good a) r e = ((a, refl), e)
-and_first (bad f) r e = absurd (never e)
+and_first (Ok a) r e = ((a, refl), e)
+and_first (Err f) r e = absurd (never e)
 
-pub roomed_good : (q : Question) (b v : List ℕ) {q' : Question} → roomed q b v ≡ good q' → Roomed q b v × (q ≡ q')
+pub roomed_good : (q : Question) (b v : List ℕ) {q' : Question} → roomed q b v ≡ Ok q' → Roomed q b v × (q ≡ q')
 unfolding roomed sized
 roomed_good q b v e =
     let first = and_first _ _ e in
     let same = good_same (demand_good _ _ _ first.1).1 in
-    (record { fitting = (demand_good _ _ _ first.0.1).0; is = e ∙ ap good (sym same) }, same)
+    (record { fitting = (demand_good _ _ _ first.0.1).0; is = e ∙ ap Ok (sym same) }, same)
 
 -- the graph was built, and m rounds on it stand in the room of values
 pub record Ran (q : Question) (budget : ℕ) (b v : List ℕ) (m long : ℕ) : Type 0 where
   pub fitting : fits (graph_for q) ≡ true
-  pub is : roomed q b v ≡ good q
+  pub is : roomed q b v ≡ Ok q
   pub long_is : long ≡ length (write_graph (graph_for q))
   pub bytes_are : bytes_of (roomed q b v) b ≡ write_graph (graph_for q) ++ drop long b
   pub values_are : values_of (roomed q b v) budget v ≡ filled (graph_for q) m v
@@ -65,10 +65,10 @@ pub record Stopped (q : Question) (budget : ℕ) (b v : List ℕ) (m long : ℕ)
   pub later : budget < count (graph_for q)
 
 -- what each answer says
-abbrev pub Ended : Question → (budget : ℕ) → (b v : List ℕ) → AllStates → Type 0
-Ended q budget b v (AllStates.Settled m long first states) = Finished q budget b v m long first states
-Ended q budget b v (AllStates.Spent m long) = Stopped q budget b v m long
-Ended q budget b v (AllStates.Refused e) = (bytes_of (roomed q b v) b ≡ b) × (values_of (roomed q b v) budget v ≡ v)
+abbrev pub Ended : Question → (budget : ℕ) → (b v : List ℕ) → Read AllStates → Type 0
+Ended q budget b v (Ok (AllStates.Settled m long first states)) = Finished q budget b v m long first states
+Ended q budget b v (Ok (AllStates.Spent m long)) = Stopped q budget b v m long
+Ended q budget b v (Err e) = (bytes_of (roomed q b v) b ≡ b) × (values_of (roomed q b v) budget v ≡ v)
 
 module _ (q : Question) (budget : ℕ) (b v : List ℕ) where
   abbrev g : Graph
@@ -78,7 +78,7 @@ module _ (q : Question) (budget : ℕ) (b v : List ℕ) where
   n = length (write_graph g)
 
   -- by the test of the budget
-  tested : Roomed q b v → (t : Bool) → leb (count g) budget ≡ t → Ended q budget b v (cond t (AllStates.Settled (count g) n (root_node q 0) q.model.states) (AllStates.Spent budget n))
+  tested : Roomed q b v → (t : Bool) → leb (count g) budget ≡ t → Ended q budget b v (Ok (cond t (AllStates.Settled (count g) n (root_node q 0) q.model.states) (AllStates.Spent budget n)))
   unfolding bytes_of values_of
   tested r true s =
       let within = leb-true (count g) budget s in
@@ -104,32 +104,32 @@ module _ (q : Question) (budget : ℕ) (b v : List ℕ) where
   ended = go (roomed q b v) refl
     where
       go : (x : Read Question) → roomed q b v ≡ x → Ended q budget b v (all_of x budget)
-      go (good q') e = let (r, same) = roomed_good q b v e in rw (← same) (tested r (leb (count g) budget) refl)
-      go (bad f) e = (rw e, rw e)
+      go (Ok q') e = let (r, same) = roomed_good q b v e in rw (← same) (tested r (leb (count g) budget) refl)
+      go (Err f) e = (rw e, rw e)
 
   -- of an answer that settling gave
-  pub ended_as : {s : AllStates} → s ≡ all_of (roomed q b v) budget → Ended q budget b v s
+  pub ended_as : {s : Read AllStates} → s ≡ all_of (roomed q b v) budget → Ended q budget b v s
   ended_as e = subst (Ended q budget b v) (sym e) ended
 
 -- the answer on a state, from that on all states
-abbrev pub decided : Question → ℕ → AllStates → Answer
-decided q state (AllStates.Settled m n first states) = Answer.Decided (verdict_of (at_most (rounds (graph_for q) m (root_node q state)) 0)) m n
-decided q state (AllStates.Spent m n) = Answer.Spent m n
-decided q state (AllStates.Refused e) = Answer.Refused e
+abbrev pub decided : Question → ℕ → Read AllStates → Read Answer
+decided q state (Ok (AllStates.Settled m n first states)) = Ok (Answer.Decided (verdict_of (at_most (rounds (graph_for q) m (root_node q state)) 0)) m n)
+decided q state (Ok (AllStates.Spent m n)) = Ok (Answer.Spent m n)
+decided q state (Err e) = Err e
 
 pub answer_decided : (q : Question) (b v : List ℕ) (state budget : ℕ) → answer_of (roomed q b v) state budget ≡ decided q state (all_of (roomed q b v) budget)
 unfolding all_of answer_of
 answer_decided q b v state budget = go (roomed q b v) refl
   where
     tested : (t : Bool) → let g = graph_for q in let n = length (write_graph g) in
-        cond t (Answer.Decided (verdict_of (at_most (rounds g (count g) (root_node q state)) 0)) (count g) n) (Answer.Spent budget n)
-        ≡ decided q state (cond t (AllStates.Settled (count g) n (root_node q 0) q.model.states) (AllStates.Spent budget n))
+        ◌≡◌ {A = Read Answer} (Ok (cond t (Answer.Decided (verdict_of (at_most (rounds g (count g) (root_node q state)) 0)) (count g) n) (Answer.Spent budget n)))
+        (decided q state (Ok (cond t (AllStates.Settled (count g) n (root_node q 0) q.model.states) (AllStates.Spent budget n))))
     tested true = refl
     tested false = refl
 
     go : (x : Read Question) → roomed q b v ≡ x → answer_of x state budget ≡ decided q state (all_of x budget)
-    go (good q') e = let (r, same) = roomed_good q b v e in rw (← same) (tested (leb (count (graph_for q)) budget))
-    go (bad f) e = refl
+    go (Ok q') e = let (r, same) = roomed_good q b v e in rw (← same) (tested (leb (count (graph_for q)) budget))
+    go (Err f) e = refl
 
 -- a filled room holds all nodes
 pub filled_inside : (g : Graph) (m : ℕ) (b : List ℕ) → g.nodes ≤ length (filled g m b)
@@ -152,12 +152,12 @@ module _ {q : Question} {budget : ℕ} {b v : List ℕ} {m long first states : �
     pub node_holds : get_or v' (first + state) 0 ≡ stored (rounds (graph_for q) m (root_node q state))
     node_holds = rw (values, done.ran.values_are, node_is) (filled_at (graph_for q) m v (root_node q state) (root_inside q some state named))
 
-    pub read_yes : get_or v' (first + state) 0 ≡ 0 → Answer.Decided Verdict.Yes m long ≡ decided q state (AllStates.Settled m long first states)
+    pub read_yes : get_or v' (first + state) 0 ≡ 0 → Ok (Answer.Decided Verdict.Yes m long) ≡ decided q state (Ok (AllStates.Settled m long first states))
     read_yes e =
         let x = rounds (graph_for q) m (root_node q state) in
-        ap (λ (t : Bool). Answer.Decided (verdict_of t) m long) (sym (zero_test x ∙ eq-eqb (stored x) 0 (sym node_holds ∙ e)))
+        ap (λ (t : Bool). Ok (Answer.Decided (verdict_of t) m long)) (sym (zero_test x ∙ eq-eqb (stored x) 0 (sym node_holds ∙ e)))
 
-    pub read_no : ¬ (get_or v' (first + state) 0 ≡ 0) → Answer.Decided Verdict.No m long ≡ decided q state (AllStates.Settled m long first states)
+    pub read_no : ¬ (get_or v' (first + state) 0 ≡ 0) → Ok (Answer.Decided Verdict.No m long) ≡ decided q state (Ok (AllStates.Settled m long first states))
     read_no e =
         let x = rounds (graph_for q) m (root_node q state) in
-        ap (λ (t : Bool). Answer.Decided (verdict_of t) m long) (sym (zero_test x ∙ ne_eqb (stored x) 0 (λ z. e (node_holds ∙ z))))
+        ap (λ (t : Bool). Ok (Answer.Decided (verdict_of t) m long)) (sym (zero_test x ∙ ne_eqb (stored x) 0 (λ z. e (node_holds ∙ z))))

@@ -5,7 +5,7 @@ use mathlib.Core.Bool.{true}
 use mathlib.Core.Path.{◌≡◌, sym, ap, ◌∙◌}
 use lib.ListN.{length, drop}
 use lib.Seq.{take_at}
-use Rattle.wire.specs.Read.{good}
+use Rattle.wire.specs.Read.{Ok}
 use Rattle.graph.specs.Message.{read_graph}
 use Rattle.graph.specs.Write.{write_graph}
 use Rattle.graph.proofs.Exact.{written_accepted}
@@ -17,7 +17,7 @@ use Rattle.settling.proofs.Settling.{fits_well}
 use Rattle.states.specs.Promise.{Stands}
 
 module _ (q : Question) {p : ℕ} (m : model.WellFormed q.model) (f : formula.WellFormed p q.rows) (e : fits (graph_for q) ≡ true) where
-  reads_back : read_graph (write_graph (graph_for q)) ≡ good (graph_for q)
+  reads_back : read_graph (write_graph (graph_for q)) ≡ Ok (graph_for q)
   reads_back = written_accepted (graph_for q) (fits_well q m f e)
 
   -- at the front of its room

@@ -7,7 +7,7 @@ use lib.ListN.{length}
 use borrow.Author.Tests.{le-leb}
 use native.Mathlib.Omega.{arith}
 use Rattle.lists.proofs.Tests.{by}
-use Rattle.wire.specs.Read.{good}
+use Rattle.wire.specs.Read.{Ok}
 use Rattle.rules.specs.Count.{count}
 use Rattle.graph.specs.Write.{write_graph}
 use Rattle.turns.specs.Outcome.{filled}
@@ -25,13 +25,13 @@ use Rattle.states.proofs.Finished.{ended_as}
 -- a budget of n rounds is never spent: where the graph passes no limit and both rooms are large enough, the question settles
 pub always_settles : (q : Question) → models.WellFormed q.model → formulas.WellFormed q.model.propositions q.rows
     → (budget : ℕ) → let g = ruled_for q in g.nodes ≤ budget
-    → all_of (good q) budget ≡ AllStates.Settled (count g) (length (write_graph (graph_for q))) (root_node q 0) q.model.states
+    → all_of (Ok q) budget ≡ Ok (AllStates.Settled (count g) (length (write_graph (graph_for q))) (root_node q 0) q.model.states)
 unfolding all_of
 always_settles q m f budget h = rw (le-leb (count (graph_for q)) budget (omega (arith, built_count m f)))
 
 -- two budgets that settle a question give the same answer, whatever the rooms, and so the same verdicts; and the same two rounds
 pub two_budgets : (q : Question) (c d : ℕ) (b v b' v' : List ℕ) {m n first states m' n' first' states' : ℕ}
-    → AllStates.Settled m n first states ≡ all_of (roomed q b v) c → AllStates.Settled m' n' first' states' ≡ all_of (roomed q b' v') d
+    → Ok (AllStates.Settled m n first states) ≡ all_of (roomed q b v) c → Ok (AllStates.Settled m' n' first' states') ≡ all_of (roomed q b' v') d
     → (AllStates.Settled m n first states ≡ AllStates.Settled m' n' first' states')
     × (values_of (roomed q b v) c v ≡ filled (graph_for q) m v) × (values_of (roomed q b' v') d v' ≡ filled (graph_for q) m v')
 two_budgets q c d b v b' v' {m} {n} {first} {states} {m'} {n'} {first'} {states'} e e' =

@@ -1,8 +1,9 @@
 -- What the customer is promised of a verdict, in the words of the demands. A name with a stroke is a room after the call; `reported` is
 -- the count and `returned` the length that are given back.
-use Rattle.std.specs.Prelude.{ℕ, ◌+◌, ◌≤◌, ◌<◌, List, ◌++◌, ◌≡◌, ◌↔◌, length, get_or, take, drop}
+use Rattle.std.specs.Prelude.{ℕ, Option, Some, None, ◌+◌, ◌≤◌, ◌<◌, List, ◌++◌, ◌≡◌, ◌↔◌, length, get_or, take, drop}
+use Rattle.refusal.specs.Number as number
 use Rattle.refusal.specs.Number.{ok, over_budget}
-use Rattle.wire.specs.Read.{good}
+use Rattle.wire.specs.Read.{Read, Ok}
 use Rattle.graph.specs.Message.{read_graph}
 use Rattle.graph.specs.Write.{write_graph}
 use Rattle.turns.specs.Outcome.{filled}
@@ -14,8 +15,7 @@ use Rattle.syntax.specs.Write.{write_formula}
 use Rattle.syntax.specs.WellFormed as formulas
 use Rattle.runs.specs.Systems.{system_of}
 use Rattle.runs.specs.Sat.{Sat}
-use Rattle.build.specs.Built.{built_number, built_length}
-use Rattle.build.specs.declared.Built.{Built}
+use Rattle.build.specs.Built.{built_length}
 use Rattle.settling.specs.declared.Verdict.{Verdict}
 use Rattle.settling.specs.declared.Answer.{Answer}
 use Rattle.settling.specs.declared.AllStates.{AllStates}
@@ -40,7 +40,7 @@ pub record Stands (question : Question) (bytes bytes' : List ℕ) (returned : �
   -- it stands at the front, the rest untouched
   pub front : bytes' ≡ write_graph (graph_for question) ++ drop returned bytes
   -- these bytes are accepted as a graph, and are read as this one
-  pub reads : read_graph (take returned bytes') ≡ good (graph_for question)
+  pub reads : read_graph (take returned bytes') ≡ Ok (graph_for question)
 
 -- what a verdict or a spent budget leaves in the two rooms
 pub record Leaves (question : Question) (bytes values bytes' values' : List ℕ) (reported returned : ℕ) : Type 0 where
@@ -50,7 +50,7 @@ pub record Leaves (question : Question) (bytes values bytes' values' : List ℕ)
   pub two_rounds : values' ≡ filled (ruled_for question) reported values
 
 -- a verdict: yes exactly when the state satisfies the formula by its maximal runs, else no
-pub record Decides (model formula : List ℕ) (state budget : ℕ) (bytes values bytes' values' : List ℕ) (verdict : Verdict) (reported returned : ℕ) : Type 0 where
+pub record Decides (model formula : List ℕ) (state budget : ℕ) (bytes values bytes' values' : List ℕ) (verdict : Option Verdict) (reported returned : ℕ) : Type 0 where
   -- the model and the formula
   pub question : Question
   -- the messages are their writings
@@ -58,9 +58,9 @@ pub record Decides (model formula : List ℕ) (state budget : ℕ) (bytes values
   -- the state exists
   pub named : state < question.model.states
   -- yes exactly when it satisfies the formula
-  pub yes : (verdict ≡ Verdict.Yes) ↔ Satisfies question state
+  pub yes : (verdict ≡ Some Verdict.Yes) ↔ Satisfies question state
   -- no exactly when it does not
-  pub otherwise : (verdict ≡ Verdict.No) ↔ (¬ Satisfies question state)
+  pub otherwise : (verdict ≡ Some Verdict.No) ↔ (¬ Satisfies question state)
   -- the count is the first unchanged round, and the values are settled, as for rounds on the graph
   pub settled : SettledAt (ruled_for question) budget values' reported
   -- the count is at most n
@@ -69,13 +69,13 @@ pub record Decides (model formula : List ℕ) (state budget : ℕ) (bytes values
   pub leaves : Leaves question bytes values bytes' values' reported returned
 
 -- all states' answers stand in one settled room, one after another from the root row's node of state 0 on
-pub record DecidesAll (model formula : List ℕ) (budget : ℕ) (bytes values bytes' values' : List ℕ) (answer : AllStates) : Type 0 where
+pub record DecidesAll (model formula : List ℕ) (budget : ℕ) (bytes values bytes' values' : List ℕ) (answer : Read AllStates) : Type 0 where
   -- the model and the formula
   pub question : Question
   -- the messages are their writings
   pub asked : Asks model formula question
   -- the answer says where, and how many states there are
-  pub says : answer ≡ AllStates.Settled (all_count answer) (all_length answer) (root_node question 0) question.model.states
+  pub says : answer ≡ Ok (AllStates.Settled (all_count answer) (all_length answer) (root_node question 0) question.model.states)
   -- each has a number in the room
   pub inside : root_node question 0 + question.model.states ≤ length values'
   -- it is 0 exactly for a state that satisfies the formula
@@ -99,9 +99,9 @@ pub record Spends (model formula : List ℕ) (budget : ℕ) (bytes values bytes'
   pub leaves : Leaves question bytes values bytes' values' reported returned
 
 -- the budget is spent on a question about a state
-pub record SpendsOn (model formula : List ℕ) (state budget : ℕ) (bytes values bytes' values' : List ℕ) (verdict : Verdict) (reported returned : ℕ) : Type 0 where
+pub record SpendsOn (model formula : List ℕ) (state budget : ℕ) (bytes values bytes' values' : List ℕ) (verdict : Option Verdict) (reported returned : ℕ) : Type 0 where
   -- there is no verdict
-  pub none : verdict ≡ Verdict.None
+  pub none : verdict ≡ None
   -- the budget is spent, as for all states
   pub spends : Spends model formula budget bytes values bytes' values' reported returned
   -- the state exists
@@ -124,21 +124,21 @@ pub record Builds (model formula bytes bytes' : List ℕ) (returned : ℕ) : Typ
   pub graph : Stands question bytes bytes' returned
 
 -- by the number, verdict, count and length that the paper gives the answer: OK, BUDGET, or a refusal, which has verdict none
-pub record Promise (model formula : List ℕ) (state budget : ℕ) (bytes values bytes' values' : List ℕ) (answer : Answer) : Type 0 where
+pub record Promise (model formula : List ℕ) (state budget : ℕ) (bytes values bytes' values' : List ℕ) (answer : Read Answer) : Type 0 where
   pub decides : answer_number answer ≡ ok
       → Decides model formula state budget bytes values bytes' values' (answer_verdict answer) (answer_count answer) (answer_length answer)
   pub spends : answer_number answer ≡ over_budget
       → SpendsOn model formula state budget bytes values bytes' values' (answer_verdict answer) (answer_count answer) (answer_length answer)
   pub refuses : over_budget < answer_number answer
-      → (answer_verdict answer ≡ Verdict.None) × Refuses bytes values bytes' values' (answer_count answer) (answer_length answer)
+      → (answer_verdict answer ≡ None) × Refuses bytes values bytes' values' (answer_count answer) (answer_length answer)
 
 -- of all states at once
-pub record PromiseAll (model formula : List ℕ) (budget : ℕ) (bytes values bytes' values' : List ℕ) (answer : AllStates) : Type 0 where
+pub record PromiseAll (model formula : List ℕ) (budget : ℕ) (bytes values bytes' values' : List ℕ) (answer : Read AllStates) : Type 0 where
   pub decides : all_number answer ≡ ok → DecidesAll model formula budget bytes values bytes' values' answer
   pub spends : all_number answer ≡ over_budget → Spends model formula budget bytes values bytes' values' (all_count answer) (all_length answer)
   pub refuses : over_budget < all_number answer → Refuses bytes values bytes' values' (all_count answer) (all_length answer)
 
 -- of the graph alone
-pub record PromiseGraph (model formula bytes bytes' : List ℕ) (answer : Built) : Type 0 where
-  pub builds : built_number answer ≡ ok → Builds model formula bytes bytes' (built_length answer)
-  pub refuses : ok < built_number answer → (built_length answer ≡ 0) × (bytes' ≡ bytes)
+pub record PromiseGraph (model formula bytes bytes' : List ℕ) (answer : Read ℕ) : Type 0 where
+  pub builds : number.answer_number answer ≡ ok → Builds model formula bytes bytes' (built_length answer)
+  pub refuses : ok < number.answer_number answer → (built_length answer ≡ 0) × (bytes' ≡ bytes)

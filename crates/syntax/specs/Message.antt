@@ -4,11 +4,11 @@ use Rattle.std.specs.Prelude.{ℕ, ◌+◌, Bool, false, cond, List, length, leb
 use Rattle.refusal.specs.declared.Fault.{Fault}
 use Rattle.refusal.specs.declared.Refusal.TheVariants.{Length, Limit, Form}
 use Rattle.refusal.specs.Number.{nowhere}
-use Rattle.wire.specs.Read.{Read, good, ◌>>=◌, ◌>>◌, demand, field, below, misnamed}
+use Rattle.wire.specs.Read.{Read, Ok, ◌>>=◌, ◌>>◌, demand, field, below, misnamed}
 use Rattle.wire.specs.Reader.{Reader, read_all}
 use Rattle.wire.specs.Start.{read_start}
 use Rattle.wire.specs.Counts.{read_count}
-use Rattle.wire.specs.Step.{start}
+use Rattle.wire.specs.Begin.{start}
 use Rattle.wire.specs.declared.State.{State}
 use Rattle.syntax.specs.declared.Row.{Row}
 use Rattle.syntax.specs.Format.{formula_header, formula_head, rows_count, left_at, right_at, zero_at, bound_at, row_width, formula_length}
@@ -22,11 +22,11 @@ ill_formed offset = record { refusal = Form; offset = offset }
 
 -- a field that the operator doesn't use is zero, else FORM; one that it uses is read in its turn
 unfoldable pub spare : (used : Bool) → ℕ → List ℕ → (at offset : ℕ) → Read ℕ
-spare used k s at offset = cond used (good 0) (below k s at 1 (ill_formed offset))
+spare used k s at offset = cond used (Ok 0) (below k s at 1 (ill_formed offset))
 
 -- a field that the operator uses names one of so many, else NAME; one that it doesn't use is zero
 unfoldable pub operand : (used : Bool) → List ℕ → (at limit offset : ℕ) → Read ℕ
-operand used s at limit offset = cond used (below 1 s at limit (misnamed offset)) (good 0)
+operand used s at limit offset = cond used (below 1 s at limit (misnamed offset)) (Ok 0)
 
 -- the fields behind an operator: the first unused one not zero FORM; then left and right NAME; the field zero is never used
 unfoldable pub fields_from : List ℕ → (at offset p place operator : ℕ) → Read Row
@@ -38,7 +38,7 @@ fields_from s at offset p place operator = do
   left ← operand (uses_left operator) s (at + left_at) (left_limit p place operator) (offset + left_at)
   right ← operand (uses_right operator) s (at + right_at) (right_limit place operator) (offset + right_at)
   bound ← field 4 s (at + bound_at)
-  good (row_of operator left right bound)
+  Ok (row_of operator left right bound)
 
 -- a row: unknown operator FORM; then its fields
 unfoldable pub row_from : List ℕ → (at offset p place : ℕ) → Read Row
@@ -65,14 +65,14 @@ read_header s = do
   read_start s formula_head
   f ← read_count s rows_count
   demand (eqb (length s) (formula_length f)) Length nowhere
-  good f
+  Ok f
 
 -- the f rows, and after all of them the rule of use
 abbrev pub read_rows : List ℕ → (p f : ℕ) → Read (List Row)
 read_rows s p f = do
   rs ← read_all (rows s p) f (start formula_header)
   demand (used_once rs) Form nowhere
-  good rs
+  Ok rs
 
 -- a whole message: the p handed in comes before any byte; the header, and the rows
 unfoldable pub read_formula : ℕ → List ℕ → Read (List Row)

@@ -30,7 +30,7 @@ pub enum Quantifier {
     Every,
 }
 
-// Which transitions EX and AX look at: those of any action, or only those of one.
+// Which transitions EX and AX look at: those of any action, or only those of one. No Option: its None would have to be read as any.
 #[derive(Clone, Copy)]
 pub enum Action {
     Any,
@@ -63,6 +63,7 @@ pub enum Row {
 }
 
 // The row of these fields; the last operator also stands for those that don't exist.
+#[tactic(auto, unfolding(crate::specs::Rows::row_of))]
 fn row_of(operator: u32, left: u32, right: u32, bound: u32) -> Row
     ensures { result ≡ rows.row_of operator left right bound }
 {

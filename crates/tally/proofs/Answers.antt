@@ -1,4 +1,5 @@
 -- What entering answers, case by case, and what the code has to know for it. Assumes nothing.
+use Rattle.std.specs.Prelude.{Ok}
 use Prim.Native.Nat.{ℕ, ◌+◌, ◌-◌, ◌^◌, ◌<◌}
 use mathlib.Core.Bool.{true, false}
 use mathlib.Core.Path.{◌≡◌, sym, ◌∙◌}
@@ -10,7 +11,6 @@ use Rattle.refusal.specs.declared.Refusal.TheVariants.{Name, Limit}
 use Rattle.entries.specs.declared.Entry.{Entry}
 use Rattle.entries.specs.declared.Entry.TheVariants.{Yes, No, Refused}
 use Rattle.tally.specs.declared.Tally.{Tally}
-use Rattle.tally.specs.declared.Answer.TheVariants as Answer
 use Rattle.entries.specs.Entries.{is_entry, rounds_of, places, count_place}
 use Rattle.tally.specs.Tally.{most_accepted, together, counted_at, takes_more}
 use Rattle.tally.specs.Entered.{turned_away, enter_of}
@@ -58,6 +58,6 @@ module _ (t : Tally) (e : Entry) where
   unfolding enter_of
   at_end h k = rw (h, k)
 
-  pub entry_counted : is_entry e ≡ true → takes_more t (rounds_of e) ≡ true → enter_of t e ≡ record { tally = counted_at t (count_place e) (rounds_of e); answer = Answer.Accepted }
+  pub entry_counted : is_entry e ≡ true → takes_more t (rounds_of e) ≡ true → enter_of t e ≡ record { tally = counted_at t (count_place e) (rounds_of e); answer = Ok tt }
   unfolding enter_of
   entry_counted h k = rw (h, k)

@@ -1,4 +1,6 @@
 -- A tally that began at zero: after any sequence of entries it is the sheet of those that were accepted. Assumes nothing.
+use Rattle.std.specs.Prelude.{Ok, Err}
+use Rattle.refusal.specs.Number.{unplaced}
 use Prim.Native.Nat.{ℕ, zero, suc, ◌+◌, ◌*◌, ◌-◌, ◌^◌, ◌<◌, ◌≤◌}
 use mathlib.Core.List.{List, [], ◌∷◌, ◌++◌, append_assoc, append-nil}
 use mathlib.Core.Bool.{true, false, cond}
@@ -14,7 +16,6 @@ use Rattle.refusal.specs.declared.Refusal.{Refusal}
 use Rattle.refusal.specs.declared.Refusal.TheVariants.{Name, Limit}
 use Rattle.entries.specs.declared.Entry.{Entry}
 use Rattle.tally.specs.declared.Tally.{Tally}
-use Rattle.tally.specs.declared.Answer.{Answer}
 use Rattle.tally.specs.declared.Entered.{Entered}
 use Rattle.entries.specs.Entries.{is_entry, rounds_of, places}
 use Rattle.tally.specs.Tally.{most_accepted, at_zero, together, takes_more}
@@ -59,7 +60,7 @@ led_away t e h before some r same led = (
 )
 
 -- an entry that is accepted
-led_on : (t t' : Tally) (e : Entry) (h before some : List Entry) → enter_of t e ≡ record { tally = t'; answer = Answer.Accepted } → Led t' h (before ++ (e ∷ [])) some
+led_on : (t t' : Tally) (e : Entry) (h before some : List Entry) → enter_of t e ≡ record { tally = t'; answer = Ok tt } → Led t' h (before ++ (e ∷ [])) some
     → Led t (e ∷ h) before (e ∷ some)
 unfolding tally_after accepted_from
 led_on t t' e h before some same led = (
@@ -115,7 +116,7 @@ led (e ∷ h) before f room small =
     let here = entry_counted (sheet_of before) e n (takes_more_lem before f (rounds_of e) (omega (arith, rounds_small e, small.0)) below) in
     rw (rest_more before e h n below)
     (led_on (sheet_of before) (sheet_of (before ++ (e ∷ []))) e h before (rest (before ++ (e ∷ [])) h)
-    (here ∙ ap (λ (t : Tally). record { tally = t; answer = Answer.Accepted }) (sym (sheet_last before e n)))
+    (here ∙ ap (λ (t : Tally). record { tally = t; answer = Ok tt }) (sym (sheet_last before e n)))
     (led h (before ++ (e ∷ [])) (fine_last before e f n small.0) (omega (arith, length-append before (e ∷ []))) small.1)))
     (λ full.
     let none = ltb-false (length before) most_accepted full in
@@ -188,7 +189,7 @@ module _ (h : List Entry) (small : FourBytes h) where
   -- so LIMIT is given exactly after 4,294,967,295 accepted
   pub answer_is : (e : Entry) → handed_in e < 2 ^ 32
       → (enter_of (tally_after at_zero h) e).answer
-      ≡ cond (is_entry e) (cond (ltb (length (accepted_from at_zero h)) most_accepted) Answer.Accepted (Answer.Refused Limit)) (Answer.Refused Name)
+      ≡ cond (is_entry e) (cond (ltb (length (accepted_from at_zero h)) most_accepted) (Ok tt) (Err (unplaced Limit))) (Err (unplaced Name))
   answer_is e fits =
       let seen : List Entry = accepted_from at_zero h in
       by_test (is_entry e)

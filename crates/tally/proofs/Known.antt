@@ -8,7 +8,8 @@ use Rattle.entries.specs.declared.Entry.{Entry}
 use Rattle.entries.specs.declared.Entry.TheVariants.{Yes, No, Refused}
 use Rattle.tally.specs.declared.Tally.{Tally}
 use Rattle.tally.specs.Tally.{at_zero, together, counted_at, takes_more}
-use Rattle.tally.specs.Entered.{answer_number, enter_of}
+use Rattle.refusal.specs.Number.{answer_number}
+use Rattle.tally.specs.Entered.{enter_of}
 use Rattle.tally.specs.History.{tally_after, accepted_from}
 use Rattle.lines.specs.Lines.{lines}
 use Rattle.tally.specs.Report.{numbers_of}

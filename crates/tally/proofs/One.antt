@@ -1,15 +1,9 @@
 -- One answer and one content of every lent room: two calls with the same arguments that satisfy the contract of a public function agree.
 -- Here a are the arguments, r is the result, and s is what stands in each argument at the end, in the order of the parameters. Assumes nothing.
 use mathlib.Core.Path.{◌≡◌, sym, ◌∙◌}
-use Rattle.tally.proofs.Answer.number.Reads as Answer-number
 use Rattle.tally.proofs.Tally.zero.Reads as Tally-zero
 use Rattle.tally.proofs.Tally.enter.Reads as Tally-enter
 use Rattle.tally.proofs.Tally.numbers.Reads as Tally-numbers
-
--- `tally::Answer::number`
-pub one_answer_number : (κs : _) (a : _) (r r' : _) (s s' : _) → Answer-number.Post κs a r s → Answer-number.Post κs a r' s'
-    → r ≡ r'
-one_answer_number κs a r r' s s' p q = p ∙ sym q
 
 -- `tally::Tally::zero`
 pub one_zero : (κs : _) (a : _) (r r' : _) (s s' : _) → Tally-zero.Post κs a r s → Tally-zero.Post κs a r' s'

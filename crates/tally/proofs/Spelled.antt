@@ -3,21 +3,13 @@ use Prim.Native.Nat.{ℕ, zero, suc, ◌+◌, ◌<◌}
 use mathlib.Core.List.{List, [], ◌∷◌}
 use mathlib.Core.Path.{◌≡◌, refl, sym, ap, ap₂, ◌∙◌}
 use native.Mathlib.Omega.{arith}
-use lib.ListN.{length, get_or, set, drop}
-use lib.Seq.{drop-cons}
+use lib.ListN.{length, get_or, set}
 use Rattle.lists.specs.Making.{span}
 use Rattle.lists.proofs.Making.{span_agree}
-use Rattle.lines.proofs.Lines.{past_end}
 
 -- f 0, f 1, .. for n places
 abbrev pub spread : (ℕ → ℕ) → ℕ → ℕ → List ℕ
 spread f = span (λ i. f i ∷ [])
-
--- what stands at the places from i on
-pub spelled : (l : List ℕ) (i k : ℕ) → i + k ≡ length l → spread (λ j. get_or l j 0) i k ≡ drop i l
-unfolding span
-spelled l i zero h = sym (past_end l i (omega arith))
-spelled l i (suc k) h = ap (λ (r : List ℕ). get_or l i 0 ∷ r) (spelled l (suc i) k (omega arith)) ∙ sym (drop-cons l i 0 (omega arith))
 
 -- ---- one more at a place
 

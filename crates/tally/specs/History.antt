@@ -1,10 +1,10 @@
 -- A history of entries: what a tally is after it, which of them were accepted, and the sheet of those.
-use Rattle.std.specs.Prelude.{ℕ, ◌+◌, ◌^◌, ◌<◌, max, List, [], ◌∷◌, Bool, true, false, cond, eqb, length, take}
+use Rattle.std.specs.Prelude.{ℕ, ◌+◌, ◌^◌, ◌<◌, max, List, [], ◌∷◌, Bool, cond, eqb, is_ok, length, take, Result}
 use Rattle.lists.specs.Making.{keep, span}
+use Rattle.refusal.specs.declared.Fault.{Fault}
 use Rattle.entries.specs.declared.Entry.{Entry}
 use Rattle.entries.specs.declared.Entry.TheVariants.{Yes, No, Refused}
 use Rattle.tally.specs.declared.Tally.{Tally}
-use Rattle.tally.specs.declared.Answer.{Answer}
 use Rattle.entries.specs.Entries.{is_entry, rounds_of, places, count_place}
 use Rattle.tally.specs.Tally.{most_accepted}
 use Rattle.tally.specs.Entered.{enter_of}
@@ -15,9 +15,8 @@ tally_after t [] = t
 tally_after t (e ∷ h) = tally_after (enter_of t e).tally h
 
 -- the entries that were accepted on the way
-abbrev pub is_accepted : Answer → Bool
-is_accepted Answer.Accepted = true
-is_accepted (Answer.Refused e) = false
+abbrev pub is_accepted : Result Unit Fault → Bool
+is_accepted = is_ok
 
 unfoldable pub accepted_from : Tally → List Entry → List Entry
 accepted_from t [] = []

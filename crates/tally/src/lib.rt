@@ -3,12 +3,12 @@
 
 ghost use Rattle.std.specs.Prelude.{◌≡◌, ◌+◌, ◌<◌, ◌^◌, get_or, ltb};
 ghost use Rattle.tally.specs.Tally.{most_accepted, together, at_zero, takes_more, counted_at};
-ghost use Rattle.tally.specs.Entered.{answer_number, enter_of};
+ghost use Rattle.tally.specs.Entered.{enter_of};
 ghost use Rattle.tally.specs.Report.{numbers_of};
 
 pub use entries::Entry;
-pub use lines::{Reported, report};
-use refusal::Refusal;
+pub use lines::report;
+use refusal::Fault;
 
 // How many entries were yes, no, and each refusal number from 1 to 11; the sum of their rounds, and the largest.
 #[repr(C)]
@@ -19,30 +19,11 @@ pub struct Tally {
     pub largest: u64,
 }
 
-// Whether an entry was taken.
-#[derive(Clone, Copy)]
-pub enum Answer {
-    Accepted,
-    Refused(Refusal),
-}
-
-// The tally after an entry, and the answer.
+// The tally after an entry, and whether the entry was taken.
 #[derive(Clone, Copy)]
 pub struct Entered {
     pub tally: Tally,
-    pub answer: Answer,
-}
-
-impl Answer {
-    // The number that the paper gives the answer.
-    pub fn number(self) -> u8
-        ensures { result ≡ answer_number self }
-    {
-        match self {
-            Answer::Accepted => 0,
-            Answer::Refused(e) => e.number(),
-        }
-    }
+    pub answer: Result<(), Fault>,
 }
 
 // Whether fewer than 4,294,967,295 are counted. What is left is counted down, so that no content of the counts can pass 64 bits.
@@ -50,14 +31,11 @@ fn below_most(counts: [u64; 13]) -> bool
     ensures { result ≡ ltb (together counts) most_accepted }
 {
     let mut left: u64 = 4294967295;
-    let mut i = 0;
-    while i < 13 {
-        let count = counts[i];
+    for count in counts {
         if left <= count {
             return false;
         }
         left -= count;
-        i += 1;
     }
     true
 }
@@ -78,11 +56,7 @@ impl Tally {
     fn takes_more(self, rounds: u64) -> bool
         ensures { result ≡ takes_more self rounds }
     {
-        let counts = self.counts;
-        if !below_most(counts) {
-            return false;
-        }
-        rounds <= u64::MAX - self.sum
+        below_most(self.counts) && rounds <= u64::MAX - self.sum
     }
 
     // One more at a place, with these rounds.
@@ -90,12 +64,9 @@ impl Tally {
         requires { (at < 13) × (get_or self.counts at 0 + 1 < 2 ^ 64) × (self.sum + rounds < 2 ^ 64) }
         ensures { result ≡ counted_at self at rounds }
     {
-        let many = self.counts[at];
-        self.counts[at] = many + 1;
-        self.sum = self.sum + rounds;
-        if self.largest < rounds {
-            self.largest = rounds;
-        }
+        self.counts[at] += 1;
+        self.sum += rounds;
+        self.largest = self.largest.max(rounds);
         self
     }
 
@@ -106,20 +77,20 @@ impl Tally {
         if !entry.is_entry() {
             return Entered {
                 tally: self,
-                answer: Answer::Refused(Refusal::Name),
+                answer: Err(refusal::NAME),
             };
         }
         let rounds = entry.rounds();
         if !self.takes_more(rounds) {
             return Entered {
                 tally: self,
-                answer: Answer::Refused(Refusal::Limit),
+                answer: Err(refusal::LIMIT),
             };
         }
         let tally = self.counted(entry.place(), rounds);
         Entered {
             tally,
-            answer: Answer::Accepted,
+            answer: Ok(()),
         }
     }
 
@@ -127,23 +98,10 @@ impl Tally {
     pub fn numbers(self) -> [u64; 15]
         ensures { result ≡ numbers_of self }
     {
-        let c = self.counts;
-        [
-            c[0],
-            c[1],
-            c[2],
-            c[3],
-            c[4],
-            c[5],
-            c[6],
-            c[7],
-            c[8],
-            c[9],
-            c[10],
-            c[11],
-            c[12],
-            self.sum,
-            self.largest,
-        ]
+        let mut numbers = [0; 15];
+        numbers[..13].copy_from_slice(&self.counts);
+        numbers[13] = self.sum;
+        numbers[14] = self.largest;
+        numbers
     }
 }

@@ -1,5 +1,5 @@
 -- How far what targets give stays below infinity: of one target, and of targets in two parts, as a loop takes them. Assumes nothing.
-use Prim.Native.Nat.{ℕ, zero, suc, ◌+◌, ◌-◌, ◌*◌, ◌≤◌, min, max}
+use Prim.Native.Nat.{ℕ, zero, suc, ◌+◌, ◌-◌, ◌*◌, ◌/◌, ◌≤◌, min, max}
 use mathlib.Core.List.{List, [], ◌∷◌, ◌++◌}
 use mathlib.Core.Path.{◌≡◌, refl, sym, ap, subst, ◌∙◌}
 use native.Mathlib.Omega.{arith}
@@ -78,6 +78,11 @@ module _ (s : List ℕ) (n : ℕ) where
     pub below_turn : (x : Assignment) (least next whole : ℕ) → let L = target_layout s n in min least (below x (items L k at)) ≡ whole
         → next ≡ min least (below x (items L j at)) → min next (below x (items L rest p)) ≡ whole
     below_turn x least next whole e here = omega (arith, e, here, below_parts x)
+
+  -- the fours, and the targets left over
+  pub below_fours : (k at : ℕ) (x : Assignment) → let L = target_layout s n in
+      below x (items L k at) ≡ min (below x (items L (k / 4 * 4) at)) (below x (items L (k - k / 4 * 4) (at + k / 4 * (4 * target_width))))
+  below_fours k at x = below_parts (k / 4 * 4) k at (k - k / 4 * 4) (at + k / 4 * (4 * target_width)) (omega arith) (omega arith) x
 
   module _ (x : Assignment) where
     pub below_none : (k at : ℕ) → k ≡ 0 → below x (items (target_layout s n) k at) ≡ infinite

@@ -38,16 +38,14 @@ pub fn worst(s: &[u8], n: usize, x: &[u64], k: u32, at: usize) -> Value
         return Value(0);
     }
     let mut most = target_sum(s, n, x, at);
-    let mut i = k - 1;
     let mut p = at + graph::TARGET;
-    while 0 < i {
+    for _ in 1..k {
         if most.0 == Value::INFINITE.0 {
             return most;
         }
         let sum = target_sum(s, n, x, p);
         most = most.greatest(sum);
         p += graph::TARGET;
-        i -= 1;
     }
     most
 }
@@ -66,16 +64,6 @@ fn below_infinite(s: &[u8], n: usize, x: &[u64], at: usize) -> u64
         return 0;
     }
     below - weight
-}
-
-// The lesser of two numbers.
-fn lesser(a: u64, b: u64) -> u64
-    ensures { result ≡ min a b }
-{
-    if b < a {
-        return b;
-    }
-    a
 }
 
 // How far the greatest of four targets stays below infinity: the least of the four. Each is tested for 0, so that the compiler leaves off
@@ -104,17 +92,18 @@ fn below_four(s: &[u8], n: usize, x: &[u64], at: usize) -> u64
     if d == 0 {
         return 0;
     }
-    let front = lesser(a, b);
-    let back = lesser(c, d);
-    lesser(front, back)
+    let front = a.min(b);
+    let back = c.min(d);
+    front.min(back)
 }
 
 // How wide four targets are.
 const FOUR: usize = 4 * graph::TARGET;
 
 // The same of all targets from a position to an end, where they are so many fours. Once it is 0 the others are not read.
+// (A `for` over `step_by` ends also where the next position would not fit, and of that a proof learns nothing.)
 fn least_of_fours(s: &[u8], n: usize, x: &[u64], at: usize, end: usize) -> u64
-    requires by_index { (k : ℕ) × (at + k * (4 * target_width) ≡ end) × Sound (target_layout s.now n) (k * 4) at }
+    requires whole_number { (k : ℕ) × (at + k * (4 * target_width) ≡ end) × Sound (target_layout s.now n) (k * 4) at }
     requires n_in_bounds { n ≤ length x.now }
     ensures { (k : ℕ) → at + k * (4 * target_width) ≡ end → result ≡ below (held x.now) (items (target_layout s.now n) (k * 4) at) }
 {
@@ -126,14 +115,15 @@ fn least_of_fours(s: &[u8], n: usize, x: &[u64], at: usize, end: usize) -> u64
             return 0;
         }
         p += FOUR;
-        least = lesser(least, four);
+        least = least.min(four);
     }
     least
 }
 
-// The same of all targets from a position to an end, or a number given where that is less.
+// The same of all targets from a position to an end, or a number given where that is less. In one function with the last, what a turn
+// reads and how far it goes would be parameters, and no line fewer.
 fn least_with(s: &[u8], n: usize, x: &[u64], at: usize, end: usize, before: u64) -> u64
-    requires by_index { (k : ℕ) × (at + k * target_width ≡ end) × Sound (target_layout s.now n) k at }
+    requires whole_number { (k : ℕ) × (at + k * target_width ≡ end) × Sound (target_layout s.now n) k at }
     requires n_in_bounds { n ≤ length x.now }
     ensures { (k : ℕ) → at + k * target_width ≡ end → result ≡ min before (below (held x.now) (items (target_layout s.now n) k at)) }
 {
@@ -145,7 +135,7 @@ fn least_with(s: &[u8], n: usize, x: &[u64], at: usize, end: usize, before: u64)
             return 0;
         }
         p += graph::TARGET;
-        least = lesser(least, one);
+        least = least.min(one);
     }
     least
 }

@@ -1,20 +1,20 @@
 -- What an accepted message gives the writing of its text: the root by position, and a text that is short. Assumes nothing.
 use Prim.Native.Nat.{ℕ, ◌-◌, ◌≤◌}
 use mathlib.Core.List.{List}
-use mathlib.Core.Path.{◌≡◌, refl, sym, ap, subst, ◌∙◌}
+use mathlib.Core.Path.{◌≡◌, sym, ap, subst, ◌∙◌}
 use native.Mathlib.Omega.{arith}
 use lib.ListN.{length}
 use Rattle.wire.specs.Bytes.{Bytes}
-use Rattle.wire.specs.Read.{Read, good, bad}
+use Rattle.wire.specs.Read.{Read, Ok}
 use Rattle.wire.specs.Layout.{items}
 use Rattle.syntax.specs.Format.{formula_header}
 use Rattle.syntax.specs.declared.Row.{Row}
-use Rattle.formula.specs.declared.Checked.TheVariants as Checked
 use Rattle.formula.specs.Answers.{checked}
 use Rattle.syntax.specs.Formula.{root_of, formula_of}
 use Rattle.syntax.specs.Layouts.{row_layout}
 use Rattle.syntax.specs.Message.{read_formula}
 use Rattle.syntax.specs.WellFormed.{RowAt, WellFormed}
+use Rattle.formula.proofs.Answered.{checked_formula}
 use Rattle.formula.proofs.Good.{formula_good, header_good}
 use Rattle.formula.proofs.Accepted.{accepted_holds}
 use Rattle.formula.proofs.Exact.{accepted_written}
@@ -25,13 +25,13 @@ use Rattle.wording.proofs.Length.{accepted_text_short}
 -- the root of an accepted message, by position
 pub record Root (x : Read (List Row)) (s : List ℕ) (f : ℕ) : Type 0 where
   pub rows : List Row
-  pub reads : x ≡ good rows
+  pub reads : x ≡ Ok rows
   pub some_row : 1 ≤ f
   pub ready : Ready s (f - 1)
   pub text_is : row_text s (f - 1) ≡ text (root_of rows)
   pub short : length (row_text s (f - 1)) ≤ 2048
 
-module _ (p : ℕ) (s : List ℕ) (b : Bytes s) (rows : List Row) (e : read_formula p s ≡ good rows) where
+module _ (p : ℕ) (s : List ℕ) (b : Bytes s) (rows : List Row) (e : read_formula p s ≡ Ok rows) where
   well : WellFormed p rows
   well = (accepted_written p s rows b e).1
 
@@ -63,10 +63,7 @@ module _ (p : ℕ) (s : List ℕ) (b : Bytes s) (rows : List Row) (e : read_form
         short = rw last_text (accepted_text_short well);
       }
 
-pub checked_root : (p : ℕ) (s : List ℕ) → Bytes s → {f : ℕ} → checked (read_formula p s) ≡ Checked.Formula f → Root (read_formula p s) s f
-unfolding checked
-checked_root p s b {f} e = go (read_formula p s) refl e
-  where
-    go : (x : Read (List Row)) → read_formula p s ≡ x → checked x ≡ Checked.Formula f → Root (read_formula p s) s f
-    go (good rows) reads same = let count : length rows ≡ f = cc in subst (Root (read_formula p s) s) count (last_root p s b rows reads)
-    go (bad r) reads same = let z : ◌≡◌ {A = ℕ} 0 1 = cc in absurd (omega arith)
+pub checked_root : (p : ℕ) (s : List ℕ) → Bytes s → {f : ℕ} → Ok f ≡ checked (read_formula p s) → Root (read_formula p s) s f
+checked_root p s b e =
+    let accepted = checked_formula (read_formula p s) (sym e) in
+    subst (Root (read_formula p s) s) accepted.long (last_root p s b accepted.rows accepted.read)

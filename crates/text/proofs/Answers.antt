@@ -8,32 +8,33 @@ use native.Mathlib.Omega.{arith}
 use Rattle.refusal.specs.Number.{unplaced}
 use Rattle.refusal.specs.declared.Fault.{Fault}
 use Rattle.refusal.specs.declared.Refusal.TheVariants.{Room}
-use Rattle.wire.specs.Read.{Read, good, bad}
+use Rattle.wire.specs.Read.{Read, Ok, Err}
 use Rattle.syntax.specs.declared.Row.{Row}
 use Rattle.syntax.specs.Formula.{root_of}
 use Rattle.wording.specs.Text.{text}
 use Rattle.wire.specs.Laid.{laid, Laid}
 use Rattle.text.specs.Written.{written_of, text_room}
-use Rattle.text.specs.declared.Written.{Written}
-use Rattle.text.specs.declared.Written.TheVariants.{Text, Refused}
 
 -- the answer r, and the room b' that b became
-abbrev pub Answered : Read (List Row) → List ℕ → Written → List ℕ → Type 0
-Answered x b r b' = (r ≡ written_of x b) × (b' ≡ text_room x b)
+abbrev pub Answered : Read (List Row) → List ℕ → Read ℕ → List ℕ → Type 0
+Answered x b r b' = record { answer : r ≡ written_of x b; room : b' ≡ text_room x b }
 
-pub refused : (x : Read (List Row)) (b : List ℕ) {e : Fault} → x ≡ bad e → Answered x b (Refused e) b
+pub refused : (x : Read (List Row)) (b : List ℕ) {e : Fault} {r : Read ℕ} → x ≡ Err e → r ≡ Err e → Answered x b r b
 unfolding written_of text_room
-refused x b h = rw h (refl, refl)
+refused x b h is = rw h (record { answer = is; room = refl })
 
-module _ (x : Read (List Row)) (b : List ℕ) (rows : List Row) (h : x ≡ good rows) where
-  pub no_room : length b < length (text (root_of rows)) → Answered x b (Refused (unplaced Room)) b
+module _ (x : Read (List Row)) (b : List ℕ) (rows : List Row) (h : x ≡ Ok rows) where
+  pub no_room : length b < length (text (root_of rows)) → Answered x b (Err (unplaced Room)) b
   unfolding written_of text_room
-  no_room k = rw (h, lt-ltb (length b) (length (text (root_of rows))) k) (refl, refl)
+  no_room k = rw (h, lt-ltb (length b) (length (text (root_of rows))) k) (record { answer = refl; room = refl })
 
-  pub written : {b' : List ℕ} {n : ℕ} → Laid b 0 (text (root_of rows)) b' n → Answered x b (Text n) b'
+  pub written : {b' : List ℕ} {n : ℕ} → Laid b 0 (text (root_of rows)) b' n → Answered x b (Ok n) b'
   unfolding written_of text_room laid
   written {b'} {n} l =
       let t : List ℕ = text (root_of rows) in
       let end : n ≡ length t = omega (arith, l.next_is) in
       let from : 0 + length t ≡ length t = omega arith in
-      rw (h, le-ltb (length b) (length t) (omega (arith, l.inside))) (ap Text end, l.room_is ∙ ap (λ (k : ℕ). t ++ drop k b) from)
+      rw (h, end, le-ltb (length b) (length t) (omega (arith, l.inside))) (record {
+        answer = refl;
+        room = l.room_is ∙ ap (λ (k : ℕ). t ++ drop k b) from;
+      })

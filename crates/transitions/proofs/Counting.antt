@@ -1,6 +1,7 @@
 -- A loop that counts the records that pass a test; the test whether EX or AX looks at a transition. Assumes nothing.
-use Rattle.std.proofs.Common.{◌≡◌, ℕ, zero, suc, ◌+◌, ◌-◌, ◌*◌, ◌<◌, ◌≤◌, Bool, true, false, ◌&&◌, eqb, leb, List, [], ◌∷◌, length, sym, refl, ap, ◌∙◌, subst, arith, eq-eqb, ne_eqb, le-leb}
+use Rattle.std.proofs.Common.{◌≡◌, ℕ, zero, suc, ◌+◌, ◌-◌, ◌*◌, ◌^◌, ◌<◌, ◌≤◌, Bool, true, false, ◌&&◌, eqb, leb, List, [], ◌∷◌, length, sym, refl, ap, ◌∙◌, subst, arith, eq-eqb, ne_eqb, le-leb}
 use mathlib.Core.List.Memᴰ
+use mir.Val.{bool_byte}
 use native.Mathlib.Decide.{dec_lt}
 use borrow.Author.Tests.{lt-leb}
 use Rattle.lists.specs.Lists.{◌∈◌}
@@ -11,18 +12,15 @@ use Rattle.value.specs.declared.Bound.{Bound}
 use Rattle.value.specs.declared.Bound.TheVariants.{Within, Unbounded}
 use Rattle.value.specs.Value.{inside}
 use Rattle.value.specs.Coded.{no_bound, code_of}
-use Rattle.wire.specs.Bytes.{number, Bytes}
 use Rattle.wire.specs.Layout.{Layout, items}
-use Rattle.wire.proofs.Bytes.{number_below}
 use Rattle.wire.proofs.Layouts.{items_more, items_length}
 use Rattle.wire.proofs.Parts.{items-∈}
 use Rattle.wire.proofs.Stride.{end_wide}
-use Rattle.model.specs.Format.{weight_at, action_at, transition_width}
+use Rattle.model.specs.Model.{Transition}
 use Rattle.syntax.specs.declared.Action.{Action}
 use Rattle.syntax.specs.declared.Action.TheVariants.{Any, Only}
 use Rattle.syntax.specs.Rows.{allows}
 use Rattle.reduction.specs.Built.{looks_at}
-use Rattle.transitions.specs.Held.{transition_layout}
 use Rattle.transitions.specs.Looked.{lowest, highest, is_near}
 
 -- a list in which something stands is not empty
@@ -44,11 +42,15 @@ module _ {A : Type 0} (L : Layout A) (p : A → Bool) where
 
   -- a turn: those counted, and those to come, make the whole
   module _ (k at : ℕ) (some : 0 < k) where
-    pub passing_here : p (L.item at) ≡ true → passing k at ≡ 1 + passing (k - 1) (L.next at)
+    passing_here : p (L.item at) ≡ true → passing k at ≡ 1 + passing (k - 1) (L.next at)
     passing_here e = ap (λ l. length (keep p l)) (items_more L k at some) ∙ ap length (keep_pass p (L.item at) (items L (k - 1) (L.next at)) e) ∙ omega arith
 
-    pub passing_there : p (L.item at) ≡ false → passing k at ≡ passing (k - 1) (L.next at)
+    passing_there : p (L.item at) ≡ false → passing k at ≡ passing (k - 1) (L.next at)
     passing_there e = ap (λ l. length (keep p l)) (items_more L k at some) ∙ ap length (keep_fail p (L.item at) (items L (k - 1) (L.next at)) e)
+
+    pub passing_turn : (b : Bool) → b ≡ p (L.item at) → passing k at ≡ bool_byte b + passing (k - 1) (L.next at)
+    passing_turn true e = passing_here (sym e)
+    passing_turn false e = passing_there (sym e) ∙ omega arith
 
   -- up to the last that passes: one that doesn't adds nothing at the end, and one that does is counted
   module _ (w : ℕ) (wide : (at : ℕ) → L.next at ≡ at + w) where
@@ -80,18 +82,17 @@ within : (b : Bound) (w : ℕ) → w ≤ no_bound → inside b w ≡ leb w (code
 within (Within k) w small = refl
 within Unbounded w small = sym (le-leb w no_bound small)
 
--- so transitions that are read are looked at by these numbers
-pub coded_keep : (m : List ℕ) → Bytes m → (A : Action) (b : Bound) (k at : ℕ)
-    → keep (looks_at A b) (items (transition_layout m) k at) ≡ keep (is_near (lowest A) (highest A) (code_of b)) (items (transition_layout m) k at)
-unfolding items keep
-coded_keep m bytes A b zero at = refl
-coded_keep m bytes A b (suc k) at =
-    let w = number 4 m (at + weight_at) in
-    let a = number 2 m (at + action_at) in
-    let same : (allows A a && inside b w) ≡ (leb (lowest A) a && (leb a (highest A) && leb w (code_of b))) =
-    ap (λ (x : Bool). allows A a && x) (within b w (omega (arith, number_below 4 m (at + weight_at) bytes)))
-    ∙ allowed A a (leb w (code_of b)) (omega (arith, number_below 2 m (at + action_at) bytes)) in
-    rw (same, coded_keep m bytes A b k (at + transition_width)) refl
+-- so transitions whose fields fit are looked at by these numbers
+pub coded_keep : (A : Action) (b : Bound) (us : List Transition) → ((u : Transition) → u ∈ us → u.weight < 2 ^ 32) → ((u : Transition) → u ∈ us → u.action < 2 ^ 16)
+    → keep (looks_at A b) us ≡ keep (is_near (lowest A) (highest A) (code_of b)) us
+unfolding keep
+coded_keep A b [] weights actions = refl
+coded_keep A b (u ∷ us) weights actions =
+    let w : u.weight < 2 ^ 32 = weights u (Memᴰ.head refl) in
+    let a : u.action < 2 ^ 16 = actions u (Memᴰ.head refl) in
+    let same : (allows A u.action && inside b u.weight) ≡ (leb (lowest A) u.action && (leb u.action (highest A) && leb u.weight (code_of b))) =
+    ap (λ (x : Bool). allows A u.action && x) (within b u.weight (omega arith)) ∙ allowed A u.action (leb u.weight (code_of b)) (omega arith) in
+    rw (same, coded_keep A b us (λ v i. weights v (Memᴰ.tail i)) (λ v i. actions v (Memᴰ.tail i))) refl
 
 -- all are looked at where no action and no bound is given
 pub unbounded_all : {A : Type 0} (l : List A) → length (keep (λ a. true) l) ≡ length l

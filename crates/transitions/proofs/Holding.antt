@@ -1,14 +1,14 @@
 -- What accepted model and formula messages hold, by position. Assumes nothing.
 use Rattle.std.proofs.Common.{◌≡◌, ℕ, ◌+◌, List, length, sym, refl, ap, ◌∙◌, subst, arith}
 use Rattle.wire.specs.Bytes.{number, Bytes}
-use Rattle.wire.specs.Read.{good}
+use Rattle.wire.specs.Read.{Ok}
 use Rattle.wire.specs.Layout.{items}
 use Rattle.wire.specs.declared.State.{State}
 use Rattle.wire.proofs.Fields.{value_inside, value_is}
 use Rattle.wire.proofs.Layouts.{Reads, reads_all}
 use Rattle.model.specs.Format.{model_header, weight_at, action_at, to_at, label_at, transition_at}
 use Rattle.model.specs.Model.{Model, Transition}
-use Rattle.wire.specs.Step.{start}
+use Rattle.wire.specs.Begin.{start}
 use Rattle.model.specs.Message.{read_label, read_transition, read_model, labels, transitions}
 use Rattle.model.specs.WellFormed as model
 use Rattle.model.proofs.Good.{label_good, transition_good, header_good, model_good}
@@ -22,12 +22,12 @@ use Rattle.formula.proofs.Exact as formula-exact
 use Rattle.transitions.specs.Held.{transition_layout, label_layout, held_model, held_rows, HoldsModel, HoldsRows}
 
 module _ (m : List ℕ) where
-  labels_read : (p : ℕ) (st : State) (l : ℕ) → read_label m p st ≡ good l → Reads (label_layout m) (labels m p) st l
+  labels_read : (p : ℕ) (st : State) (l : ℕ) → read_label m p st ≡ Ok l → Reads (label_layout m) (labels m p) st l
   labels_read p st l e =
       let g = label_good m p st l e in
       record { item_is = sym (value_is 4 m _ g.label_there); next_is = refl; ok = value_inside 4 m _ g.label_there }
 
-  transitions_read : (n : ℕ) (st : State) (u : Transition) → read_transition m n st ≡ good u → Reads (transition_layout m) (transitions m n) st u
+  transitions_read : (n : ℕ) (st : State) (u : Transition) → read_transition m n st ≡ Ok u → Reads (transition_layout m) (transitions m n) st u
   transitions_read n st u e =
       let g = transition_good m n st u e in
       let from : number 2 m st.at ≡ u.from = value_is 2 m _ g.from_there in
@@ -45,7 +45,7 @@ pub record ModelHeld (m : List ℕ) (M : Model) (n p t : ℕ) : Type 0 where
   pub is : M ≡ held_model m n p t
   pub stands : HoldsModel m n p t
 
-pub model_held : (m : List ℕ) (M : Model) → Bytes m → read_model m ≡ good M → ModelHeld m M M.states M.propositions (length M.transitions)
+pub model_held : (m : List ℕ) (M : Model) → Bytes m → read_model m ≡ Ok M → ModelHeld m M M.states M.propositions (length M.transitions)
 unfolding held_model
 model_held m M bytes e =
     let p = model_good {s = m} {M = M} e in
@@ -75,7 +75,7 @@ pub record RowsHeld (f : List ℕ) (rows : List Row) (k p : ℕ) : Type 0 where
   pub is : rows ≡ held_rows f k
   pub stands : HoldsRows f k p
 
-pub rows_held : (p : ℕ) (f : List ℕ) (rows : List Row) → Bytes f → read_formula p f ≡ good rows → RowsHeld f rows (length rows) p
+pub rows_held : (p : ℕ) (f : List ℕ) (rows : List Row) → Bytes f → read_formula p f ≡ Ok rows → RowsHeld f rows (length rows) p
 unfolding held_rows
 rows_held p f rows bytes e =
     let g = formula_good p f rows e in

@@ -6,6 +6,13 @@ use Rattle.wire.specs.Bytes.{number, Bytes}
 use Rattle.wire.proofs.Bytes.{number_below, number_split}
 use Rattle.model.specs.Format.{action_at, to_at}
 
+-- the successor is what the action leaves, where it fits 2 bytes
+pub successor_of : (m : List ℕ) (at both : ℕ) → both ≡ number 4 m (at + action_at) → number 2 m (at + to_at) < 65536 → both % 65536 ≡ number 2 m (at + to_at)
+successor_of m at both is low =
+    let behind : at + action_at + 2 ≡ at + to_at = omega arith in
+    let last : number 2 m (at + action_at + 2) ≡ number 2 m (at + to_at) = ap (number 2 m) behind in
+    omega (arith, is, last, number_split 2 2 m (at + action_at))
+
 module _ (m : List ℕ) (bytes : Bytes m) (at both : ℕ) (is : both ≡ number 4 m (at + action_at)) where
   abbrev action : ℕ
   action = number 2 m (at + action_at)
@@ -21,10 +28,6 @@ module _ (m : List ℕ) (bytes : Bytes m) (at both : ℕ) (is : both ≡ number 
 
   low_side : to < 65536
   low_side = omega (arith, number_below 2 m (at + to_at) bytes)
-
-  -- the successor is what the action leaves
-  pub successor_of : both % 65536 ≡ to
-  successor_of = omega (arith, sides, low_side)
 
   -- every action is in a range that begins at 0 and ends at the greatest or above it
   pub any_action : (low high : ℕ) (x : Bool) → low ≡ 0 → 65535 ≤ high → (leb low action && (leb action high && x)) ≡ x

@@ -1,5 +1,5 @@
 -- What accepted messages hold, by position, for a builder that checks nothing again.
-use Rattle.std.specs.Prelude.{◌≡◌, ℕ, suc, ◌+◌, ◌-◌, ◌<◌, ◌≤◌, cond, List, [], ◌∷◌, map, length, ◌==◌, nat_eq, slice_index}
+use Rattle.std.specs.Prelude.{◌≡◌, ℕ, suc, ◌+◌, ◌-◌, ◌^◌, ◌<◌, ◌≤◌, cond, List, [], ◌∷◌, map, length, ◌==◌, nat_eq, slice_index}
 use Rattle.lists.specs.Lists.{◌∈◌}
 use Rattle.lists.specs.Making.{keep}
 use Rattle.lists.specs.Order.{RisingFrom}
@@ -65,11 +65,15 @@ pub record Own (m : List ℕ) (n t a first many : ℕ) : Type 0 where
   pub inside : first + many ≤ t
   pub are : keep (λ u. nat_eq u.from a) (transitions_from m n 0 t) ≡ transitions_from m n first many
 
--- these transitions can be read, and lead to states; a node that far behind a state is below 4,096
-pub record Reads (m : List ℕ) (n first many shift : ℕ) : Type 0 where
+-- these transitions can be read: a weight is any 4-byte number, and an action any 2-byte number, as those of any bytes are
+pub record Reads (m : List ℕ) (n first many : ℕ) : Type 0 where
   pub long : transition_at n (first + many) ≤ length m
-  pub named : {u : Transition} → u ∈ transitions_from m n first many → u.to < n
-  pub shift_fits : shift + n ≤ 4096
+  pub weights_fit : {u : Transition} → u ∈ transitions_from m n first many → u.weight < 2 ^ 32
+  pub actions_fit : {u : Transition} → u ∈ transitions_from m n first many → u.action < 2 ^ 16
+
+-- transitions lead to some of n states
+abbrev pub LeadTo : ℕ → List Transition → Type 0
+LeadTo n us = (u : Transition) → u ∈ us → u.to < n
 
 -- no `from` is below a, nor below the one before it
 abbrev pub RiseFrom : ℕ → List Transition → Type 0

@@ -1,7 +1,7 @@
 -- Sums over lists put together, and over a number's bytes. Assumes nothing.
-use Rattle.std.proofs.Common.{◌≡◌, ℕ, zero, suc, ◌+◌, ◌-◌, ◌/◌, ◌%◌, ◌<◌, ◌≤◌, List, [], ◌∷◌, ◌++◌, length, get_or, drop, refl, add-one, sub-one, arith, drop-cons, le-ltb, lt-ltb}
+use Rattle.std.proofs.Common.{◌≡◌, ℕ, zero, suc, ◌+◌, ◌-◌, ◌/◌, ◌%◌, ◌<◌, ◌≤◌, List, [], ◌∷◌, ◌++◌, length, get_or, drop, sym, ap, ◌∙◌, refl, add-one, sub-one, arith, drop-cons, le-ltb, lt-ltb}
 use Rattle.wire.specs.Bytes.{bytes}
-use Rattle.trials.specs.Sums.{after, after_all, wide, claimed_values}
+use Rattle.trials.specs.Sums.{after, after_all, spread, claimed_values}
 
 pub after_both : (sum : ℕ) (a b : List ℕ) → after_all sum (a ++ b) ≡ after_all (after_all sum a) b
 unfolding after_all
@@ -19,9 +19,10 @@ pub after_next : (sum : ℕ) (s : List ℕ) (i : ℕ) → i < length s → after
 unfolding after_all
 after_next sum s i h = rw (add-one, drop-cons s i 0)
 
-pub after_next_number : (sum k : ℕ) (s : List ℕ) (i : ℕ) → i < length s → after_all sum (wide k (drop i s)) ≡ after_all (after_all sum (bytes k (get_or s i 0))) (wide k (drop (i + 1) s))
-unfolding wide
-after_next_number sum k s i h = rw (add-one, drop-cons s i 0) (after_both sum (bytes k (get_or s i 0)) (wide k (drop (suc i) s)))
+pub after_next_item : {A : Type 0} (f : A → List ℕ) (sum : ℕ) (s : List A) (i : ℕ) (a : A) → i < length s → a ≡ get_or s i a
+    → after_all sum (spread f (drop i s)) ≡ after_all (after_all sum (f a)) (spread f (drop (i + 1) s))
+unfolding spread
+after_next_item f sum s i a h e = rw (add-one, drop-cons s i a) (after_both sum (f (get_or s i a)) (spread f (drop (suc i) s)) ∙ ap (λ x. after_all (after_all sum (f x)) (spread f (drop (suc i) s))) (sym e))
 
 -- a byte of claims that is a value's is added next, and another is left out
 pub claimed_next : (sum : ℕ) (s : List ℕ) (i : ℕ) → i < length s → i % 16 < 8 → after_all sum (claimed_values i (drop i s)) ≡ after_all (after sum (get_or s i 0)) (claimed_values (i + 1) (drop (i + 1) s))

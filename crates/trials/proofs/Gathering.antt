@@ -1,9 +1,10 @@
 -- A text of at most 256 bytes with more behind it. Assumes nothing.
-use Rattle.std.proofs.Common.{◌≡◌, ℕ, zero, suc, ◌+◌, ◌-◌, ◌^◌, ◌<◌, ◌≤◌, List, [], ◌∷◌, ◌++◌, length, get_or, take, set, sym, refl, ap, ◌∙◌, ⊎_elim, append_assoc, append-nil, eq-or-lt_of_le, add-one, arith, lit<, length-append, length-take, take_all, take-suc, take-suc-set, take_at}
+use Rattle.std.proofs.Common.{◌≡◌, ℕ, zero, suc, ◌+◌, ◌-◌, ◌^◌, ◌<◌, ◌≤◌, min, List, [], ◌∷◌, ◌++◌, length, take, sym, refl, ap, ◌∙◌, ⊎_elim, append_assoc, eq-or-lt_of_le, arith, lit<, length-take}
 use native.Mathlib.Nat.{pow-le-pow_right}
+use Rattle.std.proofs.Math.Seq.{take-append-add}
+use Rattle.std.proofs.lemmas.List.{take_min}
 use Rattle.io.specs.Digits.{IsDigitCount}
-use Rattle.trials.specs.declared.line.Line.{Line}
-use Rattle.trials.specs.Lines.{Sound, text_of, more}
+use Rattle.trials.specs.Lines.{more}
 
 -- cutting before more is added, and again after, is cutting once
 cut_once : (n : ℕ) (l s : List ℕ) → take n (take n l ++ s) ≡ take n (l ++ s)
@@ -11,32 +12,18 @@ cut_once zero l s = refl
 cut_once (suc n) [] s = refl
 cut_once (suc n) (x ∷ l) s = ap (λ (r : List ℕ). x ∷ r) (cut_once n l s)
 
-pub more_more : (t a b : List ℕ) → more (more t a) b ≡ more t (a ++ b)
+more_more : (t a b : List ℕ) → more (more t a) b ≡ more t (a ++ b)
 unfolding more
 more_more t a b = cut_once 256 (t ++ a) b ∙ ap (take 256) (append_assoc t a b)
 
--- the text of a line is within its 256 bytes
-pub short : {l : Line} → Sound l → length (text_of l) ≤ 256
-short {l} h = let a = h.within in simp length-take (omega arith)
-
-pub more_none : (t : List ℕ) → length t ≤ 256 → t ≡ more t []
+-- a text with as much more as fits behind it
+pub gathered : (bytes s : List ℕ) (len k : ℕ) → length bytes ≡ 256 → len ≤ 256 → k ≡ min (length s) (256 - len) → take len bytes ++ take k s ≡ more (take len bytes) s
 unfolding more
-more_none t h = sym (take_all 256 (t ++ []) (simp length-append (omega arith)) ∙ append-nil t)
-
--- a byte stored behind the text of a line that is not full
-pub stored : (bytes : List ℕ) (len b : ℕ) → length bytes ≡ 256 → len < 256 → take (len + 1) (set bytes len b) ≡ more (take len bytes) (b ∷ [])
-unfolding more
-stored bytes len b size room =
-    rw (add-one, take-suc-set bytes len b (omega arith)) (sym (take_all 256 (take len bytes ++ (b ∷ [])) (simp (length-append, length-take) (omega arith))))
-
--- nothing more fits a line that is full
-pub full : (bytes : List ℕ) (len : ℕ) (s : List ℕ) → length bytes ≡ 256 → 256 ≤ len → take len bytes ≡ more (take len bytes) s
-unfolding more
-full bytes len s size h = rw (take_all len bytes (omega arith)) (sym (take_at bytes s 256 size))
-
--- one byte more of a text
-pub more_next : (t s : List ℕ) (i : ℕ) → i < length s → more (more t (take i s)) (get_or s i 0 ∷ []) ≡ more t (take (i + 1) s)
-more_next t s i h = more_more t (take i s) (get_or s i 0 ∷ []) ∙ rw (add-one, take-suc s i 0) refl
+gathered bytes s len k size within e =
+    let long : length (take len bytes) ≡ len = length-take len bytes ∙ omega arith in
+    let all : 256 ≡ length (take len bytes) + (256 - len) = omega arith in
+    let same : k ≡ min (256 - len) (length s) = omega arith in
+    rw (same, take_min (256 - len) s) (sym (ap (λ (n : ℕ). take n (take len bytes ++ s)) all ∙ take-append-add (take len bytes) s (256 - len)))
 
 -- a space and then a text
 pub more_field : (t s : List ℕ) {u r d : List ℕ} → u ≡ more t (32 ∷ []) → r ≡ more u s → s ≡ d → r ≡ more t (32 ∷ d)

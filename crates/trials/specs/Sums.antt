@@ -19,10 +19,19 @@ after_all sum (x ∷ xs) = after_all (after sum x) xs
 abbrev pub adler : List ℕ → ℕ
 adler s = after_all 1 s
 
--- numbers as k bytes each, big-endian
-unfoldable pub wide : ℕ → List ℕ → List ℕ
-wide k [] = []
-wide k (n ∷ ns) = bytes k n ++ wide k ns
+-- the bytes of items one after another: a byte is its own, a number has 8, a word 4, big-endian
+unfoldable pub spread : {A : Type 0} → (A → List ℕ) → List A → List ℕ
+spread f [] = []
+spread f (x ∷ xs) = f x ++ spread f xs
+
+abbrev pub one_byte : ℕ → List ℕ
+one_byte x = x ∷ []
+
+abbrev pub eight_bytes : ℕ → List ℕ
+eight_bytes = bytes 8
+
+abbrev pub four_bytes : ℕ → List ℕ
+four_bytes = bytes 4
 
 -- of claims from byte i on, those bytes that are the first 8 of their 16
 unfoldable pub claimed_values : ℕ → List ℕ → List ℕ

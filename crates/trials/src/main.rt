@@ -2,22 +2,28 @@
 #![tactic(auto)]
 
 mod answers;
+mod body;
 mod line;
 mod rooms;
 mod sheet;
 mod sums;
 
 ghost use Rattle.intake.specs.Fronts.{AppendsOnly};
-ghost use Rattle.trials.specs.Lines.{Sound};
 
+use body::Body;
 use line::Line;
 use std::io::{Read, Result, Write};
 use wire::Width;
 
-// The line that answers a call; an empty one where there is no such call.
-fn answer(letter: u8, body: &[u8], bytes: &mut [u8], values: &mut [u64], words: &mut [u32]) -> Line
-    ensures { Sound result }
-{
+// The line that answers a call, where there is such a call.
+fn answer(
+    letter: u8,
+    body: &[u8],
+    bytes: &mut [u8],
+    values: &mut [u64],
+    words: &mut [u32],
+) -> Option<Line> {
+    let body = Body::new(body);
     match letter {
         b'G' => answers::graph(body),
         b'M' => answers::model(body),
@@ -29,7 +35,7 @@ fn answer(letter: u8, body: &[u8], bytes: &mut [u8], values: &mut [u64], words: 
         b'C' => answers::claims(body),
         b'W' => answers::certify(body, bytes, values),
         b'N' => answers::entries(body),
-        _ => Line::new(),
+        _ => None,
     }
 }
 
@@ -56,12 +62,13 @@ fn answer_body<R: Read, W: Write>(
     if intake::fill(from, body)? < body.len() {
         return refuse(to, letter);
     }
-    let line = answer(letter, body, bytes, values, words);
-    if line.len == 0 {
-        return refuse(to, letter);
+    match answer(letter, body, bytes, values, words) {
+        Some(line) => {
+            line.write(to)?;
+            Ok(true)
+        }
+        None => refuse(to, letter),
     }
-    line.write(to)?;
-    Ok(true)
 }
 
 // Answers the next call, if there is one, and says whether to go on.
@@ -81,15 +88,13 @@ fn answer_next<R: Read, W: Write>(
         return Ok(false);
     }
     let letter = head[0];
-    if got < 5 {
+    if got < head.len() {
         return refuse(to, letter);
     }
-    let asked = wire::number_at(&head, 1, Width::Four);
-    let size = rooms::front_of_bytes(asked, space);
-    if size < asked as usize {
-        return refuse(to, letter);
+    match rooms::front(wire::number_at(&head, 1, Width::Four), space) {
+        Some(size) => answer_body(from, to, letter, &mut space[..size], bytes, values, words),
+        None => refuse(to, letter),
     }
-    answer_body(from, to, letter, &mut space[..size], bytes, values, words)
 }
 
 // A proved loop has to end, and nothing says that the input does: so it counts its turns, up to a number that no run uses up.

@@ -1,61 +1,54 @@
 // The rooms that calls are lent: fronts of what the program has, filled afresh.
-ghost use Rattle.std.specs.Prelude.{◌+◌, ◌%◌};
-ghost use Rattle.io.specs.Counts.{IsPrefixLen};
-ghost use Rattle.trials.specs.Rooms.{Each};
+ghost use Rattle.std.specs.Prelude.{◌≡◌, ℕ, ◌+◌, ◌^◌, ◌<◌, ◌≤◌, length, IfSome};
+ghost use Rattle.trials.specs.Rooms.{Each, byte_at, value_at, word_at};
 
-// As many of the bytes as are asked for, or all. Both facts of `IsPrefixLen` are asked where a front is lent.
-pub fn front_of_bytes(n: u32, s: &[u8]) -> usize
-    ensures { IsPrefixLen result s.now }
+// How many items a call asks for, where there are so many.
+pub fn front<T>(asked: u32, room: &[T]) -> Option<usize>
+    ensures { IfSome result (λ n. (n ≡ asked) × (n ≤ length room.now)) }
 {
-    let k = n as usize;
-    if k < s.len() { k } else { s.len() }
+    let n = asked as usize;
+    if n <= room.len() { Some(n) } else { None }
 }
 
-// As many of the numbers as are asked for, or all.
-pub fn front_of_values(n: u32, s: &[u64]) -> usize
-    ensures { IsPrefixLen result s.now }
-{
-    let k = n as usize;
-    if k < s.len() { k } else { s.len() }
+// What a room of such items holds at each place before a call.
+pub trait Filled: Copy {
+    ghost filled_at: { ℕ → Self };
+
+    fn filled(place: usize) -> Self
+        requires { place + 1 < 2 ^ 64 }
+        ensures { result ≡ filled_at place };
 }
 
-// As many of the words as are asked for, or all.
-pub fn front_of_words(n: u32, s: &[u32]) -> usize
-    ensures { IsPrefixLen result s.now }
-{
-    let k = n as usize;
-    if k < s.len() { k } else { s.len() }
-}
+impl Filled for u8 {
+    ghost filled_at = { byte_at };
 
-// Byte i is i mod 251.
-pub fn fill_bytes(room: &mut [u8])
-    ensures { Each (λ i. i % 251) room.new }
-{
-    let mut i = 0;
-    while i < room.len() {
-        room[i] = (i % 251) as u8;
-        i += 1;
+    fn filled(place: usize) -> u8 {
+        (place % 251) as u8
     }
 }
 
-// Number i is i + 1.
-pub fn fill_values(room: &mut [u64])
-    ensures { Each (λ i. i + 1) room.new }
-{
-    let mut i = 0;
-    while i < room.len() {
-        room[i] = i as u64 + 1;
-        i += 1;
+impl Filled for u64 {
+    ghost filled_at = { value_at };
+
+    fn filled(place: usize) -> u64 {
+        place as u64 + 1
     }
 }
 
-// Word i is i + 1; no room of the program has so many that one wouldn't fit.
-pub fn fill_words(room: &mut [u32])
-    ensures { Each (λ i. (i + 1) % 4294967296) room.new }
+// No room of the program has so many words that one wouldn't fit.
+impl Filled for u32 {
+    ghost filled_at = { word_at };
+
+    fn filled(place: usize) -> u32 {
+        ((place + 1) % 4294967296) as u32
+    }
+}
+
+// Fills a room, place by place.
+pub fn fill<T: Filled>(room: &mut [T])
+    ensures { Each T.filled_at room.new }
 {
-    let mut i = 0;
-    while i < room.len() {
-        room[i] = ((i + 1) % 4294967296) as u32;
-        i += 1;
+    for (place, item) in room.iter_mut().enumerate() {
+        *item = T::filled(place);
     }
 }

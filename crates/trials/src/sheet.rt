@@ -1,7 +1,4 @@
 // The nightly sheet of a message of entries, of 6 bytes each: kind, the refusal's number, rounds.
-ghost use Rattle.std.specs.Prelude.{◌+◌, ◌≤◌, length};
-ghost use Rattle.trials.specs.Lines.{Sound};
-
 use crate::line::Line;
 use crate::sums;
 use tally::{Entry, Tally};
@@ -15,95 +12,60 @@ struct Sheet {
     answers: u32,
 }
 
-// Whether the message is entries, each of a kind that there is.
-fn are_entries(s: &[u8]) -> bool {
-    if s.len() % 6 != 0 {
-        return false;
+// The entry of these bytes, if it is of a kind that there is.
+fn entry_of(s: &[u8; 6]) -> Option<Entry> {
+    let rounds = wire::number_at(s, 2, Width::Four);
+    match s[0] {
+        0 => Some(Entry::Yes(rounds)),
+        1 => Some(Entry::No(rounds)),
+        2 => Some(Entry::Refused(s[1], rounds)),
+        _ => None,
     }
-    let count = s.len() / 6;
-    let mut i = 0;
-    while i < count {
-        let at = i * 6;
-        if 2 < s[at] {
-            return false;
+}
+
+impl Sheet {
+    // A sheet with one entry more. A message has far fewer entries than would wrap the count.
+    fn with(self, entry: Entry) -> Sheet {
+        let entered = self.tally.enter(entry);
+        let number = refusal::number(&entered.answer);
+        Sheet {
+            tally: entered.tally,
+            accepted: self.accepted.wrapping_add((number == 0) as u64),
+            answers: sums::add(self.answers, number),
         }
-        i += 1;
     }
-    true
-}
 
-// The entry at a position.
-fn entry_at(s: &[u8], at: usize) -> Entry
-    requires { at + 6 ≤ length s.now }
-{
-    let rounds = wire::number_at(s, at + 2, Width::Four);
-    match s[at] {
-        0 => Entry::Yes(rounds),
-        1 => Entry::No(rounds),
-        _ => Entry::Refused(s[at + 1], rounds),
+    // All entries, into one tally that starts at zero; none where the message has bytes that are no entry.
+    fn of(message: &[u8]) -> Option<Sheet> {
+        let (entries, rest) = message.as_chunks::<6>();
+        if !rest.is_empty() {
+            return None;
+        }
+        let mut sheet = Sheet {
+            tally: Tally::zero(),
+            accepted: 0,
+            answers: 1,
+        };
+        for entry in entries {
+            sheet = sheet.with(entry_of(entry)?);
+        }
+        Some(sheet)
     }
-}
 
-// One for an entry that was accepted.
-fn one_if(number: u8) -> u64 {
-    if number == 0 { 1 } else { 0 }
-}
-
-// A sheet with one entry more. A message has far fewer entries than would wrap the count.
-fn note(sheet: Sheet, entry: Entry) -> Sheet {
-    let tally = sheet.tally;
-    let entered = tally.enter(entry);
-    let answer = entered.answer;
-    let number = answer.number();
-    let next = entered.tally;
-    Sheet {
-        tally: next,
-        accepted: std::num::wrapping_add_u64(sheet.accepted, one_if(number)),
-        answers: sums::add(sheet.answers, number),
+    // How many were accepted, the sum of the answers, and the numbers of the report.
+    fn line(self) -> Line {
+        let mut line = Line::new()
+            .byte(b'N')
+            .number(self.accepted)
+            .sum(self.answers);
+        for number in self.tally.numbers() {
+            line = line.number(number);
+        }
+        line
     }
 }
 
-// All entries, into one tally that starts at zero.
-fn note_all(s: &[u8]) -> Sheet {
-    let count = s.len() / 6;
-    let mut sheet = Sheet {
-        tally: Tally::zero(),
-        accepted: 0,
-        answers: 1,
-    };
-    let mut i = 0;
-    while i < count {
-        let at = i * 6;
-        sheet = note(sheet, entry_at(s, at));
-        i += 1;
-    }
-    sheet
-}
-
-// How many were accepted, the sum of the answers, and the numbers of the report.
-fn sheet_line(sheet: Sheet) -> Line
-    ensures { Sound result }
-{
-    let tally = sheet.tally;
-    let numbers = tally.numbers();
-    let mut line = Line::new()
-        .byte(b'N')
-        .number(sheet.accepted)
-        .sum(sheet.answers);
-    let mut i = 0;
-    while i < 15 {
-        line = line.number(numbers[i]);
-        i += 1;
-    }
-    line
-}
-
-// The line of a message of entries; an empty one where it is none.
-pub fn line(message: &[u8]) -> Line
-    ensures { Sound result }
-{
-    if !are_entries(message) {
-        return Line::new();
-    }
-    sheet_line(note_all(message))
+// The line of a message of entries, where it is one.
+pub fn line(message: &[u8]) -> Option<Line> {
+    Some(Sheet::of(message)?.line())
 }

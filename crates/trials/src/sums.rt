@@ -1,7 +1,7 @@
 // Adler-32 sums of rooms.
-ghost use Rattle.std.specs.Prelude.{◌≡◌};
+ghost use Rattle.std.specs.Prelude.{◌≡◌, ℕ, List};
 ghost use Rattle.wire.specs.Bytes.{bytes};
-ghost use Rattle.trials.specs.Sums.{after, after_all, adler, wide, claimed_values};
+ghost use Rattle.trials.specs.Sums.{after, after_all, adler, spread, one_byte, eight_bytes, four_bytes, claimed_values};
 
 // A sum with one byte more.
 pub fn add(sum: u32, x: u8) -> u32
@@ -23,48 +23,45 @@ fn add_number(sum: u32, n: u64, k: u32) -> u32
     sum
 }
 
-// A sum with a word more.
-fn add_word(sum: u32, n: u32) -> u32
-    ensures { result ≡ after_all sum (bytes 4 n) }
-{
-    add_number(sum, n as u64, 4)
+// What a room's item adds to a sum: its bytes.
+pub trait Summed: Copy {
+    ghost bytes_of: { Self → List ℕ };
+
+    fn added_to(self, sum: u32) -> u32
+        ensures { result ≡ after_all sum (bytes_of self) };
 }
 
-// The sum of bytes.
-pub fn of_bytes(s: &[u8]) -> u32
-    ensures { result ≡ adler s.now }
-{
-    let mut sum = 1;
-    let mut i = 0;
-    while i < s.len() {
-        sum = add(sum, s[i]);
-        i += 1;
+impl Summed for u8 {
+    ghost bytes_of = { one_byte };
+
+    fn added_to(self, sum: u32) -> u32 {
+        add(sum, self)
     }
-    sum
 }
 
-// The sum of numbers as 8 bytes each.
-pub fn of_values(s: &[u64]) -> u32
-    ensures { result ≡ adler (wide 8 s.now) }
-{
-    let mut sum = 1;
-    let mut i = 0;
-    while i < s.len() {
-        sum = add_number(sum, s[i], 8);
-        i += 1;
+impl Summed for u64 {
+    ghost bytes_of = { eight_bytes };
+
+    fn added_to(self, sum: u32) -> u32 {
+        add_number(sum, self, 8)
     }
-    sum
 }
 
-// The sum of words as 4 bytes each.
-pub fn of_words(s: &[u32]) -> u32
-    ensures { result ≡ adler (wide 4 s.now) }
+impl Summed for u32 {
+    ghost bytes_of = { four_bytes };
+
+    fn added_to(self, sum: u32) -> u32 {
+        add_number(sum, self as u64, 4)
+    }
+}
+
+// The sum of a room's items.
+pub fn of<T: Summed>(s: &[T]) -> u32
+    ensures { result ≡ adler (spread T.bytes_of s.now) }
 {
     let mut sum = 1;
-    let mut i = 0;
-    while i < s.len() {
-        sum = add_word(sum, s[i]);
-        i += 1;
+    for item in s {
+        sum = item.added_to(sum);
     }
     sum
 }
@@ -74,12 +71,9 @@ pub fn of_claimed(s: &[u8]) -> u32
     ensures { result ≡ adler (claimed_values 0 s.now) }
 {
     let mut sum = 1;
-    let mut i = 0;
-    while i < s.len() {
-        let at = i;
-        i += 1;
+    for (at, byte) in s.iter().enumerate() {
         if at % 16 < 8 {
-            sum = add(sum, s[at]);
+            sum = add(sum, *byte);
         }
     }
     sum

@@ -77,25 +77,19 @@ pub put_last : (b : List ℕ) (at k n : ℕ) → 0 < k → at + k ≤ length b �
 put_last b at zero n p h = absurd (not-suc-le-zero p)
 put_last b at (suc k) n p h = simp sub-one (sym (put_suc b at k n h))
 
--- one byte, two and four, the last first
+-- one byte
 pub put_one : (b : List ℕ) (at n : ℕ) → at + 1 ≤ length b → set b at (n % 256) ≡ put b at 1 n
 put_one b at n h =
     let one : put (set b (at + 0) (n % 256)) at 0 (n / 256) ≡ put b at 1 n = put_last b at 1 n (omega arith) h in
     sym (put_none (set b at (n % 256)) at (n / 256)) ∙ (rw add-zero at one)
 
-pub put_two : (b : List ℕ) (at n : ℕ) → at + 2 ≤ length b → set (set b (at + 1) (n % 256)) at (n / 256 % 256) ≡ put b at 2 n
-put_two b at n h =
-    let long = length-set b (at + 1) (n % 256) in
-    put_one (set b (at + 1) (n % 256)) at (n / 256) (omega (arith, long)) ∙ put_last b at 2 n (omega arith) h
-
-pub put_four : (b : List ℕ) (at n : ℕ) → at + 4 ≤ length b
-    → set (set (set (set b (at + 3) (n % 256)) (at + 2) (n / 256 % 256)) (at + 1) (n / 256 / 256 % 256)) at (n / 256 / 256 / 256 % 256) ≡ put b at 4 n
-put_four b at n h =
-    let c = set b (at + 3) (n % 256) in
-    let d = set c (at + 2) (n / 256 % 256) in
-    let first = length-set b (at + 3) (n % 256) in
-    let second = length-set c (at + 2) (n / 256 % 256) in
-    put_two d at (n / 256 / 256) (omega (arith, first, second)) ∙ put_last c at 3 (n / 256) (omega arith) (omega (arith, first)) ∙ put_last b at 4 n (omega arith) h
+-- two hang on what is below 65,536
+pub put_low : (b : List ℕ) (at n : ℕ) → put b at 2 (n % 65536) ≡ put b at 2 n
+unfolding put bytes
+put_low b at n =
+    let high : n % 65536 / 256 % 256 ≡ n / 256 % 256 = omega arith in
+    let low : n % 65536 % 256 ≡ n % 256 = omega arith in
+    rw (high, low)
 
 -- parts of bytes are bytes
 pub front_bytes : (k : ℕ) (s : List ℕ) → Bytes s → Bytes (take k s)

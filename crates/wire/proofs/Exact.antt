@@ -5,7 +5,7 @@ use Rattle.lists.specs.Lists.{◌∈◌}
 use Rattle.lists.specs.Order.{RisingFrom}
 use Rattle.refusal.specs.declared.Fault.{Fault}
 use Rattle.wire.specs.Bytes.{bytes, Bytes}
-use Rattle.wire.specs.Read.{Read, good, ◌>>=◌, ◌>>◌, unless, field}
+use Rattle.wire.specs.Read.{Read, Ok, ◌>>=◌, ◌>>◌, unless, field}
 use Rattle.wire.specs.Reader.{Reader, read_all, past}
 use Rattle.wire.specs.Start.{read_start, only, version_at, kind_at, start_width}
 use Rattle.wire.specs.declared.Head.{Head}
@@ -17,19 +17,19 @@ use Rattle.wire.proofs.Stands.{Stands, stands_none, stands_first, stands_second,
 
 -- ---- how a good reading is made, part by part
 
-pub good_bind : {A B : Type 0} {x : Read A} (f : A → Read B) {a : A} {b : B} → x ≡ good a → f a ≡ good b → x >>= f ≡ good b
+pub good_bind : {A B : Type 0} {x : Read A} (f : A → Read B) {a : A} {b : B} → x ≡ Ok a → f a ≡ Ok b → x >>= f ≡ Ok b
 good_bind f {a} p q = rw (p, good_then a f, q)
 
-pub good_after : {A B : Type 0} {x : Read A} {a : A} {r : Read B} {b : B} → x ≡ good a → r ≡ good b → x >> r ≡ good b
+pub good_after : {A B : Type 0} {x : Read A} {a : A} {r : Read B} {b : B} → x ≡ Ok a → r ≡ Ok b → x >> r ≡ Ok b
 good_after p q = rw (p, good_and, q)
 
-pub good_demand : {B : Type 0} {t : Bool} (e : Fault) {r : Read B} {b : B} → t ≡ true → r ≡ good b → unless t e >> r ≡ good b
+pub good_demand : {B : Type 0} {t : Bool} (e : Fault) {r : Read B} {b : B} → t ≡ true → r ≡ Ok b → unless t e >> r ≡ Ok b
 good_demand e p q = good_after (rw p (met e)) q
 
 -- ---- records one after another
 
 -- as many as there are
-pub all_there : {S A : Type 0} (R : Reader S A) (k : ℕ) (st : S) (xs : List A) → read_all R k st ≡ good xs → read_all R (length xs) st ≡ good xs
+pub all_there : {S A : Type 0} (R : Reader S A) (k : ℕ) (st : S) (xs : List A) → read_all R k st ≡ Ok xs → read_all R (length xs) st ≡ Ok xs
 all_there R k st xs e = rw (all_length R k st xs e) e
 
 -- the length of records that are equally long
@@ -46,8 +46,8 @@ pub data FitsAll {S A : Type 0} (R : Reader S A) (Fits : S → A → Type 0) : S
 
 -- a reader of records reads exactly what is written: `Fits st a` says what the state demands of the record
 pub record Exact {S A : Type 0} (s : List ℕ) (R : Reader S A) (write : A → List ℕ) (Fits : S → A → Type 0) : Type 0 where
-  pub reads : Bytes s → (st : S) (a : A) → R.read st ≡ good a → Stands s (R.position st) (write a) × Fits st a
-  pub written : (st : S) (a : A) → Stands s (R.position st) (write a) → Fits st a → R.read st ≡ good a
+  pub reads : Bytes s → (st : S) (a : A) → R.read st ≡ Ok a → Stands s (R.position st) (write a) × Fits st a
+  pub written : (st : S) (a : A) → Stands s (R.position st) (write a) → Fits st a → R.read st ≡ Ok a
   pub moves : (st : S) (a : A) → R.position (R.next st a) ≡ R.position st + length (write a)
 
 module _ {S A : Type 0} {s : List ℕ} {R : Reader S A} {write : A → List ℕ} {Fits : S → A → Type 0} (E : Exact s R write Fits) where
@@ -57,7 +57,7 @@ module _ {S A : Type 0} {s : List ℕ} {R : Reader S A} {write : A → List ℕ}
   all_moves st [] = sym (add-zero (R.position st))
   all_moves st (a ∷ xs) = simp length-append (omega (arith, all_moves (R.next st a) xs, E.moves st a))
 
-  pub all_reads : Bytes s → (k : ℕ) (st : S) (xs : List A) → read_all R k st ≡ good xs → Stands s (R.position st) (write_all write xs) × FitsAll R Fits st xs
+  pub all_reads : Bytes s → (k : ℕ) (st : S) (xs : List A) → read_all R k st ≡ Ok xs → Stands s (R.position st) (write_all write xs) × FitsAll R Fits st xs
   unfolding read_all write_all
   all_reads b zero st xs e =
       subst (λ (l : List A). Stands s (R.position st) (write_all write l) × FitsAll R Fits st l) (good_same e) (stands_none s _, none)
@@ -69,7 +69,7 @@ module _ {S A : Type 0} {s : List ℕ} {R : Reader S A} {write : A → List ℕ}
       subst (λ (l : List A). Stands s (R.position st) (write_all write l) × FitsAll R Fits st l) (good_same r.rest)
       (stands_both (sym (E.moves st a.value)) here.0 others.0, more here.1 others.1)
 
-  pub all_written : (st : S) (xs : List A) → Stands s (R.position st) (write_all write xs) → FitsAll R Fits st xs → read_all R (length xs) st ≡ good xs
+  pub all_written : (st : S) (xs : List A) → Stands s (R.position st) (write_all write xs) → FitsAll R Fits st xs → read_all R (length xs) st ≡ Ok xs
   unfolding read_all write_all
   all_written st [] h f = refl
   all_written st (a ∷ xs) h (more f fs) =
@@ -113,14 +113,14 @@ module _ {S A : Type 0} (R : Reader S A) where
 -- ---- the start that all messages share
 
 -- a byte that may be one number only is that number, and one that is is read
-only_good : (s : List ℕ) (at allowed : ℕ) {n : ℕ} → only s at allowed ≡ good n → (field 1 s at ≡ good n) × (n ≡ allowed)
+only_good : (s : List ℕ) (at allowed : ℕ) {n : ℕ} → only s at allowed ≡ Ok n → (field 1 s at ≡ Ok n) × (n ≡ allowed)
 unfolding only
 only_good s at allowed e =
     let v = bind_good _ _ e in
     let is = demand_good _ _ _ v.rest in
     (rw (← good_same is.1) v.first, rw (← good_same is.1) (eqb-true _ _ is.0))
 
-good_only : (s : List ℕ) (at : ℕ) {n : ℕ} → field 1 s at ≡ good n → only s at n ≡ good n
+good_only : (s : List ℕ) (at : ℕ) {n : ℕ} → field 1 s at ≡ Ok n → only s at n ≡ Ok n
 unfolding only
 good_only s at {n} e = good_bind _ e (good_demand _ (eq-eqb n n refl) refl)
 
@@ -145,7 +145,7 @@ pub record Started (s : List ℕ) (head : Head) : Type 0 where
   pub start_fits : start_width ≤ length s
   pub length_fits : length s < 2 ^ 32
 
-pub start_reads : {s : List ℕ} (head : Head) → Bytes s → read_start s head ≡ good tt → Started s head
+pub start_reads : {s : List ℕ} (head : Head) → Bytes s → read_start s head ≡ Ok tt → Started s head
 unfolding read_start message
 start_reads {s} head b e =
     let v = head.version in
@@ -173,7 +173,7 @@ start_reads {s} head b e =
     }
 
 pub start_written : (rest : List ℕ) (head : Head) → head.version < 256 → head.kind < 256 → head.length ≤ start_width + length rest
-    → start_width + length rest < 2 ^ 32 → read_start (message head rest) head ≡ good tt
+    → start_width + length rest < 2 ^ 32 → read_start (message head rest) head ≡ Ok tt
 unfolding read_start message
 start_written rest head v-byte k-byte header_fits length_fits =
     let v = head.version in
@@ -183,9 +183,9 @@ start_written rest head v-byte k-byte header_fits length_fits =
     let long : length s ≡ n = message_length head rest in
     let stands : Stands s 0 (write_start head n) = stands_first (write_start head n) rest (stands_self _) in
     let front = stands_first (bytes 4 n ++ bytes 1 v) (bytes 1 k) stands in
-    let total_there : field 4 s 0 ≡ good n = stands_field 4 (omega arith) (stands_first (bytes 4 n) (bytes 1 v) front) length_fits in
-    let version_there : field 1 s version_at ≡ good v = stands_field 1 (omega arith) (stands_second (bytes 4 n) (bytes 1 v) (simp length_bytes) front) v-byte in
-    let kind_there : field 1 s kind_at ≡ good k =
+    let total_there : field 4 s 0 ≡ Ok n = stands_field 4 (omega arith) (stands_first (bytes 4 n) (bytes 1 v) front) length_fits in
+    let version_there : field 1 s version_at ≡ Ok v = stands_field 1 (omega arith) (stands_second (bytes 4 n) (bytes 1 v) (simp length_bytes) front) v-byte in
+    let kind_there : field 1 s kind_at ≡ Ok k =
     stands_field 1 (omega arith) (stands_second (bytes 4 n ++ bytes 1 v) (bytes 1 k) (simp (length-append, length_bytes)) stands) k-byte in
     good_demand _ (le-leb head.length (length s) (omega arith))
     (good_bind _ total_there

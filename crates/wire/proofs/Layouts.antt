@@ -1,6 +1,6 @@
 -- The turns of a scan over records by position; a good reading gives the records that stand there. Assumes nothing.
 use Rattle.std.proofs.Common.{◌≡◌, ℕ, zero, suc, ◌-◌, ◌<◌, List, ◌∷◌, length, refl, ap, ◌∙◌, subst, ap₂, not-suc-le-zero, sub-one}
-use Rattle.wire.specs.Read.{good}
+use Rattle.wire.specs.Read.{Ok}
 use Rattle.wire.specs.Reader.{Reader, read_all, past}
 use Rattle.wire.specs.Layout.{Layout, items, end, Sound, none, more}
 use Rattle.wire.proofs.Reading.{bind_good, good_same}
@@ -44,8 +44,8 @@ module _ {A : Type 0} (L : Layout A) where
 
   -- P k st says what the state before k records is: each record is read there, and leaves what the others need
   pub reads_while : {S : Type 0} (R : Reader S A) (P : ℕ → S → Type 0)
-      → ((k : ℕ) (st : S) (a : A) → P (suc k) st → R.read st ≡ good a → Reads R st a × P k (R.next st a))
-      → (k : ℕ) (st : S) (xs : List A) → P k st → read_all R k st ≡ good xs → ReadsAll R k st xs
+      → ((k : ℕ) (st : S) (a : A) → P (suc k) st → R.read st ≡ Ok a → Reads R st a × P k (R.next st a))
+      → (k : ℕ) (st : S) (xs : List A) → P k st → read_all R k st ≡ Ok xs → ReadsAll R k st xs
   unfolding read_all past items end
   reads_while R P each zero st xs p e = subst (ReadsAll R zero st) (good_same e) (record { items_are = refl; end_is = refl; sound = none })
   reads_while R P each (suc k) st xs p e =
@@ -62,7 +62,7 @@ module _ {A : Type 0} (L : Layout A) where
       })
 
   -- where no state matters
-  pub reads_all : {S : Type 0} (R : Reader S A) → ((st : S) (a : A) → R.read st ≡ good a → Reads R st a) → (k : ℕ) (st : S) (xs : List A) → read_all R k st ≡ good xs → ReadsAll R k st xs
+  pub reads_all : {S : Type 0} (R : Reader S A) → ((st : S) (a : A) → R.read st ≡ Ok a → Reads R st a) → (k : ℕ) (st : S) (xs : List A) → read_all R k st ≡ Ok xs → ReadsAll R k st xs
   reads_all R each k st xs e = reads_while R (λ k st. Unit) (λ k st a p h. (each st a h, tt)) k st xs tt e
 
   -- k records are k

@@ -1,5 +1,6 @@
 -- Laws of reading bytes.
 --     Bytes      big-endian numbers, over the width
+--     Stored     the bytes of a number as std gives them
 --     Fields     what a field that is there, or too short, says of the bytes
 --     Reading    how a reading goes on, and what a good one says
 --     Readers    the turns of a loop over records, and what a good reading of them says
@@ -7,8 +8,8 @@
 --     Stride     records of one width by position
 --     Parts      records by their number, and a part of them
 --     Turns      the turns of a loop over records
---     Start      the reading of a message's start, from the answer
---     Counts     counts in a header: the reading from the answer, and what a good one says
+--     Runs       records read one behind another by a function: the turns of the loop, and the run of a reader
+--     Counts     counts in a header: what a good one says, and that one in its limits is read
 --     Stands     bytes that stand in a message at a position
 --     Exact      readers that read exactly what is written, and the start of a message
 --     Written    records that are written one behind the other
@@ -18,6 +19,7 @@
 --     Onward     readings go onward: a fault lies at a field, nothing before it is to blame, and it can be mended
 --     One        one answer of each public function
 pub mod Bytes
+pub mod Stored
 pub mod Fields
 pub mod Reading
 pub mod Readers
@@ -25,7 +27,7 @@ pub mod Layouts
 pub mod Stride
 pub mod Parts
 pub mod Turns
-pub mod Start
+pub mod Runs
 pub mod Stands
 pub mod Exact
 pub mod Counts

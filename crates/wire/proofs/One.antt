@@ -2,7 +2,6 @@
 -- Here a are the arguments, r is the result, and s is what stands in each argument at the end. Assumes nothing.
 use Rattle.std.proofs.Common.{◌≡◌, sym, ◌∙◌}
 use Rattle.wire.proofs.Width.bytes.Reads as Width-bytes
-use Rattle.wire.proofs.Field.fault.Reads as Field-fault
 use Rattle.wire.proofs.read.Reads as read
 use Rattle.wire.proofs.read_below.Reads as read_below
 use Rattle.wire.proofs.follows.Reads as follows
@@ -13,14 +12,16 @@ use Rattle.wire.proofs.open.Reads as opening
 use Rattle.wire.proofs.read_count.Reads as read_count
 use Rattle.wire.proofs.long_at.Reads as long-at
 use Rattle.wire.proofs.store_long.Reads as store_long
+use Rattle.wire.proofs.State.start.Reads as State-start
+use Rattle.wire.proofs.run.Reads as run
+use Rattle.wire.proofs.Runs.{one_end}
+use Rattle.wire.specs.contracts.run.F-Fn.{words}
+use Rattle.wire.specs.Read.{Read}
+use Rattle.wire.specs.declared.State.{State}
 
 -- `wire::Width::bytes`
 pub one_bytes : (κs : _) (a : _) (r r' : _) (s s' : _) → Width-bytes.Post κs a r s → Width-bytes.Post κs a r' s' → r ≡ r'
 one_bytes κs a r r' s s' p q = p ∙ sym q
-
--- `wire::Field::fault`
-pub one_fault : (κs : _) (a : _) (r r' : _) (s s' : _) → Field-fault.Post κs a r s → Field-fault.Post κs a r' s' → r ≡ r'
-one_fault κs a r r' s s' p q = p ∙ sym q
 
 -- `wire::read_below`
 pub one_read_below : (κs : _) (a : _) (r r' : _) (s s' : _) → read_below.Post κs a r s → read_below.Post κs a r' s' → r ≡ r'
@@ -61,3 +62,13 @@ one_long_at κs a r r' s s' p q = p ∙ sym q
 -- `wire::store_long`: the room
 pub one_store_long : (κs : _) (a : _) (r r' : _) (s s' : _) → store_long.Post κs a r s → store_long.Post κs a r' s' → s.0.now ≡ s'.0.now
 one_store_long κs a r r' s s' p q = p ∙ sym q
+
+-- `wire::State::start`
+pub one_start : (κs : _) (a : _) (r r' : _) (s s' : _) → State-start.Post κs a r s → State-start.Post κs a r' s' → r ≡ r'
+one_start κs a r r' s s' p q = p ∙ sym q
+
+-- `wire::run`, by a closure F that gives one answer in each state
+pub one_run : (F : _) (laws : _) (w : _) (d₀ d₁ d₂ d₃ : _) (κs : _) (a : _) (r r' : _) (s s' : _)
+    → run.Post F laws w d₀ d₁ d₂ d₃ κs a r s → run.Post F laws w d₀ d₁ d₂ d₃ κs a r' s'
+    → ((st : State) (x y : Read State) → (words F w).post a.1.1.0 st x → (words F w).post a.1.1.0 st y → x ≡ y) → r ≡ r'
+one_run F laws w d₀ d₁ d₂ d₃ κs a r r' s s' p q one = one_end one p q

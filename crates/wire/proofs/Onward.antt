@@ -6,7 +6,7 @@ use Rattle.refusal.specs.declared.Refusal.{Refusal}
 use Rattle.refusal.specs.Number.{nowhere}
 use Rattle.wire.specs.Bytes.{number, bytes, put}
 use Rattle.wire.specs.Field.{width_of}
-use Rattle.wire.specs.Read.{Read, good, bad, ◌>>=◌, ◌>>◌, unless, demand, field, below, misnamed, source_from}
+use Rattle.wire.specs.Read.{Read, Ok, Err, ◌>>=◌, ◌>>◌, unless, demand, field, below, misnamed, source_from}
 use Rattle.wire.specs.Reader.{Reader, read_all, past}
 use Rattle.wire.specs.Start.{read_start, version_at, kind_at, start_width}
 use Rattle.wire.specs.Counts.{read_count}
@@ -17,7 +17,7 @@ use Rattle.wire.specs.declared.Head.{Head}
 use Rattle.wire.specs.declared.Count.{Count}
 use Rattle.wire.proofs.Bytes.{length_bytes, number_bytes}
 use Rattle.wire.proofs.Fields.{field_value, value_is, width_some}
-use Rattle.wire.proofs.Reading.{good_then, there, never, good_same, bind_good}
+use Rattle.wire.proofs.Reading.{good_then, never, good_same, bind_good}
 use Rattle.wire.proofs.Exact.{good_bind}
 use Rattle.wire.proofs.Judged.{bind_bad, and_bind, judged_parts, unless_bad, field_bad, Judged, field_judged, test_judged, below_judged, source_judged, only_judged, count_judged, Takes, field_takes, test_takes, below_takes, source_takes, only_takes, count_takes}
 
@@ -65,17 +65,17 @@ pub record AtFault {A : Type 0} (Start : List ℕ → ℕ → Width → Type 0) 
   pub place : FieldAt (Start s) s o
   pub value : ℕ
   pub fits : value < 256 ^ width_of place.width
-  pub before : (s' : List ℕ) {f : Fault} → SameBefore o s s' → read s' ≡ bad f → From o f
-  pub behind : (s' : List ℕ) {a : A} → SameBefore o s s' → read s' ≡ good a → o < end a
-  pub mended : (s' : List ℕ) {f : Fault} → SameBefore o s s' → number (width_of place.width) s' o ≡ value → read s' ≡ bad f → From (o + 1) f
+  pub before : (s' : List ℕ) {f : Fault} → SameBefore o s s' → read s' ≡ Err f → From o f
+  pub behind : (s' : List ℕ) {a : A} → SameBefore o s s' → read s' ≡ Ok a → o < end a
+  pub mended : (s' : List ℕ) {f : Fault} → SameBefore o s s' → number (width_of place.width) s' o ≡ value → read s' ≡ Err f → From (o + 1) f
 
 -- a reading whose fields stand at p or behind it; what it gives says where it ends, and depends on the bytes before that only.
 -- `On` are the messages that it is met in: in these a fault is at a field
 pub record Onward {A : Type 0} (Start : List ℕ → ℕ → Width → Type 0) (On : List ℕ → Type 0) (p : ℕ) (read : List ℕ → Read A) (end : A → ℕ) : Type 0 where
-  pub rises : (s : List ℕ) {a : A} → read s ≡ good a → p ≤ end a
-  pub from : (s : List ℕ) {f : Fault} → read s ≡ bad f → From p f
-  pub same : (s s' : List ℕ) {a : A} → read s ≡ good a → SameBefore (end a) s s' → read s' ≡ good a
-  pub faulty : (s : List ℕ) {f : Fault} → On s → read s ≡ bad f → 0 < f.offset → AtFault Start read end s f.offset
+  pub rises : (s : List ℕ) {a : A} → read s ≡ Ok a → p ≤ end a
+  pub from : (s : List ℕ) {f : Fault} → read s ≡ Err f → From p f
+  pub same : (s s' : List ℕ) {a : A} → read s ≡ Ok a → SameBefore (end a) s s' → read s' ≡ Ok a
+  pub faulty : (s : List ℕ) {f : Fault} → On s → read s ≡ Err f → 0 < f.offset → AtFault Start read end s f.offset
 
 module _ {Start : List ℕ → ℕ → Width → Type 0} {On : List ℕ → Type 0} where
   -- it can be said to begin sooner, and be met in fewer messages
@@ -96,7 +96,7 @@ module _ {Start : List ℕ → ℕ → Width → Type 0} {On : List ℕ → Type
   }
 
   -- nothing is read
-  pub onward_good : {A : Type 0} {p : ℕ} (end : A → ℕ) (a : A) → p ≤ end a → Onward Start On p (λ s. good a) end
+  pub onward_good : {A : Type 0} {p : ℕ} (end : A → ℕ) (a : A) → p ≤ end a → Onward Start On p (λ s. Ok a) end
   onward_good {p = p} end a le = record {
     rises = λ s e. subst (λ x. p ≤ end x) (good_same e) le;
     from = λ s e. absurd (never (sym e));
@@ -115,11 +115,11 @@ module _ {Start : List ℕ → ℕ → Width → Type 0} {On : List ℕ → Type
 
   -- a field, which starts there where it is at fault
   onward_judged : {p at : ℕ} {w : Width} {read : List ℕ → Read ℕ} → p ≤ at → Judged at w read → Takes at w read
-      → ((s : List ℕ) (f : Fault) → On s → read s ≡ bad f → 0 < f.offset → Start s at w) → Onward Start On p read (λ n. at + width_of w)
+      → ((s : List ℕ) (f : Fault) → On s → read s ≡ Err f → 0 < f.offset → Start s at w) → Onward Start On p read (λ n. at + width_of w)
   onward_judged {p} {at} {w} {read} le F T starts =
       let k : ℕ = width_of w in
       let some : 0 < width_of w = width_some w in
-      let here : (s : List ℕ) (f : Fault) → read s ≡ bad f → From at f = λ s f e. ⊎_elim inl (λ q. inr (omega (arith, q.0))) (F.blames s e) in
+      let here : (s : List ℕ) (f : Fault) → read s ≡ Err f → From at f = λ s f e. ⊎_elim inl (λ q. inr (omega (arith, q.0))) (F.blames s e) in
       record {
         rises = λ s e. omega arith;
         from = λ s e. from_sooner le (here s _ e);
@@ -134,7 +134,7 @@ module _ {Start : List ℕ → ℕ → Width → Type 0} {On : List ℕ → Type
               behind = λ s' alike e'. omega arith;
               mended = λ s' alike is e'.
                   let fit : at + k ≤ length s' = omega (arith, alike.as_long, blamed.1) in
-                  let value : field k s' at ≡ good T.value = rw (field_value k s' at fit, is) (there T.value) in
+                  let value : field k s' at ≡ Ok T.value = rw (field_value k s' at fit, is) refl in
                   absurd (never (sym e' ∙ T.taken s' value));
             });
       }
@@ -165,16 +165,16 @@ module _ {Start : List ℕ → ℕ → Width → Type 0} {On : List ℕ → Type
 -- some message gives this
 pub record Reached {A : Type 0} (read : List ℕ → Read A) (a : A) : Type 0 where
   pub message : List ℕ
-  pub given : read message ≡ good a
+  pub given : read message ≡ Ok a
 
 -- one reading after another: the second is met in the messages that the first is good in
 module _ {Start : List ℕ → ℕ → Width → Type 0} {On : List ℕ → Type 0} {A B : Type 0} {p : ℕ} {read : List ℕ → Read A} {end : A → ℕ} (R : Onward Start On p read end)
-    (next : A → List ℕ → Read B) {last : B → ℕ} (G : (a : A) → Reached read a → Onward Start (λ s. On s × (read s ≡ good a)) (end a) (next a) last) where
+    (next : A → List ℕ → Read B) {last : B → ℕ} (G : (a : A) → Reached read a → Onward Start (λ s. On s × (read s ≡ Ok a)) (end a) (next a) last) where
   both : List ℕ → Read B
   both s = read s >>= λ a. next a s
 
   -- the second reading follows, in the message that the first was good in
-  goes : (s : List ℕ) {a : A} → read s ≡ good a → Onward Start (λ s. On s × (read s ≡ good a)) (end a) (next a) last
+  goes : (s : List ℕ) {a : A} → read s ≡ Ok a → Onward Start (λ s. On s × (read s ≡ Ok a)) (end a) (next a) last
   goes s {a} e = G a (record { message = s; given = e })
 
   -- a fault of the first
@@ -196,7 +196,7 @@ module _ {Start : List ℕ → ℕ → Width → Type 0} {On : List ℕ → Type
   }
 
   -- a fault of the second: the first is as it was
-  later_faulty : (s : List ℕ) {a : A} {o : ℕ} → read s ≡ good a → end a ≤ o → AtFault Start (next a) last s o → AtFault Start both last s o
+  later_faulty : (s : List ℕ) {a : A} {o : ℕ} → read s ≡ Ok a → end a ≤ o → AtFault Start (next a) last s o → AtFault Start both last s o
   unfolding both
   later_faulty s {a} {o} e le c =
       let goes_on : (s' : List ℕ) → SameBefore o s s' → both s' ≡ next a s' = λ s' alike. rw (R.same s s' e (same_sooner le alike), good_then) in
@@ -275,7 +275,7 @@ module _ {S A : Type 0} (Start : List ℕ → ℕ → Width → Type 0) (positio
 
   pub onward_all : ((i : ℕ) (st : S) → i < k → Inv st → Onward Start (At i st) (position st) (λ s. read s st) (λ a. position (next st a)))
       → ((st : S) (a : A) → Inv st → Reached (λ s. read s st) a → Inv (next st a))
-      → ((i : ℕ) (st : S) (a : A) (s : List ℕ) → At i st s → read s st ≡ good a → At (suc i) (next st a) s)
+      → ((i : ℕ) (st : S) (a : A) (s : List ℕ) → At i st s → read s st ≡ Ok a → At (suc i) (next st a) s)
       → (i m : ℕ) (st : S) → i + m ≤ k → Inv st → Onward Start (At i st) (position st) (λ s. read_all (reader s) m st) (λ xs. position (past (reader []) st xs))
   unfolding read_all past
   onward_all each kept moves i zero st fit v = onward_good _ [] (omega arith)
@@ -286,7 +286,7 @@ module _ {S A : Type 0} (Start : List ℕ → ℕ → Width → Type 0) (positio
 
 -- ---- the laws
 
-module _ {A : Type 0} {Start : List ℕ → ℕ → Width → Type 0} {read : List ℕ → Read A} {end : A → ℕ} (R : Onward Start (λ s. Unit) 0 read end) (s : List ℕ) {f : Fault} (e : read s ≡ bad f) where
+module _ {A : Type 0} {Start : List ℕ → ℕ → Width → Type 0} {read : List ℕ → Read A} {end : A → ℕ} (R : Onward Start (λ s. Unit) 0 read end) (s : List ℕ) {f : Fault} (e : read s ≡ Err f) where
   by_place : {C : Type 0} → (f.offset ≡ nowhere → C) → (AtFault Start read end s f.offset → C) → C
   by_place none placed = ⊎_elim (λ z. none (sym z)) (λ some. placed (R.faulty s tt e some)) (eq-or-lt_of_le {n = 0} {m = f.offset} (omega arith))
 
@@ -295,7 +295,7 @@ module _ {A : Type 0} {Start : List ℕ → ℕ → Width → Type 0} {read : Li
   placed = by_place inl (λ c. inr c.place)
 
   -- nothing before the offset is to blame
-  pub none_before : (s' : List ℕ) {f' : Fault} → SameBefore f.offset s s' → read s' ≡ bad f' → From f.offset f'
+  pub none_before : (s' : List ℕ) {f' : Fault} → SameBefore f.offset s s' → read s' ≡ Err f' → From f.offset f'
   none_before s' {f'} alike e' = by_place (λ z. inr (omega arith)) (λ c. c.before s' alike e')
 
   -- the field there can be mended

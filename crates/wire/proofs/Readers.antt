@@ -1,12 +1,12 @@
 -- The turns of a loop over records, and what a good reading of them says. Assumes nothing.
 use Rattle.std.proofs.Common.{◌≡◌, ℕ, zero, suc, ◌+◌, ◌-◌, ◌*◌, ◌<◌, List, [], ◌∷◌, length, sym, refl, ap, ◌∙◌, subst, not-suc-le-zero, sub-one, arith}
 use Rattle.refusal.specs.declared.Fault.{Fault}
-use Rattle.wire.specs.Read.{Read, good, bad, ◌>>=◌}
+use Rattle.wire.specs.Read.{Read, Ok, Err, ◌>>=◌}
 use Rattle.wire.specs.Reader.{Reader, read_all, past, one, run}
 use Rattle.wire.proofs.Reading.{bind_good, good_same, never}
 
 module _ {S A : Type 0} (R : Reader S A) where
-  pub run_none : (st : S) → run R 0 st ≡ good st
+  pub run_none : (st : S) → run R 0 st ≡ Ok st
   unfolding run read_all past ◌>>=◌
   run_none st = refl
 
@@ -14,13 +14,13 @@ module _ {S A : Type 0} (R : Reader S A) where
   unfolding run read_all past ◌>>=◌
   run_suc k st = first (R.read st)
     where
-      rest : (a : A) (y : Read (List A)) → (y >>= λ xs. good (a ∷ xs)) >>= (λ xs. good (past R st xs)) ≡ y >>= λ xs. good (past R (R.next st a) xs)
-      rest a (good xs) = refl
-      rest a (bad e) = refl
+      rest : (a : A) (y : Read (List A)) → (y >>= λ xs. Ok (a ∷ xs)) >>= (λ xs. Ok (past R st xs)) ≡ y >>= λ xs. Ok (past R (R.next st a) xs)
+      rest a (Ok xs) = refl
+      rest a (Err e) = refl
 
-      first : (x : Read A) → (x >>= λ a. read_all R k (R.next st a) >>= λ xs. good (a ∷ xs)) >>= (λ xs. good (past R st xs)) ≡ (x >>= λ a. good (R.next st a)) >>= run R k
-      first (good a) = rest a (read_all R k (R.next st a))
-      first (bad e) = refl
+      first : (x : Read A) → (x >>= λ a. read_all R k (R.next st a) >>= λ xs. Ok (a ∷ xs)) >>= (λ xs. Ok (past R st xs)) ≡ (x >>= λ a. Ok (R.next st a)) >>= run R k
+      first (Ok a) = rest a (read_all R k (R.next st a))
+      first (Err e) = refl
 
   -- a loop's turn: one record, then the k - 1 that are left
   pub run_more : (k : ℕ) (st : S) → 0 < k → run R k st ≡ one R st >>= run R (k - 1)
@@ -32,12 +32,12 @@ module _ {S A : Type 0} (R : Reader S A) where
   unfolding run read_all past ◌>>=◌
   run_one st = go (R.read st)
     where
-      go : (x : Read A) → (x >>= λ a. read_all R 0 (R.next st a) >>= λ xs. good (a ∷ xs)) >>= (λ xs. good (past R st xs)) ≡ x >>= λ a. good (R.next st a)
-      go (good a) = refl
-      go (bad e) = refl
+      go : (x : Read A) → (x >>= λ a. read_all R 0 (R.next st a) >>= λ xs. Ok (a ∷ xs)) >>= (λ xs. Ok (past R st xs)) ≡ x >>= λ a. Ok (R.next st a)
+      go (Ok a) = refl
+      go (Err e) = refl
 
   -- k records are k
-  pub all_length : (k : ℕ) (st : S) (xs : List A) → read_all R k st ≡ good xs → length xs ≡ k
+  pub all_length : (k : ℕ) (st : S) (xs : List A) → read_all R k st ≡ Ok xs → length xs ≡ k
   unfolding read_all
   all_length zero st xs e = ap length (sym (good_same e))
   all_length (suc k) st xs e =
@@ -48,25 +48,25 @@ module _ {S A : Type 0} (R : Reader S A) where
   -- what a good run read
   pub record Ran (k : ℕ) (st end : S) : Type 0 where
     pub got : List A
-    pub there : read_all R k st ≡ good got
+    pub there : read_all R k st ≡ Ok got
     pub ends : past R st got ≡ end
 
-  pub run_good : (k : ℕ) (st end : S) → run R k st ≡ good end → Ran k st end
+  pub run_good : (k : ℕ) (st end : S) → run R k st ≡ Ok end → Ran k st end
   unfolding run
   run_good k st end e =
       let xs = bind_good _ _ e in
       record { got = xs.value; there = xs.first; ends = good_same xs.rest }
 
-  pub run_bad : (k : ℕ) (st : S) (f : Fault) → run R k st ≡ bad f → read_all R k st ≡ bad f
+  pub run_bad : (k : ℕ) (st : S) (f : Fault) → run R k st ≡ Err f → read_all R k st ≡ Err f
   unfolding run ◌>>=◌
   run_bad k st f e = go (read_all R k st) e
     where
-      go : (x : Read (List A)) → (x >>= λ xs. good (past R st xs)) ≡ bad f → x ≡ bad f
-      go (good xs) h = absurd (never (sym h))
-      go (bad g) h = cc
+      go : (x : Read (List A)) → (x >>= λ xs. Ok (past R st xs)) ≡ Err f → x ≡ Err f
+      go (Ok xs) h = absurd (never (sym h))
+      go (Err g) h = cc
 
   -- what each good record leaves holds at the end of a good run
-  pub run_keeps : (P : S → Type 0) → ((st next : S) → one R st ≡ good next → P next) → (k : ℕ) (st end : S) → P st → run R k st ≡ good end → P end
+  pub run_keeps : (P : S → Type 0) → ((st next : S) → one R st ≡ Ok next → P next) → (k : ℕ) (st end : S) → P st → run R k st ≡ Ok end → P end
   run_keeps P each zero st end p e = subst P (good_same (sym (run_none st) ∙ e)) p
   run_keeps P each (suc k) st end p e =
       let r = bind_good _ _ (sym (run_suc k st) ∙ e) in

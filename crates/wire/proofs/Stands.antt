@@ -3,12 +3,9 @@ use Rattle.std.proofs.Common.{◌≡◌, ℕ, ◌+◌, ◌^◌, ◌<◌, ◌≤�
 use mathlib.Core.List.{append_cancel_left}
 use lib.Seq.{take-append_seam}
 use Rattle.wire.specs.Bytes.{number, bytes, Bytes}
-use Rattle.wire.specs.Field.{field_at}
-use Rattle.wire.specs.Read.{good, field}
-use Rattle.wire.specs.declared.Field.TheVariants.{Number}
+use Rattle.wire.specs.Read.{Ok, field}
 use Rattle.wire.proofs.Bytes.{length_bytes, number_below, number_bytes, bytes_number}
 use Rattle.wire.proofs.Fields.{field_value, value_inside, value_is}
-use Rattle.wire.proofs.Reading.{there, field_good}
 
 -- the bytes l stand in s at a position
 pub record Stands (s : List ℕ) (at : ℕ) (l : List ℕ) : Type 0 where
@@ -56,20 +53,20 @@ stands_self s = record { there = take_all (length s) s (omega arith) }
 
 -- ---- fields
 
-pub value_stands : (k : ℕ) {s : List ℕ} {at n : ℕ} → Bytes s → field_at k s at ≡ Number n → Stands s at (bytes k n) × (n < 256 ^ k)
+pub value_stands : (k : ℕ) {s : List ℕ} {at n : ℕ} → Bytes s → field k s at ≡ Ok n → Stands s at (bytes k n) × (n < 256 ^ k)
 value_stands k {s} {at} {n} b e =
     rw (← value_is k s at e) (
       record { there = rw length_bytes (sym (bytes_number k s at b (value_inside k s at e))) },
       number_below k s at b,
     )
 
-pub field_stands : (k : ℕ) {s : List ℕ} {at n : ℕ} → Bytes s → field k s at ≡ good n → Stands s at (bytes k n) × (n < 256 ^ k)
-field_stands k {s} {at} b e = value_stands k b (field_good k s at e)
+pub field_stands : (k : ℕ) {s : List ℕ} {at n : ℕ} → Bytes s → field k s at ≡ Ok n → Stands s at (bytes k n) × (n < 256 ^ k)
+field_stands k {s} {at} b e = value_stands k b e
 
-pub stands_field : (k : ℕ) {s : List ℕ} {at n : ℕ} → 0 < k → Stands s at (bytes k n) → n < 256 ^ k → field k s at ≡ good n
+pub stands_field : (k : ℕ) {s : List ℕ} {at n : ℕ} → 0 < k → Stands s at (bytes k n) → n < 256 ^ k → field k s at ≡ Ok n
 stands_field k {s} {at} {n} some h below =
     let inside : at + k ≤ length s = rw length_bytes at (stands_inside h (rw length_bytes some)) in
     let front : length (take at s) ≡ at = length-take-le at s (omega arith) in
     let is : number k s at ≡ n =
     ap (λ (x : List ℕ). number k x at) (stands_parts (omega arith) h) ∙ (rw front at (number_bytes k n (take at s) (drop (at + length (bytes k n)) s) below)) in
-    rw (field_value k s at inside, is) (there n)
+    rw (field_value k s at inside, is) refl

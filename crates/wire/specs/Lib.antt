@@ -3,10 +3,11 @@ pub mod Bytes
 pub mod Field
 pub mod Read
 pub mod Reader
+pub mod Runs
 pub mod Start
 pub mod Counts
 pub mod Write
 pub mod Layout
-pub mod Step
+pub mod Begin
 pub mod Laid
 pub mod Located

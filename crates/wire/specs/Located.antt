@@ -4,7 +4,7 @@ use Rattle.refusal.specs.declared.Fault.{Fault}
 use Rattle.refusal.specs.Number.{nowhere}
 use Rattle.wire.specs.Bytes.{number, put}
 use Rattle.wire.specs.Field.{width_of}
-use Rattle.wire.specs.Read.{Read, bad}
+use Rattle.wire.specs.Read.{Read, Err}
 use Rattle.wire.specs.declared.Count.{Count}
 use Rattle.wire.specs.declared.Width.{Width}
 
@@ -36,4 +36,4 @@ pub record Mendable {A : Type 0} (FieldStart : ℕ → Width → Type 0) (read :
   pub place : FieldAt FieldStart s offset
   pub value : ℕ
   pub fits : value < 256 ^ width_of place.width
-  pub reads_past : {f : Fault} → read (put s offset (width_of place.width) value) ≡ bad f → From (offset + 1) f
+  pub reads_past : {f : Fault} → read (put s offset (width_of place.width) value) ≡ Err f → From (offset + 1) f

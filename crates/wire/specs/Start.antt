@@ -2,10 +2,8 @@
 use Rattle.std.specs.Prelude.{ℕ, ◌+◌, List, length, ◌==◌, nat_le}
 use Rattle.refusal.specs.declared.Refusal.TheVariants.{Length, Version}
 use Rattle.refusal.specs.Number.{nowhere}
-use Rattle.wire.specs.Read.{Read, good, bad, ◌>>=◌, ◌>>◌, demand, field}
+use Rattle.wire.specs.Read.{Read, Ok, ◌>>=◌, ◌>>◌, demand, field}
 use Rattle.wire.specs.declared.Head.{Head}
-use Rattle.wire.specs.declared.Opened.{Opened}
-use Rattle.wire.specs.declared.Opened.TheVariants.{Open, Refused}
 
 -- where the version and the kind stand, and where a header goes on behind them
 abbrev pub version_at : ℕ
@@ -22,7 +20,7 @@ unfoldable pub only : List ℕ → (at allowed : ℕ) → Read ℕ
 only s at allowed = do
   n ← field 1 s at
   demand (n == allowed) Version at
-  good n
+  Ok n
 
 -- in this order: the bytes of the header, the length field, the version, the kind
 unfoldable pub read_start : List ℕ → Head → Read Unit
@@ -32,9 +30,4 @@ read_start s head = do
   demand (total == length s) Length nowhere
   v ← only s version_at head.version
   k ← only s kind_at head.kind
-  good tt
-
--- what the function that reads the start answers
-unfoldable pub opened_of : Read Unit → Opened
-opened_of (good a) = Open
-opened_of (bad e) = Refused e
+  Ok tt

@@ -3,14 +3,16 @@
 
 ghost use Rattle.std.specs.Prelude.{◌≡◌, ◌+◌, ◌≤◌, ◌&&◌, length, nat_le, nat_lt};
 ghost use Rattle.wire.specs.Bytes.{number, put};
-ghost use Rattle.wire.specs.Field.{width_of, long_width, field_at};
-ghost use Rattle.wire.specs.Start.{read_start, opened_of, only};
-ghost use Rattle.wire.specs.Read.{found, fault_of, below, source_from};
+ghost use Rattle.wire.specs.Field.{width_of, long_width};
+ghost use Rattle.wire.specs.Read.{field, below, source_from};
+ghost use Rattle.wire.specs.Start.{read_start, only};
 ghost use Rattle.wire.specs.Counts.{read_count};
+ghost use Rattle.wire.specs.Begin.{start};
+ghost use Rattle.wire.specs.Runs.{MayRun, Runs};
 
 use refusal::{Fault, Refusal};
 
-// How many bytes a field has.
+// How many bytes a field has. It is a value and no const parameter, since a count of a header carries its own.
 #[derive(Clone, Copy)]
 pub enum Width {
     One,
@@ -41,37 +43,11 @@ pub const TWO_MORE: u32 = 65536;
 
 pub const TWO_MORE_LONG: u64 = TWO_MORE as u64;
 
-// What reading a field finds: its number, or its fault.
-#[derive(Clone, Copy)]
-pub enum Field {
-    Number(u32),
-    Refused(Fault),
-}
-
 // Too few bytes are LENGTH, and no field's fault.
 pub const SHORT: Fault = Fault {
     refusal: Refusal::Length,
     offset: 0,
 };
-
-impl Field {
-    // The fault of a field that was refused. A number has none: it is taken out before this is asked.
-    pub fn fault(self) -> Fault
-        ensures { result ≡ fault_of self }
-    {
-        match self {
-            Field::Number(_) => SHORT,
-            Field::Refused(e) => e,
-        }
-    }
-}
-
-// The start of a message is as it should be, or its first fault.
-#[derive(Clone, Copy)]
-pub enum Opened {
-    Open,
-    Refused(Fault),
-}
 
 // The header of a kind of message: how long it is, its version and its kind.
 #[derive(Clone, Copy)]
@@ -106,24 +82,27 @@ pub struct State {
     pub prev: u32,
 }
 
-// The state past what was read, or the first fault.
-#[derive(Clone, Copy)]
-pub enum Step {
-    Next(State),
-    Refused(Fault),
+impl State {
+    // Where the records of a list start: none was seen, and no source stands before them.
+    pub fn start(at: usize) -> State
+        ensures { result ≡ start at }
+    {
+        State {
+            at,
+            seen: 0,
+            prev: 0,
+        }
+    }
 }
 
-// The number of a field that is known to fit.
+// The number of a field that is known to fit. Where the width is known, the compiler makes one load of the loop.
 pub fn number_at(s: &[u8], at: usize, width: Width) -> u32
     requires { at + width_of width ≤ length s.now }
     ensures { result ≡ number (width_of width) s.now at }
 {
-    let k = width.bytes();
     let mut n: u32 = 0;
-    let mut i = 0;
-    while i < k {
+    for i in 0..width.bytes() {
         n = n * 256 + (s[at + i] as u32);
-        i += 1;
     }
     n
 }
@@ -140,45 +119,22 @@ pub fn long_at(s: &[u8], at: usize) -> u64
 }
 
 // The field at a position. The last position where one fits does not depend on this one, so a loop needs a single test for each.
-pub fn read(s: &[u8], at: usize, width: Width) -> Field
-    ensures { result ≡ field_at (width_of width) s.now at }
+#[tactic(auto, unfolding(crate::specs::Read::field))]
+pub fn read(s: &[u8], at: usize, width: Width) -> Result<u32, Fault>
+    ensures { result ≡ field (width_of width) s.now at }
 {
     let k = width.bytes();
     if s.len() < k {
-        return Field::Refused(SHORT);
+        return Err(SHORT);
     }
     let last = s.len() - k;
     if last < at {
-        return Field::Refused(SHORT);
+        return Err(SHORT);
     }
-    Field::Number(number_at(s, at, width))
+    Ok(number_at(s, at, width))
 }
 
-// Stores the 2 bytes of a number where they fit: of the number with its bytes swapped the compiler makes one store.
-fn store_two(b: &mut [u8], at: usize, v: u32)
-    requires { at + 2 ≤ length b.old }
-    ensures { b.new ≡ put b.old at 2 v }
-{
-    let swapped = v % 256 * 256 + v / 256 % 256;
-    b[at + 1] = (swapped / 256) as u8;
-    b[at] = (swapped % 256) as u8;
-}
-
-// Stores the 4 bytes of a number where they fit, likewise.
-fn store_four(b: &mut [u8], at: usize, v: u32)
-    requires { at + 4 ≤ length b.old }
-    ensures { b.new ≡ put b.old at 4 v }
-{
-    let front = v % 256 * 256 + v / 256 % 256;
-    let back = v / 256 / 256 % 256 * 256 + v / 256 / 256 / 256 % 256;
-    let swapped = front * 65536 + back;
-    b[at + 3] = (swapped / 16777216) as u8;
-    b[at + 2] = (swapped / 65536 % 256) as u8;
-    b[at + 1] = (swapped / 256 % 256) as u8;
-    b[at] = (swapped % 256) as u8;
-}
-
-// Stores a number's bytes where they fit.
+// Stores a number's bytes where they fit: the compiler makes one store of the copy.
 pub fn store(b: &mut [u8], at: usize, width: Width, v: u32)
     requires { at + width_of width ≤ length b.old }
     ensures { b.new ≡ put b.old at (width_of width) v }
@@ -187,8 +143,11 @@ pub fn store(b: &mut [u8], at: usize, width: Width, v: u32)
         Width::One => {
             b[at] = (v % 256) as u8;
         }
-        Width::Two => store_two(b, at, v),
-        Width::Four => store_four(b, at, v),
+        Width::Two => {
+            let low = (v % TWO_MORE) as u16;
+            b[at..at + 2].copy_from_slice(&low.to_be_bytes());
+        }
+        Width::Four => b[at..at + 4].copy_from_slice(&v.to_be_bytes()),
     }
 }
 
@@ -197,27 +156,19 @@ pub fn store_long(b: &mut [u8], at: usize, v: u64)
     requires { at + long_width ≤ length b.old }
     ensures { b.new ≡ put b.old at long_width v }
 {
-    let mut i = LONG;
-    let mut rest = v;
-    while 0 < i {
-        i -= 1;
-        b[at + i] = (rest % 256) as u8;
-        rest /= 256;
-    }
+    b[at..at + LONG].copy_from_slice(&v.to_be_bytes());
 }
 
 // A field whose number must be below a limit, or this is its fault.
-pub fn read_below(s: &[u8], at: usize, width: Width, limit: u64, fault: Fault) -> Field
-    ensures { result ≡ found (below (width_of width) s.now at limit fault) }
+#[tactic(auto, using(crate::proofs::Reading::reading), unfolding(crate::specs::Read::below))]
+pub fn read_below(s: &[u8], at: usize, width: Width, limit: u64, fault: Fault) -> Result<u32, Fault>
+    ensures { result ≡ below (width_of width) s.now at limit fault }
 {
-    let field = read(s, at, width);
-    let Field::Number(n) = field else {
-        return field;
-    };
+    let n = read(s, at, width)?;
     if limit <= n as u64 {
-        return Field::Refused(fault);
+        return Err(fault);
     }
-    field
+    Ok(n)
 }
 
 // Whether a source is one of n nodes or states and not below the one before it: how far it is above that one, which is at most n, tells
@@ -226,101 +177,89 @@ pub fn follows(source: u32, n: u32, prev: u32) -> bool
     requires { prev ≤ n }
     ensures { result ≡ (nat_lt source n && nat_le prev source) }
 {
-    let above = std::num::wrapping_sub_u32(source, prev);
+    let above = source.wrapping_sub(prev);
     let room = n - prev;
     above < room
 }
 
 // A source, one of n nodes or states and not below the one before it, that stands here in its message.
-pub fn read_source(s: &[u8], at: usize, n: u32, prev: u32, offset: usize) -> Field
+#[tactic(auto, using(crate::proofs::Reading::reading), unfolding(crate::specs::Read::below, crate::specs::Read::source_from))]
+pub fn read_source(s: &[u8], at: usize, n: u32, prev: u32, offset: usize) -> Result<u32, Fault>
     requires { prev ≤ n }
-    ensures { result ≡ found (source_from s.now at n prev offset) }
+    ensures { result ≡ source_from s.now at n prev offset }
 {
-    let field = read(s, at, Width::Two);
-    let Field::Number(source) = field else {
-        return field;
-    };
+    let source = read(s, at, Width::Two)?;
     if follows(source, n, prev) {
-        return field;
+        return Ok(source);
     }
-    if n <= source {
-        return Field::Refused(Fault {
-            refusal: Refusal::Name,
-            offset,
-        });
-    }
-    Field::Refused(Fault {
-        refusal: Refusal::Order,
-        offset,
-    })
+    let refusal = if n <= source {
+        Refusal::Name
+    } else {
+        Refusal::Order
+    };
+    Err(Fault { refusal, offset })
 }
 
 // The start of a message: enough bytes for its header, its length field, version and kind.
-pub fn open(s: &[u8], head: Head) -> Opened
-    ensures { result ≡ opened_of (read_start s.now head) }
+#[tactic(auto, using(crate::proofs::Reading::reading), unfolding(crate::specs::Start::read_start))]
+pub fn open(s: &[u8], head: Head) -> Result<(), Fault>
+    ensures { result ≡ read_start s.now head }
 {
-    let length = head.length;
-    if s.len() < length {
-        return Opened::Refused(SHORT);
+    if s.len() < head.length {
+        return Err(SHORT);
     }
-    let long = read(s, 0, Width::Four);
-    let Field::Number(total) = long else {
-        return Opened::Refused(long.fault());
-    };
+    let total = read(s, 0, Width::Four)?;
     if total as usize != s.len() {
-        return Opened::Refused(SHORT);
+        return Err(SHORT);
     }
-    let version = head.version;
-    let kind = head.kind;
-    let first = read_only(s, VERSION_AT, version);
-    let Field::Number(_) = first else {
-        return Opened::Refused(first.fault());
-    };
-    let second = read_only(s, KIND_AT, kind);
-    let Field::Number(_) = second else {
-        return Opened::Refused(second.fault());
-    };
-    Opened::Open
+    read_only(s, VERSION_AT, head.version)?;
+    read_only(s, KIND_AT, head.kind)?;
+    Ok(())
 }
 
 // A byte that may be this number only: the version or the kind of a message.
-fn read_only(s: &[u8], at: usize, allowed: u32) -> Field
-    ensures { result ≡ found (only s.now at allowed) }
+#[tactic(auto, using(crate::proofs::Reading::reading), unfolding(crate::specs::Start::only))]
+fn read_only(s: &[u8], at: usize, allowed: u32) -> Result<u32, Fault>
+    ensures { result ≡ only s.now at allowed }
 {
-    let field = read(s, at, Width::One);
-    let Field::Number(n) = field else {
-        return field;
-    };
+    let n = read(s, at, Width::One)?;
     if n != allowed {
-        return Field::Refused(Fault {
+        return Err(Fault {
             refusal: Refusal::Version,
             offset: at,
         });
     }
-    field
+    Ok(n)
 }
 
 // A count of a header, in what is allowed.
-pub fn read_count(s: &[u8], count: Count) -> Field
-    ensures { result ≡ found (read_count s.now count) }
+#[tactic(auto, using(crate::proofs::Reading::reading), unfolding(crate::specs::Counts::read_count))]
+pub fn read_count(s: &[u8], count: Count) -> Result<u32, Fault>
+    ensures { result ≡ read_count s.now count }
 {
-    let at = count.at;
-    let width = count.width;
-    let field = read(s, at, width);
-    let Field::Number(n) = field else {
-        return field;
-    };
-    let limit = Fault {
-        refusal: Refusal::Limit,
-        offset: at,
-    };
-    let least = count.least;
-    if n < least {
-        return Field::Refused(limit);
+    let n = read(s, count.at, count.width)?;
+    if n < count.least || count.most < n {
+        return Err(Fault {
+            refusal: Refusal::Limit,
+            offset: count.at,
+        });
     }
-    let most = count.most;
-    if most < n {
-        return Field::Refused(limit);
+    Ok(n)
+}
+
+// k records one behind another, each read by the closure in the state that the ones before it left: the state past them, or the first fault.
+// Their count goes down, so that it alone takes a register.
+pub fn run<F: Fn(State) -> Result<State, Fault>>(
+    k: u32,
+    first: State,
+    read: F,
+) -> Result<State, Fault>
+    requires { MayRun (F.pre read) (F.post read) k first }
+    ensures { Runs (F.post read) k first result }
+{
+    let mut st = first;
+    for _ in (0..k).rev() {
+        st = read(st)?;
     }
-    field
+    Ok(st)
 }

@@ -3,14 +3,17 @@ use Prim.Native.Nat.{ℕ, ◌+◌, ◌<◌, ◌≤◌}
 use mathlib.Core.List.Memᴰ
 use mathlib.Core.List.{List, ◌∷◌, ◌++◌, append_assoc}
 use mathlib.Core.Option.{some}
-use mathlib.Core.Path.{◌≡◌, refl, ap, ◌∙◌}
+use mathlib.Core.Path.{◌≡◌, refl, sym, ap, ◌∙◌}
+use mathlib.Core.Logic.{◌⊎◌, ⊎_elim}
 use native.Mathlib.Omega.{arith}
 use lib.ListN.{length, length-append}
 use Rattle.lists.specs.Lists.{◌∈◌}
+use Rattle.lists.proofs.Places.{first, second}
 use Rattle.lists.proofs.Tests.{by}
 use Rattle.wire.proofs.Stride.{items_get}
 use Rattle.value.specs.declared.Bound.{Bound}
 use Rattle.syntax.specs.Format.{formula_header, row_width, place_of}
+use Rattle.syntax.specs.declared.Action.{Action}
 use Rattle.syntax.specs.declared.Quantifier.{Quantifier}
 use Rattle.syntax.specs.declared.Quantifier.TheVariants.{Some, Every}
 use Rattle.syntax.specs.declared.Row.{Row}
@@ -57,6 +60,11 @@ pub record Around (q : Quantifier) (b : Bound) : Type 0 where
 
 pub around : (q : Quantifier) (b : Bound) → Around q b
 around q b = record { one = one_byte q; spaced = length-append (bound_text b) (word " ") }
+
+-- what stands before the operand of EX or AX
+pub next_length : (q : Quantifier) (k : Action) (b : Bound)
+    → length (quantifier_text q ++ word "X" ++ action_text k ++ bound_text b ++ word " ") ≡ 3 + length (action_text k) + length (bound_text b)
+next_length q k b = simp (length-append, one_byte) (omega arith)
 
 length_made : (row : Row) (t : ℕ → List ℕ) → length (made row t) ≡ made_length row (λ l. length (t l))
 length_made True t = refl
@@ -122,6 +130,13 @@ module _ {s : List ℕ} {i : ℕ} (ready : Ready s i) where
           shorter = omega (arith, row_long, operand_short row (λ l. length (row_text s l)) l inside);
         }
 
+-- the same of the row that stands there, for the check to apply
+pub made_of : (s : List ℕ) (i : ℕ) → Ready s i → row_text s i ≡ made (row_at s (place_of i)) (λ l. row_text s l)
+made_of s i ready = row_made ready refl
+
+pub long_of : (s : List ℕ) (i : ℕ) → Ready s i → length (row_text s i) ≡ made_length (row_at s (place_of i)) (λ l. length (row_text s l))
+long_of s i ready = row_long ready refl
+
 -- the same once the row has been read
 module _ (s : List ℕ) (i : ℕ) {row x : Row} (ready : Ready s i) (read : row ≡ row_at s (place_of i)) (is : row ≡ x) where
   pub read_made : row_text s i ≡ made x (λ l. row_text s l)
@@ -132,3 +147,37 @@ module _ (s : List ℕ) (i : ℕ) {row x : Row} (ready : Ready s i) (read : row 
 
   pub read_operand : (l : ℕ) → l ∈ operands x → Operand s i l
   read_operand l inside = operand ready (by read is) l inside
+
+-- ---- `and` and `or` go the same way
+
+-- the sign between their operands
+abbrev pub sign : Row → List ℕ
+sign (Or l r) = word " | "
+sign row = word " & "
+
+pub sign_length : (row : Row) → length (sign row) ≡ 3
+sign_length True = refl
+sign_length False = refl
+sign_length (Proposition i) = refl
+sign_length (Negation i) = refl
+sign_length (And l r) = refl
+sign_length (Or l r) = refl
+sign_length (Next q k l b) = refl
+sign_length (Until q l r b) = refl
+
+module _ (s : List ℕ) (i : ℕ) {row : Row} (ready : Ready s i) (read : row ≡ row_at s (place_of i)) {l r : ℕ} (two : (row ≡ And l r) ⊎ (row ≡ Or l r)) where
+  pub both_made : row_text s i ≡ word "(" ++ row_text s l ++ sign row ++ row_text s r ++ word ")"
+  both_made =
+      ⊎_elim
+      (λ e. read_made s i ready read e ∙ ap (λ (x : Row). word "(" ++ row_text s l ++ sign x ++ row_text s r ++ word ")") (sym e))
+      (λ e. read_made s i ready read e ∙ ap (λ (x : Row). word "(" ++ row_text s l ++ sign x ++ row_text s r ++ word ")") (sym e))
+      two
+
+  pub both_long : length (row_text s i) ≡ 5 + length (row_text s l) + length (row_text s r)
+  both_long = ⊎_elim (λ e. read_long s i ready read e) (λ e. read_long s i ready read e) two
+
+  pub left : Operand s i l
+  left = ⊎_elim (λ e. read_operand s i ready read e l first) (λ e. read_operand s i ready read e l first) two
+
+  pub right : Operand s i r
+  right = ⊎_elim (λ e. read_operand s i ready read e r second) (λ e. read_operand s i ready read e r second) two

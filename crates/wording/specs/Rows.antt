@@ -1,6 +1,7 @@
 -- The texts of the rows of an accepted message, and what the writing of one needs to know.
-use Rattle.std.specs.Prelude.{ℕ, ◌-◌, ◌/◌, ◌<◌, List, length}
+use Rattle.std.specs.Prelude.{ℕ, ◌-◌, ◌/◌, ◌<◌, List, [], ◌++◌, length, Option, None, Some}
 use Rattle.lists.specs.Lists.{◌∈◌}
+use Rattle.decimals.specs.Decimal.{decimal}
 use Rattle.wire.specs.Layout.{items}
 use Rattle.syntax.specs.Format.{formula_header, row_width}
 use Rattle.syntax.specs.declared.Row.{Row}
@@ -25,3 +26,8 @@ row_text s i = text (formula_of (rows_of s) i)
 pub record Ready (s : List ℕ) (i : ℕ) : Type 0 where
   pub there : i < count_of s
   pub earlier : (j : ℕ) {row : Row} → RowAt (rows_of s) j row → {l : ℕ} → l ∈ operands row → l < j
+
+-- a sign and its number: no number, no sign
+abbrev pub signed_text : List ℕ → Option ℕ → List ℕ
+signed_text sign None = []
+signed_text sign (Some k) = sign ++ decimal k

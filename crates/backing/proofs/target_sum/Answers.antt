@@ -1,6 +1,5 @@
 -- `backing::target_sum` meets its contract.
-use Prim.Native.Nat.{ℕ, ◌*◌}
-use mathlib.Core.Path.{ap, ap₂, ◌∙◌}
+use Rattle.std.proofs.Common.{ℕ, ◌*◌, ap, ap₂, ◌∙◌}
 use Rattle.value.specs.Value.{plus}
 use Rattle.value.specs.Stored.{stored, meaning}
 use Rattle.wire.specs.Bytes.{number}
@@ -10,7 +9,6 @@ use Rattle.backing.proofs.target_sum.Goals as goal
 
 pub returns : goal.returns
 returns c =
-    let a = c.args in
     c.add.ensures
     ∙ ap₂ (λ (w v : ℕ). stored (plus w (meaning v))) c.number_at-weight.ensures
-    (c.value_of-value.ensures ∙ ap (λ (v : ℕ). number long_width a.claims.now (v * claim_width)) c.number_at-node.ensures)
+    (c.value.ensures ∙ ap (λ (v : ℕ). number long_width c.args.claims.bytes.now (v * claim_width)) c.number_at-node.ensures)

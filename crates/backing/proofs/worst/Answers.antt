@@ -13,22 +13,22 @@ use Rattle.backing.proofs.worst.Goals as goal
 use Rattle.backing.proofs.worst.Goals.{In-loop-i}
 
 -- the next target is sound
-here : (c : In-loop-i) → let a = c.args in TargetOk a.s.now a.n c.loop-i.p
+here : (c : In-loop-i) → let a = c.args in TargetOk a.s.now a.claims.nodes c.loop-i.p
 here c = (sound_more _ c.loop-i-test.true c.loop-i.invariant.0).0
 
 pub loop-i-init : goal.loop-i-init
-loop-i-init c = (c.requires.sound, omega arith, omega arith)
+loop-i-init c = (c.requires, omega arith, omega arith)
 
 -- the greatest is infinite already
 pub returns-then-most : goal.returns-then-most
 returns-then-most c =
     let l = c.loop-i in
     let a = c.args in
-    let rest = stored_le (rules.worst (claimed_value a.claims.now) (items (target_layout a.s.now a.n) l.i l.p)) in
+    let rest = stored_le (rules.worst (claimed_value a.claims.bytes.now) (items (target_layout a.s.now a.claims.nodes) l.i l.p)) in
     omega (arith, c.if-most.true, l.invariant.2)
 
-pub target_sum-sum-requires : goal.target_sum-sum-requires
-target_sum-sum-requires c = record { target_ok = here (goal.at.target_sum-sum-requires c).In-loop-i; claim_width_in_bounds = c.requires.claim_width_in_bounds }
+pub target_sum-requires : goal.target_sum-requires
+target_sum-requires c = here (goal.at.target_sum-requires c).In-loop-i
 
 pub overflow_add-p : goal.overflow_add-p
 overflow_add-p c = omega (arith, (here (goal.at.overflow_add-p c).In-loop-i).inside)
@@ -36,8 +36,8 @@ overflow_add-p c = omega (arith, (here (goal.at.overflow_add-p c).In-loop-i).ins
 pub loop-i-preserved : goal.loop-i-preserved
 loop-i-preserved c =
     let l = c.loop-i in
-    let sum = c.target_sum-sum.ensures in
-    let most = c.greatest-most.ensures ∙ greatest_max l.most.0 c.target_sum-sum.result.0 l.invariant.1 (is_stored_le _ sum) in (
+    let sum = c.target_sum.ensures in
+    let most = c.greatest-most.ensures ∙ greatest_max l.most.0 c.target_sum.result.0 l.invariant.1 (is_stored_le _ sum) in (
       (sound_more _ c.loop-i-test.true l.invariant.0).1,
       is_stored_le _ c.greatest-most.ensures,
       worst_turn _ _ _ _ _ _ _ _ l.invariant.2 c.loop-i-test.true (most ∙ ap (max l.most.0) sum),

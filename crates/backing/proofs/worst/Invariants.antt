@@ -1,6 +1,5 @@
 -- `backing::worst` meets its contract: the greatest so far, and that of the targets left, make the whole.
-use Prim.Native.Nat.{◌≤◌, max}
-use mathlib.Core.Path.{◌≡◌}
+use Rattle.std.proofs.Common.{◌≡◌, ◌≤◌, max}
 use Rattle.value.specs.Stored.{stored, infinite}
 use Rattle.wire.specs.Layout.{items, Sound}
 use Rattle.rules.specs.Rounds as rules
@@ -10,9 +9,10 @@ use Rattle.backing.proofs.worst.Given as goal
 
 abbrev pub invariant-loop-i : goal.invariant-loop-i
 invariant-loop-i l =
-    let L = target_layout l.s l.n in
-    let x = claimed_value l.claims in
-    Sound L l.i l.p × (l.most.0 ≤ infinite) × (max l.most.0 (stored (rules.worst x (items L l.i l.p))) ≡ stored (rules.worst x (items L l.k l.at)))
+    let L = target_layout l.s l.claims.nodes in
+    let x = claimed_value l.claims.bytes.now in
+    Sound L l.i l.p × (l.most.0 ≤ infinite)
+    × (max l.most.0 (stored (rules.worst x (items L l.i l.p))) ≡ stored (rules.worst x (items L l.k l.at)))
 
 abbrev pub decreases-loop-i : goal.decreases-loop-i
 decreases-loop-i l = l.i

@@ -1,12 +1,10 @@
--- `chains::take_changed` meets its contract: the records of the first i nodes that are listed are taken in, and the nodes that they change are listed.
-use Prim.Native.Nat.{◌-◌, ◌≤◌}
-use Rattle.changes.specs.Listed.{Listed, Apart}
+-- `chains::take_changed` meets its contract: the records of the first nodes that are listed are taken in, and the nodes that they change are listed.
+use Rattle.changes.specs.Listed.{Listed}
 use Rattle.chains.specs.Taken.{TakenAll}
 use Rattle.chains.proofs.take_changed.Given as goal
 
-abbrev pub invariant-loop-i : goal.invariant-loop-i
-invariant-loop-i l =
-    (l.i ≤ l.many) × TakenAll l.s l.n l.h l.c l.middle l.from l.i l.initial.changed l.heads l.places l.initial.room l.room × Listed l.n l.n l.to l.k l.room l.changed × Apart l.n l.to l.initial.changed l.changed
-
-abbrev pub decreases-loop-i : goal.decreases-loop-i
-decreases-loop-i l = l.many - l.i
+abbrev pub invariant-loop-node : goal.invariant-loop-node
+invariant-loop-node g l = record {
+  taken : TakenAll l.g.bytes.now l.g.nodes l.g.hypers l.g.covers l.g.middle l.node-index l.now.nodes l.lists.heads l.lists.places l.initial.room l.room;
+  listed : Listed l.g.nodes l.g.nodes l.many l.room l.next.nodes;
+}

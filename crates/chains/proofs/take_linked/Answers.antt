@@ -1,69 +1,50 @@
--- `chains::take_linked` meets its contract: the records of the chain up to a place are taken in, and the nodes that they change are listed.
-use Prim.Native.Nat.{◌+◌, ◌-◌, ◌≤◌, ◌<◌}
-use mathlib.Core.Path.{◌≡◌, refl, sym, ap, subst, ◌∙◌}
+-- `chains::take_linked` meets its contract: the next place of the chain is one, and a record stands where it tells.
+use Prim.Native.Nat.{◌+◌, ◌<◌}
+use mathlib.Core.Path.{◌≡◌, refl, ◌∙◌}
 use native.Mathlib.Omega.{arith}
-use lib.ListN.{length}
 use Rattle.wire.specs.Bytes.{number}
-use Rattle.links.specs.Links.{here, further, RecordAt}
+use Rattle.links.specs.Links.{place_at, here, further, RecordAt}
 use Rattle.chains.proofs.Taking.{record_ok, record_source, walking_none, walking_more, walking_all}
-use Rattle.changes.proofs.Listing.{apart_none, apart_on}
+use Rattle.chains.proofs.take_linked.Given.{Over}
 use Rattle.chains.proofs.take_linked.Goals as goal
-use Rattle.chains.proofs.take_linked.Goals.{After-link_of-place, After-source_of-source, In-loop-place}
+use Rattle.chains.proofs.take_linked.Goals.{In-Some}
 
-pub loop-place-init : goal.loop-place-init
-loop-place-init c = (c.requires.head_in_bounds, refl, c.requires.by_index_2, (λ b₀ p l d. walking_none d), c.requires.listed, apart_none)
+pub loop-i-init : goal.loop-i-init
+loop-i-init g c = let index = c.requires.index in
+    record { inside = index.within _; same_length = refl; records = λ q r. (index.records _ q r, index.told _ q r); walking = λ b₀ p l d. walking_none d; listed = c.requires.listed }
 
--- the next place is one, and a record stands there
-inside : (c : In-loop-place) → c.loop-place.place - 1 < length c.args.places.now
-inside c = omega (arith, c.loop-place-test.true, c.loop-place.invariant.0)
+module _ (g : Over) (c : In-Some g) where
+  -- the link leads to place i, where a record stands
+  back : c.loop-i.link ≡ c.in-Some.i + 1
+  back = let is = c.in-Some.ensures in omega (arith, is)
 
-back : (c : In-loop-place) → c.loop-place.place ≡ c.loop-place.place - 1 + 1
-back c = omega (arith, c.loop-place-test.true)
+  at_record : RecordAt c.args.g.bytes.now c.args.g.nodes c.args.g.hypers c.args.g.covers c.args.g.middle (place_at c.args.lists.now.places c.in-Some.i).spot
+  at_record = (c.loop-i.invariant.records _ (here back)).0
 
-at_record : (c : After-source_of-source) → let a = c.args in RecordAt a.s.now a.n a.h a.c a.middle c.spot_of-p.result
-at_record c =
-    let a = c.args in
-    subst (RecordAt a.s.now a.n a.h a.c a.middle) (sym c.spot_of-p.ensures) (c.loop-place.invariant.2 _ (here ((let it : c.loop-place.place ≡ c.loop-place.place - 1 + 1 = omega (arith, c.loop-place-test.true) in it)))).0
+  -- and its source is told
+  told : (place_at c.args.lists.now.places c.in-Some.i).source ≡ number 2 c.args.g.bytes.now (place_at c.args.lists.now.places c.in-Some.i).spot
+  told = (c.loop-i.invariant.records _ (here back)).1
 
-source : (c : After-source_of-source) → let a = c.args in (c.source_of-source.result < a.n) × (c.source_of-source.result ≡ number 2 a.s.now c.spot_of-p.result)
-source c =
-    let is = c.source_of-source.ensures ∙ (c.loop-place.invariant.2 _ (here ((let it : c.loop-place.place ≡ c.loop-place.place - 1 + 1 = omega (arith, c.loop-place-test.true) in it)))).1 ∙ ap (number 2 c.args.s.now) (sym c.spot_of-p.ensures) in
-    (omega (arith, is, record_source c.requires.scannable c.requires.middle_value (at_record c)), is)
+  named : (place_at c.args.lists.now.places c.in-Some.i).source < c.args.g.nodes
+  named = omega (arith, told, record_source c.args.g.sound c.args.g.behind at_record)
 
-pub offset_bounds-places-i : goal.offset_bounds-places-i
-offset_bounds-places-i c = omega (arith, inside c)
+pub take_source-listed-requires-clause-record_ok : goal.take_source-listed-requires-clause-record_ok
+take_source-listed-requires-clause-record_ok g c = record_ok c.args.g.sound c.args.g.behind (at_record g (goal.at.take_source-listed-requires-clause-record_ok g c).In-Some)
 
-pub bounds-places-i : goal.bounds-places-i
-bounds-places-i c = omega (arith, inside (goal.at.bounds-places-i c).In-loop-place)
+pub take_source-listed-requires-clause-source_named : goal.take_source-listed-requires-clause-source_named
+take_source-listed-requires-clause-source_named g c = let t = (goal.at.take_source-listed-requires-clause-source_named g c).In-Some in (named g t, told g t)
 
-pub take_source-k-requires : goal.take_source-k-requires
-take_source-k-requires c = let l = c.loop-place.invariant in
-    record { record_ok = record_ok c.requires.scannable c.requires.middle_value (at_record (goal.at.take_source-k-requires c).After-source_of-source); n_in_bounds = rw l.1 c.requires.n_in_bounds; source_lt_n = source (goal.at.take_source-k-requires c).After-source_of-source; n_bound = c.requires.n_bound; listed = l.4 }
+pub loop-i-preserved : goal.loop-i-preserved
+loop-i-preserved g c =
+    let t = (goal.at.loop-i-preserved g c).In-Some in
+    let l = c.loop-i.invariant in
+    record {
+      inside = omega (arith, l.inside, c.requires.index.falls c.in-Some.i, back g t);
+      same_length = c.take_source-listed.auto.room ∙ l.same_length;
+      records = λ q m. l.records q (further _ (back g t) m);
+      walking = λ b₀ p long d. walking_more (l.walking b₀ p long d) c.args.g.sound c.args.g.behind long _ (back g t) refl (at_record g t) c.take_source-listed.ensures.record_in;
+      listed = c.take_source-listed.ensures.listed;
+    }
 
--- the link of the place leads back
-falls : (c : After-link_of-place) → c.link_of-place.result ≤ c.loop-place.place - 1
-falls c = omega (arith, c.link_of-place.ensures, c.requires.by_index (c.loop-place.place - 1))
-
-pub loop-place-smaller : goal.loop-place-smaller
-loop-place-smaller c = omega (arith, c.loop-place-test.true, falls c)
-
-pub loop-place-preserved : goal.loop-place-preserved
-loop-place-preserved c =
-    let l = c.loop-place.invariant in (
-      omega (arith, inside (goal.at.loop-place-preserved c).In-loop-place, falls c),
-      c.take_source-k.auto.room ∙ l.1,
-      (λ q m. l.2 q (further _ (back (goal.at.loop-place-preserved c).In-loop-place) (rw c.link_of-place.ensures at m))),
-      (λ b₀ p long d. rw c.link_of-place.ensures (walking_more (l.3 b₀ p long d) c.requires.scannable c.requires.middle_value long _ (back (goal.at.loop-place-preserved c).In-loop-place) c.spot_of-p.ensures (at_record (goal.at.loop-place-preserved c).After-source_of-source) c.take_source-k.ensures.record_in)),
-      c.take_source-k.ensures.listed_2,
-      apart_on l.5 c.take_source-k.ensures.apart,
-    )
-
-pub shape_of-changed : goal.shape_of-changed
-shape_of-changed c = c.loop-place.invariant.5.as_long
-
-pub shape_of-room : goal.shape_of-room
-shape_of-room c = c.loop-place.invariant.1
-
-pub returns : goal.returns
-returns c = let l = c.loop-place.invariant in
-    record { listed_2 = l.4; apart = l.5; by_index_3 = λ b₀ p long d. walking_all (l.3 b₀ p long d) (omega arith) }
+pub returns-clause-further : goal.returns-clause-further
+returns-clause-further g c = λ b₀ p long d. walking_all (c.loop-i.invariant.walking b₀ p long d) (omega (arith, c.in_default.ensures))

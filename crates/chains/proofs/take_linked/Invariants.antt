@@ -1,20 +1,24 @@
--- `chains::take_linked` meets its contract: the records of the chain up to a place are taken in, and the nodes that they change are listed.
+-- `chains::take_linked` meets its contract: the records of the chain up to a link are taken in, and the nodes that they change are listed.
 use Prim.Native.Nat.{ℕ, ◌+◌, ◌≤◌}
 use mathlib.Core.List.{List}
 use mathlib.Core.Path.{◌≡◌}
 use lib.ListN.{length, get_or}
 use Rattle.rules.specs.Graph.{Graph}
-use Rattle.links.specs.Links.{spot_of, Reached, RecordAt, Told}
-use Rattle.changes.specs.Listed.{Listed, Apart}
+use Rattle.links.specs.Links.{place_at, Reached, RecordAt, Told}
+use Rattle.changes.specs.Listed.{Listed}
 use Rattle.chains.specs.Taken.{Taken}
 use Rattle.chains.proofs.Taking.{Walking}
 use Rattle.chains.proofs.take_linked.Given as goal
 
-abbrev pub invariant-loop-place : goal.invariant-loop-place
-invariant-loop-place l =
-    (l.place ≤ length l.places) × (length l.room ≡ length l.initial.room) × ((q : ℕ) → Reached l.places q l.place → RecordAt l.s l.n l.h l.c l.middle (spot_of (get_or l.places q 0)) × Told l.s l.places q)
-    × ((b₀ : List ℕ) (p : Graph) → l.n + l.n ≤ length b₀ → Taken l.s l.n l.h l.c l.middle b₀ l.initial.room p → Walking l.s l.n l.h l.c l.middle l.places l.head l.place b₀ l.room p)
-    × Listed l.n l.n l.to l.k l.room l.changed × Apart l.n l.to l.initial.changed l.changed
+abbrev pub invariant-loop-i : goal.invariant-loop-i
+invariant-loop-i g l = record {
+  inside : l.link ≤ length l.lists.places;
+  same_length : length l.room ≡ length l.initial.room;
+  records : (q : ℕ) → Reached l.lists.places q l.link → RecordAt l.g.bytes.now l.g.nodes l.g.hypers l.g.covers l.g.middle (place_at l.lists.places q).spot × Told l.g.bytes.now l.lists.places q;
+  walking : (b₀ : List ℕ) (p : Graph) → l.g.nodes + l.g.nodes ≤ length b₀ → Taken l.g.bytes.now l.g.nodes l.g.hypers l.g.covers l.g.middle b₀ l.initial.room p
+      → Walking l.g.bytes.now l.g.nodes l.g.hypers l.g.covers l.g.middle l.lists.places (get_or l.lists.heads l.v 0) l.link b₀ l.room p;
+  listed : Listed l.g.nodes l.g.nodes l.listed l.room l.nodes;
+}
 
-abbrev pub decreases-loop-place : goal.decreases-loop-place
-decreases-loop-place l = l.place
+abbrev pub decreases-loop-i : goal.decreases-loop-i
+decreases-loop-i g l = l.link

@@ -1,22 +1,26 @@
 -- `claimed::are_marked` meets its contract: no bit is gathered exactly where the nodes passed are marked.
-use Rattle.std.proofs.Common.{get_or, refl, arith, below_more, eqb-true}
-use borrow.Author.Tests.{eqb-false}
+use Rattle.std.proofs.Common.{◌≡◌, ◌+◌, ◌-◌, ◌<◌, get_or, drop, take, sym, ◌∙◌, arith, add_assoc, below_more, length-take, length-drop}
+use Rattle.std.proofs.lemmas.List.{get_or-drop, get_or-take}
 use Rattle.lists.proofs.Apart.{still_same, both_same, none_apart}
 use Rattle.claimed.proofs.are_marked.Goals as goal
+use Rattle.claimed.proofs.are_marked.Goals.{In-loop-mark}
 
-pub loop-v-init : goal.loop-v-init
-loop-v-init c = (omega arith, λ e v l h. absurd (omega arith), λ all. refl)
+-- the next mark of the part is that of the next node, which is one of those asked for
+next : (c : In-loop-mark) → c.loop-mark.mark-index < c.args.to - c.args.from
+next c = omega (arith, c.loop-mark-test.true, simp (length-take, length-drop) at c.loop-mark-test.true)
 
-pub loop-v-preserved : goal.loop-v-preserved
-loop-v-preserved c =
-    let l = c.loop-v in
-    let mark = get_or c.args.marks.now l.v 0 in (
-      omega arith,
-      λ e. below_more _ _ (l.invariant.1 (still_same l.unmarked mark 1 e)) (λ h. both_same l.unmarked mark 1 e),
-      λ all. none_apart l.unmarked mark 1 (l.invariant.2 all) (all l.v c.loop-v-test.true l.invariant.0),
+mark_is : (c : In-loop-mark) → let a = c.args in
+    get_or (take (a.to - a.from) (drop a.from a.marks.now)) c.loop-mark.mark-index 0 ≡ get_or a.marks.now (a.from + c.loop-mark.mark-index) 0
+mark_is c = let a = c.args in
+    get_or-take (a.to - a.from) (drop a.from a.marks.now) c.loop-mark.mark-index 0 (next c) ∙ get_or-drop a.from a.marks.now c.loop-mark.mark-index 0
+
+pub loop-mark-preserved : goal.loop-mark-preserved
+loop-mark-preserved c =
+    let l = c.loop-mark in
+    let here = (goal.at.loop-mark-preserved c).In-loop-mark in
+    let a = c.args in
+    let mark = get_or (take (a.to - a.from) (drop a.from a.marks.now)) l.mark-index 0 in
+    let v = a.from + l.mark-index in (
+      λ e. rw (← add_assoc a.from l.mark-index 1) (below_more _ _ (l.invariant.0 (still_same l.unmarked mark 1 e)) (λ h. sym (mark_is here) ∙ both_same l.unmarked mark 1 e)),
+      λ all. none_apart l.unmarked mark 1 (l.invariant.1 all) (mark_is here ∙ all v (omega (arith, next here)) (omega arith)),
     )
-
-pub returns : goal.returns
-returns c =
-    let l = c.loop-v in
-    (λ e v h. l.invariant.1 (eqb-true _ _ e) v (omega arith), λ e all. eqb-false _ _ e (l.invariant.2 all))

@@ -1,6 +1,7 @@
 -- `export::note` meets its contract: the tally after the entry, and the number of the answer.
 use mathlib.Core.Path.{◌≡◌, ap, ◌∙◌}
-use Rattle.tally.specs.Entered.{answer_number, enter_of}
+use Rattle.refusal.specs.Number.{answer_number}
+use Rattle.tally.specs.Entered.{enter_of}
 use Rattle.tally.specs.declared.Entered.{Entered}
 use Rattle.entries.specs.Returned.{entry_of}
 use Rattle.export.proofs.note.Goals as goal

@@ -1,8 +1,25 @@
 -- `export::otzarvim_graph` meets its contract: the number, the room and the length.
-use mathlib.Core.Path.{ap, subst, ◌∙◌}
-use Rattle.build.specs.Built.{built_number, built_offset, built_length}
+use Prim.Native.Nat.{ℕ}
+use mathlib.Core.Path.{◌≡◌, refl, ap, subst, ◌∙◌}
+use Rattle.std.specs.Result.{result_unwrap_or}
+use Rattle.refusal.specs.Number.{answer_number, answer_offset}
+use Rattle.wire.specs.Read.{Read, Ok, Err}
+use Rattle.build.specs.Built.{built_length}
 use Rattle.states.specs.Promise.{PromiseGraph}
 use Rattle.export.proofs.otzarvim_graph.Goals as goal
 
+-- a refusal has length 0
+unwrapped : (built : Read ℕ) → result_unwrap_or built 0 ≡ built_length built
+unwrapped (Ok n) = refl
+unwrapped (Err e) = refl
+
 pub returns : goal.returns
-returns c = record { value = c.number.ensures ∙ ap built_number c.graph-built.ensures.value; bytes_after = c.graph-built.ensures.room_after; length_after = c.length.ensures ∙ ap built_length c.graph-built.ensures.value; offset_after = c.offset.ensures ∙ ap built_offset c.graph-built.ensures.value; promise_graph = subst (PromiseGraph _ _ _ _) c.graph-built.ensures.value c.graph-built.ensures.promise_graph }
+returns c =
+    let built = c.graph-built.ensures in
+    record {
+      value = c.number.ensures ∙ ap answer_number built.value;
+      bytes_after = built.room_after;
+      length_after = c.unwrap_or.ensures ∙ unwrapped c.graph-built.result ∙ ap built_length built.value;
+      offset_after = c.offset.ensures ∙ ap answer_offset built.value;
+      promise_graph = subst (PromiseGraph _ _ _ _) built.value built.promise_graph;
+    }

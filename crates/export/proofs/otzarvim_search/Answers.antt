@@ -1,6 +1,7 @@
 -- `export::otzarvim_search` meets its contract: each part of the answer, and the words.
 use mathlib.Core.Path.{ap, subst, ◌∙◌}
-use Rattle.search.specs.Answer.{answer_number, answer_offset, answer_verdict, answer_count}
+use Rattle.refusal.specs.Number.{answer_number, answer_offset}
+use Rattle.search.specs.Answer.{answer_verdict, answer_count}
 use Rattle.search.specs.Promise.{Promise}
 use Rattle.export.specs.Results.{found_number}
 use Rattle.export.proofs.otzarvim_search.Goals as goal

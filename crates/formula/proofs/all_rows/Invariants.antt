@@ -1,12 +1,12 @@
 -- `formula::all_rows` meets its contract: the rows that were read, and those that are left, are the whole reading, and the operands of the
 -- first are marked.
-use Prim.Native.Nat.{ℕ, ◌-◌, ◌<◌, ◌≤◌}
+use Prim.Native.Nat.{ℕ, ◌-◌, ◌<◌}
 use mathlib.Core.List.{List}
 use mathlib.Core.Path.{◌≡◌}
 use lib.ListN.{length}
 use Rattle.lists.specs.Lists.{◌∈◌}
 use Rattle.wire.specs.declared.State.{State}
-use Rattle.wire.specs.Step.{start}
+use Rattle.wire.specs.Begin.{start}
 use Rattle.syntax.specs.declared.Row.{Row}
 use Rattle.formula.specs.declared.Uses.{Uses}
 use Rattle.formula.specs.Marked.{Marked}
@@ -28,7 +28,4 @@ pub record Counted (s : List ℕ) (uses : Uses) (p f at place : ℕ) : Type 0 wh
   pub left : Begun (rows s p) f (start formula_header) got (f - place) (here at place)
 
 abbrev pub invariant-loop-place : goal.invariant-loop-place
-invariant-loop-place l = (l.at ≡ place_of l.place) × (l.place ≤ l.f) × Counted l.s l.uses l.p l.f l.at l.place
-
-abbrev pub decreases-loop-place : goal.decreases-loop-place
-decreases-loop-place l = l.f - l.place
+invariant-loop-place l = record { stands : l.at ≡ place_of l.place; counted : Counted l.s l.uses l.p l.f l.at l.place }

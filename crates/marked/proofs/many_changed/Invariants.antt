@@ -1,4 +1,4 @@
--- `marked::many_changed` meets its contract: it reads within the room, and counts no more than it passes.
+-- `marked::many_changed` meets its contract: it counts no more than it passes.
 use Prim.Native.Nat.{◌-◌, ◌≤◌}
 use Rattle.marked.proofs.many_changed.Given as goal
 

@@ -1,51 +1,37 @@
 -- `marked::take_range` meets its contract.
-use mathlib.Core.Path.{sym, subst}
 use native.Mathlib.Omega.{arith}
-use Rattle.wire.specs.Layout.{Sound}
-use Rattle.graph.specs.Layouts.{cover_layout}
-use Rattle.graph.specs.Ready.{Climbs}
-use Rattle.turns.proofs.Loop.{covers_behind}
+use Rattle.graph.proofs.Viewed.{covers_climb}
 use Rattle.marked.proofs.Taking.{range_sound, range_past, took_range}
 use Rattle.marked.proofs.take_range.Goals as goal
-use Rattle.marked.proofs.take_range.Goals.{Start}
-
--- the cover edges stand behind the hyperedges, and their sources never fall
-covers_sound : (c : Start) → Sound (cover_layout c.args.s.now c.args.n) c.args.c c.args.middle
-covers_sound c = covers_behind c.requires.ready c.requires.middle_value
-
-covers_climb : (c : Start) → Climbs c.args.s.now (cover_layout c.args.s.now c.args.n) c.args.c c.args.middle
-covers_climb c = subst (Climbs c.args.s.now (cover_layout c.args.s.now c.args.n) c.args.c) (sym c.requires.middle_value) c.requires.ready.covers_climb
 
 pub next_round-past-requires : goal.next_round-past-requires
 next_round-past-requires c = let d = c.requires.stands in
-    record { sound = range_sound d c.above-k.ensures c.requires.ready.sound.hypers; sound_2 = covers_sound (goal.at.next_round-past-requires c).Start; z_le_c = d.covers_upto; n_in_bounds = c.requires.n_in_bounds }
+    rw c.cover_edges-covers.ensures (record { sound = range_sound d c.saturating_sub-k.ensures c.args.g.ready.sound.hypers; z_le_count = d.covers_upto; n_in_bounds = c.requires.n_in_bounds })
 
 pub hypers_from-from-requires : goal.hypers_from-from-requires
 hypers_from-from-requires c = let d = c.requires.stands in
-    record { sound = c.requires.ready.sound.hypers; climbs = c.requires.ready.hypers_climb; z_le_h = d.upto; at_value = d.there }
+    rw c.hyperedges-hypers.ensures (record { climbs = c.args.g.ready.hypers_climb; z_le_count = d.upto; at_value = d.there })
+
+pub covers_from-covers_from-requires : goal.covers_from-covers_from-requires
+covers_from-covers_from-requires c = rw c.cover_edges-covers.ensures (record { climbs = covers_climb c.args.g; z_le_count = c.requires.stands.covers_upto })
+
+pub covers_to-covers_to-requires : goal.covers_to-covers_to-requires
+covers_to-covers_to-requires c = rw c.cover_edges-covers.ensures (record { climbs = covers_climb c.args.g; z_le_count = c.requires.stands.covers_upto })
 
 pub hypers_to-to-requires : goal.hypers_to-to-requires
 hypers_to-to-requires c = let d = c.requires.stands in
-    record { sound = c.requires.ready.sound.hypers; climbs = c.requires.ready.hypers_climb; z_le_h = d.upto; past_value = range_past d c.above-k.ensures c.next_round-past.ensures.value }
-
-pub covers_from-covers_lo-requires : goal.covers_from-covers_lo-requires
-covers_from-covers_lo-requires c = record { sound = covers_sound (goal.at.covers_from-covers_lo-requires c).Start; climbs = covers_climb (goal.at.covers_from-covers_lo-requires c).Start; z_le_c = c.requires.stands.covers_upto }
-
-pub covers_to-covers_hi-requires : goal.covers_to-covers_hi-requires
-covers_to-covers_hi-requires c = record { sound = covers_sound (goal.at.covers_to-covers_hi-requires c).Start; climbs = covers_climb (goal.at.covers_to-covers_hi-requires c).Start; z_le_c = c.requires.stands.covers_upto }
-
-pub shape_of-room : goal.shape_of-room
-shape_of-room c = c.next_round-past.ensures.done.same_length
+    rw c.hyperedges-hypers.ensures (record { climbs = c.args.g.ready.hypers_climb; z_le_count = d.upto; past_value = range_past d c.saturating_sub-k.ensures (rw c.cover_edges-covers.ensures at c.next_round-past.ensures.value) })
 
 pub returns : goal.returns
 returns c =
-    let hf = c.hypers_from-from.ensures in
-    let ht = c.hypers_to-to.ensures in
-    let cf = c.covers_from-covers_lo.ensures in
-    let ct = c.covers_to-covers_hi.ensures in
-    let near = c.nearer-lo.ensures in
-    let far = c.farther-past_all.ensures in
-    let last = c.farther.ensures in
-    took_range c.requires.stands c.above-k.ensures (omega (arith, last)) (omega (arith, near, far, last, hf.0, ht.0, ct.0)) c.next_round-past.ensures.done
-    (λ j l h. (omega (arith, near, hf.1 j l h), omega (arith, far, last, ht.1 j l h)))
-    (λ j l h. (omega (arith, near, cf.1 j l h), omega (arith, far, last, ct.1 j l h)))
+    let hf = rw c.hyperedges-hypers.ensures at c.hypers_from-from.ensures in
+    let ht = rw c.hyperedges-hypers.ensures at c.hypers_to-to.ensures in
+    let cf = rw c.cover_edges-covers.ensures at c.covers_from-covers_from.ensures in
+    let ct = rw c.cover_edges-covers.ensures at c.covers_to-covers_to.ensures in
+    let done = rw c.cover_edges-covers.ensures at c.next_round-past.ensures.done in
+    let lo = c.min-lo.ensures in
+    let hi = c.max-hi.ensures in
+    let all = c.max.ensures in
+    rw c.whole.ensures (took_range c.requires.stands c.saturating_sub-k.ensures (omega (arith, all)) (omega (arith, lo, hi, all, hf.0, ht.0, ct.0)) done
+    (λ j l h. (omega (arith, lo, hf.1 j l h), omega (arith, hi, all, ht.1 j l h)))
+    (λ j l h. (omega (arith, lo, cf.1 j l h), omega (arith, hi, all, ct.1 j l h))))

@@ -1,31 +1,20 @@
 -- `model::label` meets its contract: the label is read from its part as from the message.
-use Prim.Native.Nat.{ℕ, ◌+◌}
-use mathlib.Core.Path.{◌≡◌, ap, ap₂, ◌∙◌}
-use native.Mathlib.Nat.{add-zero}
-use native.Mathlib.Omega.{arith}
-use Rattle.lists.proofs.Tests.{by}
-use Rattle.refusal.specs.declared.Refusal.TheVariants.{Form}
-use Rattle.wire.specs.Read.{found, below}
-use Rattle.wire.specs.Step.{step}
-use Rattle.wire.proofs.Reading.{reading, found_good, handed, cut_below}
+use Rattle.std.proofs.Common.{◌≡◌, ℕ, ◌+◌, ◌-◌, ◌≤◌, ◌^◌, List, length, take, drop, ◌∙◌, add-zero, arith}
+use Rattle.refusal.specs.declared.Fault.{Fault}
+use Rattle.wire.specs.Read.{below}
+use Rattle.wire.proofs.Reading.{cut_below, faulted, went_on}
 use Rattle.model.specs.Format.{label_width}
 use Rattle.model.specs.Message.{read_label}
 use Rattle.model.proofs.label.Goals as goal
-use Rattle.model.proofs.label.Goals.{After-read_below-label}
 
-label_read : (c : After-read_below-label) → let a = c.args in c.read_below-label.result ≡ found (read_label a.s.now a.p a.st)
+read_here : (s : List ℕ) (at p : ℕ) (e : Fault) {limit : ℕ} → limit ≡ 2 ^ p → at + label_width ≤ length s
+    → below 4 (take (at + label_width - at) (drop at s)) 0 limit e ≡ below 4 s at (2 ^ p) e
+read_here s at p e is inside = rw is (rw add-zero at (cut_below s at (at + label_width) inside 4 0 (2 ^ p) e (omega arith)))
+
+pub returns-in_err-read_below : goal.returns-in_err-read_below
 unfolding read_label
-label_read c =
-    let a = c.args in
-    let at = a.st.at in
-    c.read_below-label.ensures ∙ ap found (cut_below a.s.now at (at + label_width) (omega arith) 4 0 a.limit _ (omega arith))
-    ∙ ap₂ (λ (x y : ℕ). found (below 4 a.s.now x y (record { refusal = Form; offset = at }))) (add-zero at) c.requires.1
-
-pub returns-in_default : goal.returns-in_default
-unfolding step
-returns-in_default c =
-    simp (c.fault.ensures, reading, handed _ (label_read (goal.at.returns-in_default c).After-read_below-label) c.in_default.is)
+returns-in_err-read_below c = faulted _ (c.in_err-read_below.ensures ∙ read_here _ _ _ _ c.requires.1 c.requires.0) c.from_residual.ensures
 
 pub returns : goal.returns
-unfolding step
-returns c = simp (reading, found_good _ (by (label_read (goal.at.returns c).After-read_below-label) c.in-Number.is))
+unfolding read_label
+returns c = went_on _ (c.in_ok-read_below.ensures ∙ read_here _ _ _ _ c.requires.1 c.requires.0)

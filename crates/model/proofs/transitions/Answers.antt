@@ -1,28 +1,20 @@
--- `model::transitions` meets its contract: the i transitions that are left fit, the source before them is at most n, and their run is the whole run.
-use mathlib.Core.Path.{refl}
-use native.Mathlib.Omega.{arith}
-use Rattle.lists.proofs.Tests.{by}
-use Rattle.wire.proofs.Turns.{step_next, turn_next, turn_refused, turn_none}
+-- `model::transitions` meets its contract: those that are left fit, and the source before them is at most n.
+use Rattle.std.proofs.Common.{◌+◌, ◌*◌, ◌≤◌, length, ◌≡◌, arith, rules}
+use Rattle.wire.specs.Read.{Ok}
+use Rattle.wire.specs.Reader.{one}
+use Rattle.wire.proofs.Runs.{may_run, runs_are}
+use Rattle.model.specs.Format.{transition_width}
+use Rattle.model.specs.Message as m
 use Rattle.model.proofs.Good.{transitions_move, transitions_leave}
 use Rattle.model.proofs.transitions.Goals as goal
 
-pub loop-i-init : goal.loop-i-init
-loop-i-init c = let p = c.requires in (omega arith, p.1, refl)
-
-pub transition-read-requires : goal.transition-read-requires
-transition-read-requires c = let p = c.loop-i.invariant in (omega arith, p.1)
-
-pub returns-in_default : goal.returns-in_default
-returns-in_default c =
-    turn_refused _ _ _ _ c.loop-i.invariant.2 (omega arith) c.transition-read.ensures c.in_default.is
-
-pub loop-i-preserved : goal.loop-i-preserved
-loop-i-preserved c =
-    let next = step_next _ (by c.transition-read.ensures c.in-Next.is) in (
-      omega (arith, transitions_move _ _ _ _ next),
-      omega (arith, transitions_leave _ _ _ _ next),
-      turn_next _ _ _ _ c.loop-i.invariant.2 (omega arith) c.transition-read.ensures c.in-Next.is,
-    )
+pub run-requires : goal.run-requires
+run-requires c =
+    let a = c.args in
+    may_run _ _ (λ k st. (st.at + k * transition_width ≤ length a.s.now) × (st.prev ≤ a.n)) (λ k st fit. let here : st.at + transition_width ≤ length a.s.now = omega arith in let most = fit.1 in search rules)
+    (λ k st next fit read.
+    let is : one (m.transitions a.s.now a.n) st ≡ Ok next = search rules in
+    (omega (arith, transitions_move _ _ _ _ is), omega (arith, transitions_leave _ _ _ _ is))) a.k a.first c.requires
 
 pub returns : goal.returns
-returns c = turn_none _ _ _ _ c.loop-i.invariant.2 (omega arith)
+returns c = runs_are (m.transitions c.args.s.now c.args.n) (λ st r read. search rules) c.run.ensures

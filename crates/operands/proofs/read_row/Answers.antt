@@ -5,69 +5,56 @@ use mathlib.Core.Path.{◌≡◌, sym, ap, ◌∙◌}
 use native.Mathlib.Omega.{arith}
 use lib.ListN.{length}
 use borrow.Author.Tests.{lt-leb}
-use Rattle.lists.proofs.Tests.{by}
 use Rattle.refusal.specs.declared.Fault.{Fault}
-use Rattle.wire.specs.declared.Field.{Field}
-use Rattle.wire.specs.declared.Field.TheVariants.{Refused}
 use Rattle.wire.specs.Bytes.{number}
-use Rattle.wire.specs.Field.{field_at}
-use Rattle.wire.specs.Read.{good, below}
+use Rattle.wire.specs.Read.{Err, field}
 use Rattle.wire.proofs.Bytes.{number_below}
 use Rattle.wire.proofs.Fields.{field_value, value_is}
-use Rattle.wire.proofs.Reading.{reading, found_good, handed, below_good, below_over}
+use Rattle.wire.proofs.Reading.{reading, never, passed, below_good, below_over}
 use Rattle.syntax.specs.Format.{left_at, right_at, zero_at, bound_at}
-use Rattle.syntax.specs.Message.{ill_formed, row_from}
-use Rattle.kinds.specs.Kept.{kept, judged}
+use Rattle.syntax.specs.Message.{row_from}
+use Rattle.kinds.specs.Kept.{judged}
 use Rattle.operands.proofs.Keeping.{row_known}
 use Rattle.operands.proofs.read_row.Goals as goal
-use Rattle.operands.proofs.read_row.Goals.{In-Number}
 
 -- a field that fits is not refused
-never_short : {A : Type 0} (k : ℕ) (s : List ℕ) (at : ℕ) {r : Field} {e : Fault} → at + k ≤ length s → r ≡ field_at k s at → r ≡ Refused e → A
-never_short k s at fits read refused =
-    let there = field_value k s at fits in
-    let z : ◌≡◌ {A = ℕ} 0 1 = cc in
-    absurd (omega arith)
+never_short : {A : Type 0} (k : ℕ) (s : List ℕ) (at : ℕ) {e : Fault} → at + k ≤ length s → Err e ≡ field k s at → A
+never_short k s at fits refused = absurd (never (refused ∙ field_value k s at fits))
 
--- the operator is known
-operator_is : (c : In-Number) → let a = c.args in below 1 a.row.now 0 12 (ill_formed a.offset) ≡ good c.in-Number.operator
-operator_is c = found_good _ (by c.read_below-field.ensures c.in-Number.is)
-
-pub returns-in_default : goal.returns-in_default
-unfolding row_from kept
-returns-in_default c =
+pub returns-in_err-operator : goal.returns-in_err-operator
+unfolding row_from
+returns-in_err-operator c =
     let here = field_value 1 c.args.row.now 0 (omega (arith, c.requires.1)) in
-    let over = below_over 1 _ _ _ _ here (handed _ c.read_below-field.ensures c.in_default.is) in
-    simp (c.fault.ensures, over.1, reading, here, lt-leb (number 1 c.args.row.now 0) 11 (omega (arith, over.0)))
+    let over = below_over 1 _ _ _ _ here (sym c.in_err-operator.ensures) in
+    simp (passed c.from_residual.ensures, over.1, reading, here, lt-leb (number 1 c.args.row.now 0) 11 (omega (arith, over.0)))
 
-pub returns-in_default-first : goal.returns-in_default-first
-returns-in_default-first c = never_short 1 _ left_at (omega (arith, c.requires.1)) c.read-first.ensures c.in_default-first.is
+pub returns-in_err-left : goal.returns-in_err-left
+returns-in_err-left c = never_short 1 _ left_at (omega (arith, c.requires.1)) c.in_err-left.ensures
 
-pub returns-in_default-second : goal.returns-in_default-second
-returns-in_default-second c = never_short 1 _ right_at (omega (arith, c.requires.1)) c.read-second.ensures c.in_default-second.is
+pub returns-in_err-right : goal.returns-in_err-right
+returns-in_err-right c = never_short 1 _ right_at (omega (arith, c.requires.1)) c.in_err-right.ensures
 
-pub returns-in_default-third : goal.returns-in_default-third
-returns-in_default-third c = never_short 1 _ zero_at (omega (arith, c.requires.1)) c.read-third.ensures c.in_default-third.is
+pub returns-in_err-zero : goal.returns-in_err-zero
+returns-in_err-zero c = never_short 1 _ zero_at (omega (arith, c.requires.1)) c.in_err-zero.ensures
 
-pub returns-in_default-last : goal.returns-in_default-last
-returns-in_default-last c = never_short 4 _ bound_at (omega (arith, c.requires.1)) c.read-last.ensures c.in_default-last.is
+pub returns-in_err-bound : goal.returns-in_err-bound
+returns-in_err-bound c = never_short 4 _ bound_at (omega (arith, c.requires.1)) c.in_err-bound.ensures
 
 pub read_kind-requires : goal.read_kind-requires
 read_kind-requires c =
     let row = c.args.row.now in
-    let right = by c.read-second.ensures c.in-Number-second.is in (
-      c.requires.0,
-      omega (arith, (below_good 1 _ _ _ _ (operator_is (goal.at.read_kind-requires c).In-Number)).1),
+    let right = sym c.in_ok-right.ensures in (
+      omega (arith, (below_good 1 _ _ _ _ (sym c.in_ok-operator.ensures)).1),
       record {
-        left_told = by c.read-first.ensures c.in-Number-first.is;
+        left_told = sym c.in_ok-left.ensures;
         right_told = right;
-        zero_told = by c.read-third.ensures c.in-Number-third.is;
-        bound_told = by c.read-last.ensures c.in-Number-last.is;
+        zero_told = sym c.in_ok-zero.ensures;
+        bound_told = sym c.in_ok-bound.ensures;
       },
       omega (arith, value_is 1 row right_at right, number_below 1 row right_at (λ i. omega (arith, c.type_inv.row i))),
     )
 
 pub returns : goal.returns
 returns c =
-    let known = below_good 1 _ _ _ _ (operator_is (goal.at.returns c).In-Number) in
+    let known = below_good 1 _ _ _ _ (sym c.in_ok-operator.ensures) in
     c.read_kind.ensures ∙ ap judged (sym (row_known _ 0 _ _ _ known.0 (omega (arith, known.1))))

@@ -1,106 +1,107 @@
 -- `ranking::rank` meets its contract: the passes stand, until one gives no rank or n ranks are given.
-use Prim.Native.Nat.{ℕ, ◌*◌, ◌≤◌}
-use mathlib.Core.Path.{subst}
-use lib.ListN.{length}
-use native.Mathlib.Omega.{arith}
-use Rattle.wire.specs.Layout.{items, end}
+use Rattle.std.proofs.Common.{◌≤◌, refl, arith}
+use Rattle.wire.specs.Layout.{end}
 use Rattle.wire.proofs.Layouts.{items_length}
-use Rattle.rules.specs.Graph.{Cover}
+use Rattle.rules.specs.Graph.{Hyper, Cover}
 use Rattle.graph.specs.Format.{graph_header}
 use Rattle.graph.specs.Layouts.{hyper_layout, cover_layout, decoded}
-use Rattle.support.specs.Claims.{claim_width, claimed_value, claimed_rank}
-use Rattle.support.specs.Backing.{CoverBacks}
+use Rattle.graph.specs.Viewed.{decoded_of}
+use Rattle.support.specs.Claims.{claimed_value, claimed_rank}
+use Rattle.support.specs.Backing.{HyperBacks, CoverBacks}
 use Rattle.ranking.specs.Ranking.{RankedBy}
-use Rattle.ranking.proofs.Giving.{ranked_few, steps_grow}
+use Rattle.ranking.proofs.Giving.{ranked_few, steps_grow, passed_ranked}
 use Rattle.ranking.proofs.Standing.{Standing, standing_none, standing_hypers, standing_covers, all_ranked, none_ranked}
 use Rattle.ranking.proofs.rank.Goals as goal
-use Rattle.ranking.proofs.rank.Goals.{After-rank_covers-next, After-rank_hypers-more, At-loop-i}
+use Rattle.ranking.proofs.rank.Goals.{After-rank_sources-next, After-rank_sources-more, At-loop}
 
 -- few ranks were given
-few : (c : At-loop-i) → c.loop-i.given ≤ 4096
+few : (c : At-loop) → c.loop.given ≤ 4096
 unfolding decoded
-few c = let a = c.args in omega (arith, c.loop-i.invariant.2.counted, ranked_few a.n c.loop-i.claims, c.requires.n_bound)
+few c = omega (arith, c.loop.invariant.1.counted, ranked_few c.args.graph.nodes c.loop.claims, c.requires.nodes_few)
 
-long : (c : At-loop-i) → c.args.n * claim_width ≤ length c.loop-i.claims
+pub loop-init : goal.loop-init
 unfolding decoded
-long c = omega (arith, c.requires.claim_width_in_bounds, c.loop-i.invariant.2.kept.same_length)
+loop-init c = (omega arith, standing_none _ _ c.requires.none_ranked)
 
-pub loop-i-init : goal.loop-i-init
+pub rank_sources-more-requires : goal.rank_sources-more-requires
 unfolding decoded
-loop-i-init c = (omega arith, omega arith, standing_none _ _ c.requires.by_index)
+rank_sources-more-requires c = record {
+  stands = c.args.graph.ready.sound.hypers;
+  same_nodes = refl;
+  all_inside = omega (arith, c.requires.all_inside, c.loop.auto.claims);
+  given_few = omega (arith, few (goal.at.rank_sources-more-requires c).At-loop, c.ranges.graph);
+}
 
-pub rank_hypers-more-requires : goal.rank_hypers-more-requires
-rank_hypers-more-requires c = record { sound = c.requires.ready.sound.hypers; claim_width_in_bounds = long (goal.at.rank_hypers-more-requires c).At-loop-i; h_bound = omega (arith, few (goal.at.rank_hypers-more-requires c).At-loop-i, c.ranges.h) }
-
--- where the ranks stand behind the hyperedges
-hypers : (c : After-rank_hypers-more) → let a = c.args in
-    Standing (decoded a.s.now a.n a.h a.c) a.claims.now c.rank_hypers-more.result c.rank_hypers-more.new.claims
+-- the ranks that the hyperedges gave, and where they stand behind them
+by_hypers : (c : After-rank_sources-more) → RankedBy (decoded_of c.args.graph).hypers (λ (e : Hyper). e.source) (λ b. HyperBacks (claimed_value b) (claimed_rank b))
+    c.loop.given c.loop.claims c.rank_sources-more.result c.rank_sources-more.new.claims
 unfolding decoded
-hypers c =
-    let a = c.args in
-    standing_hypers (decoded a.s.now a.n a.h a.c) c.requires.ready.closed c.requires.claim_width_in_bounds c.loop-i.invariant.2 c.rank_hypers-more.ensures
-    (omega (arith, (let it : c.loop-i.given ≤ 4096 = let a = c.args in omega (arith, c.loop-i.invariant.2.counted, ranked_few a.n c.loop-i.claims, c.requires.n_bound) in it), c.ranges.h, items_length (hyper_layout a.s.now a.n) a.h graph_header))
+by_hypers c = let g = c.args.graph in
+    passed_ranked (hyper_layout g.bytes.now g.nodes) (λ e. e.source) (λ b. HyperBacks (claimed_value b) (claimed_rank b)) g.hypers graph_header c.rank_sources-more.ensures
 
-few_more : (c : After-rank_hypers-more) → c.rank_hypers-more.result ≤ 4096
+hypers : (c : After-rank_sources-more) → c.loop.given ≤ 4096 → Standing (decoded_of c.args.graph) c.args.claims.now c.rank_sources-more.result c.rank_sources-more.new.claims
 unfolding decoded
-few_more c =
-    omega (arith, (hypers c).counted, ranked_few c.args.n c.rank_hypers-more.new.claims, c.requires.n_bound)
+hypers c few = let g = c.args.graph in
+    standing_hypers (decoded_of g) g.ready.closed c.requires.all_inside c.loop.invariant.1 (by_hypers c)
+    (omega (arith, few, c.ranges.graph, items_length (hyper_layout g.bytes.now g.nodes) g.hypers graph_header))
 
-pub rank_covers-next-requires : goal.rank_covers-next-requires
+few_more : (c : After-rank_sources-more) → c.loop.given ≤ 4096 → c.rank_sources-more.result ≤ 4096
 unfolding decoded
-rank_covers-next-requires c = record { sound = rw c.requires.middle_value c.requires.ready.sound.covers; claim_width_in_bounds = omega (arith, c.requires.claim_width_in_bounds, (hypers (goal.at.rank_covers-next-requires c).After-rank_hypers-more).kept.same_length); c_bound = omega (arith, few_more (goal.at.rank_covers-next-requires c).After-rank_hypers-more, c.ranges.c) }
+few_more c few = omega (arith, (hypers c few).counted, ranked_few c.args.graph.nodes c.rank_sources-more.new.claims, c.requires.nodes_few)
 
--- what the pass over the cover edges gave, where they stand
-given : (c : After-rank_covers-next) → let a = c.args in let s = a.s.now in
-    RankedBy (items (cover_layout s a.n) a.c (end (hyper_layout s a.n) a.h graph_header)) (λ (e : Cover). e.source) (λ b. CoverBacks (claimed_value b) (claimed_rank b))
-    c.rank_hypers-more.result c.rank_hypers-more.new.claims c.rank_covers-next.result c.rank_covers-next.new.claims
-given c =
-    let a = c.args in
-    subst (λ (p : ℕ). RankedBy (items (cover_layout a.s.now a.n) a.c p) (λ (e : Cover). e.source) (λ b. CoverBacks (claimed_value b) (claimed_rank b))
-    c.rank_hypers-more.result c.rank_hypers-more.new.claims c.rank_covers-next.result c.rank_covers-next.new.claims) c.requires.middle_value c.rank_covers-next.ensures
-
-covers : (c : After-rank_covers-next) → let a = c.args in
-    Standing (decoded a.s.now a.n a.h a.c) a.claims.now c.rank_covers-next.result c.rank_covers-next.new.claims
+pub rank_sources-next-requires : goal.rank_sources-next-requires
 unfolding decoded
-covers c =
-    let a = c.args in
-    standing_covers (decoded a.s.now a.n a.h a.c) c.requires.ready.closed c.requires.claim_width_in_bounds ((let it : let a = c.args in
-    Standing (decoded a.s.now a.n a.h a.c) a.claims.now c.rank_hypers-more.result c.rank_hypers-more.new.claims = let a = c.args in
-    standing_hypers (decoded a.s.now a.n a.h a.c) c.requires.ready.closed c.requires.claim_width_in_bounds c.loop-i.invariant.2 c.rank_hypers-more.ensures
-    (omega (arith, (let it : c.loop-i.given ≤ 4096 = let a = c.args in omega (arith, c.loop-i.invariant.2.counted, ranked_few a.n c.loop-i.claims, c.requires.n_bound) in it), c.ranges.h, items_length (hyper_layout a.s.now a.n) a.h graph_header)) in it)) (given c)
-    (omega (
-      arith,
-      (let it : c.rank_hypers-more.result ≤ 4096 = omega (
-        arith,
-        ((let it : let a = c.args in
-            Standing (decoded a.s.now a.n a.h a.c) a.claims.now c.rank_hypers-more.result c.rank_hypers-more.new.claims = let a = c.args in
-            standing_hypers (decoded a.s.now a.n a.h a.c) c.requires.ready.closed c.requires.claim_width_in_bounds c.loop-i.invariant.2 c.rank_hypers-more.ensures
-            (omega (arith, (let it : c.loop-i.given ≤ 4096 = let a = c.args in omega (arith, c.loop-i.invariant.2.counted, ranked_few a.n c.loop-i.claims, c.requires.n_bound) in it), c.ranges.h, items_length (hyper_layout a.s.now a.n) a.h graph_header)) in it)).counted,
-        ranked_few c.args.n c.rank_hypers-more.new.claims,
-        c.requires.n_bound,
-      ) in it),
-      c.ranges.c,
-      items_length (cover_layout a.s.now a.n) a.c (end (hyper_layout a.s.now a.n) a.h graph_header),
-    ))
+rank_sources-next-requires c =
+    let here = goal.at.rank_sources-next-requires c in
+    let few = few here.At-loop in
+    record {
+      stands = rw c.args.graph.behind c.args.graph.ready.sound.covers;
+      same_nodes = refl;
+      all_inside = omega (arith, c.requires.all_inside, (hypers here.After-rank_sources-more few).kept.same_length);
+      given_few = omega (arith, few_more here.After-rank_sources-more few, c.ranges.graph);
+    }
 
-pub shape_of-claims-then-next-given : goal.shape_of-claims-then-next-given
-shape_of-claims-then-next-given c = (covers (goal.at.shape_of-claims-then-next-given c).After-rank_covers-next).kept.same_length
+-- the same of the cover edges
+by_covers : (c : After-rank_sources-next) → RankedBy (decoded_of c.args.graph).covers (λ (e : Cover). e.source) (λ b. CoverBacks (claimed_value b) (claimed_rank b))
+    c.rank_sources-more.result c.rank_sources-more.new.claims c.rank_sources-next.result c.rank_sources-next.new.claims
+unfolding decoded
+by_covers c = let g = c.args.graph in
+    rw g.behind at (passed_ranked (cover_layout g.bytes.now g.nodes) (λ (e : Cover). e.source) (λ b. CoverBacks (claimed_value b) (claimed_rank b)) g.covers g.middle
+    c.rank_sources-next.ensures)
+
+covers : (c : After-rank_sources-next) → Standing (decoded_of c.args.graph) c.args.claims.now c.rank_sources-more.result c.rank_sources-more.new.claims
+    → c.rank_sources-more.result ≤ 4096 → Standing (decoded_of c.args.graph) c.args.claims.now c.rank_sources-next.result c.rank_sources-next.new.claims
+unfolding decoded
+covers c before few = let g = c.args.graph in
+    standing_covers (decoded_of g) g.ready.closed c.requires.all_inside before (by_covers c)
+    (omega (arith, few, c.ranges.graph, items_length (cover_layout g.bytes.now g.nodes) g.covers (end (hyper_layout g.bytes.now g.nodes) g.hypers graph_header)))
 
 pub returns-then-next-given : goal.returns-then-next-given
 unfolding decoded
-returns-then-next-given c = let a = c.args in record {
-  kept = (covers (goal.at.returns-then-next-given c).After-rank_covers-next).kept;
-  accepts_claims = none_ranked (decoded a.s.now a.n a.h a.c) c.requires.ready.closed c.requires.claim_width_in_bounds c.requires.agree c.requires.fact
-      (covers (goal.at.returns-then-next-given c).After-rank_covers-next) c.rank_hypers-more.ensures (given (goal.at.returns-then-next-given c).After-rank_covers-next) c.if-next-given.true;
-}
+returns-then-next-given c =
+    let here = goal.at.returns-then-next-given c in
+    let g = c.args.graph in
+    let few = few here.At-loop in
+    let more = here.After-rank_sources-more in
+    let stands = covers here.After-rank_sources-next (hypers more few) (few_more more few) in
+    record {
+      kept = stands.kept;
+      accepts_claims = none_ranked (decoded_of g) g.ready.closed c.requires.all_inside c.requires.agree c.requires.acyclic stands (by_hypers more)
+          (by_covers here.After-rank_sources-next) c.if-next-given.true;
+    }
 
-pub loop-i-preserved : goal.loop-i-preserved
-loop-i-preserved c =
-    (omega arith, omega (arith, c.if-next-given.false, steps_grow c.rank_hypers-more.ensures.steps, steps_grow (given (goal.at.loop-i-preserved c).After-rank_covers-next).steps), covers (goal.at.loop-i-preserved c).After-rank_covers-next)
-
-pub shape_of-claims : goal.shape_of-claims
-shape_of-claims c = c.loop-i.invariant.2.kept.same_length
+pub loop-preserved : goal.loop-preserved
+loop-preserved c =
+    let here = goal.at.loop-preserved c in
+    let few = few here.At-loop in
+    let more = here.After-rank_sources-more in (
+      omega (arith, c.loop.invariant.0, c.if-next-given.false, steps_grow (by_hypers more).steps, steps_grow (by_covers here.After-rank_sources-next).steps),
+      covers here.After-rank_sources-next (hypers more few) (few_more more few),
+    )
 
 pub returns : goal.returns
 unfolding decoded
-returns c = let a = c.args in record { kept = c.loop-i.invariant.2.kept; accepts_claims = all_ranked (decoded a.s.now a.n a.h a.c) c.requires.ready.closed c.requires.claim_width_in_bounds c.requires.agree c.loop-i.invariant.2 (omega arith) }
+returns c = let g = c.args.graph in record {
+  kept = c.loop.invariant.1.kept;
+  accepts_claims = all_ranked (decoded_of g) g.ready.closed c.requires.all_inside c.requires.agree c.loop.invariant.1 (omega (arith, c.loop.invariant.0, c.loop-test.false));
+}

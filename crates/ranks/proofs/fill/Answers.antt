@@ -1,21 +1,19 @@
 -- `ranks::fill` meets its contract: the rounds settle, the claims are begun from them and ranked, and the words are cleared.
-use native.Mathlib.Omega.{arith}
+use Rattle.std.proofs.Common.{◌*◌, ◌≤◌, length, refl, length-take-le, arith}
 use Rattle.graph.specs.Layouts.{decoded}
+use Rattle.graph.specs.Viewed.{decoded_of}
 use Rattle.ranks.proofs.Filling.{begun_agree, filled_rooms}
 use Rattle.ranks.proofs.fill.Goals as goal
 
-pub rank-requires : goal.rank-requires
+pub rank-requires-clause-agree : goal.rank-requires-clause-agree
 unfolding decoded
-rank-requires c = let a = c.args in
-    let g = decoded a.s.now a.nodes a.h a.c in
-    let free = c.requires.fact in
-    let agree = begun_agree g c.requires.ready.closed c.requires.ready.storable free a.words.now c.run.ensures.value c.run.ensures.room_after c.begin.ensures in
-    record { ready = c.requires.ready; middle_value = c.requires.middle_value; n_bound = c.requires.nodes_bound; claim_width_in_bounds = omega (arith, c.requires.claim_width_in_bounds.0, c.begin.ensures.same_length); fact = free; agree = agree; by_index = c.begin.ensures.ranks }
+rank-requires-clause-agree c = let g = c.args.graph in
+    begun_agree (decoded_of g) g.ready.closed g.ready.storable c.requires.acyclic c.args.words.now c.run.ensures.value c.run.ensures.room_after c.begin.ensures
 
 pub returns : goal.returns
 unfolding decoded
 returns c =
-    let a = c.args in
-    let g = decoded a.s.now a.nodes a.h a.c in
-    filled_rooms g c.requires.ready.closed c.requires.ready.storable c.requires.fact c.run.result a.words.now c.run.ensures.room_after c.begin.ensures c.clear.ensures
-    c.rank.ensures.kept c.rank.ensures.accepts_claims
+    let g = c.args.graph in
+    let enough : g.nodes * 8 ≤ length c.run.new.room = omega (arith, c.requires.words_long, c.run.auto.room) in
+    filled_rooms (decoded_of g) g.ready.closed g.ready.storable c.requires.acyclic c.run.result c.args.words.now c.run.ensures.room_after c.begin.ensures
+    (rw (c.fill.ensures.after (λ y e. e), length-take-le (g.nodes * 8) c.run.new.room enough) refl) c.rank.ensures.kept c.rank.ensures.accepts_claims

@@ -1,12 +1,11 @@
 -- `records::put_looked` meets its contract, for either kind of action.
-use native.Mathlib.Omega.{arith}
 use Rattle.records.proofs.put_looked.Goals as goal
 
 pub put_nearby-requires : goal.put_nearby-requires
-put_nearby-requires c = record { reads = c.requires.reads; many_in_bounds = rw c.in-Any.is at c.requires.many_in_bounds; low_le_high = omega arith }
+put_nearby-requires c = record { named = c.requires.named; shift_fits = c.requires.shift_fits; inside = rw c.in-Any.is at c.requires.inside }
 
 pub put_nearby-requires-in-Only : goal.put_nearby-requires-in-Only
-put_nearby-requires-in-Only c = record { reads = c.requires.reads; many_in_bounds = rw c.in-Only.is at c.requires.many_in_bounds; low_le_high = omega arith }
+put_nearby-requires-in-Only c = record { named = c.requires.named; shift_fits = c.requires.shift_fits; inside = rw c.in-Only.is at c.requires.inside }
 
 pub returns-in-Any : goal.returns-in-Any
 returns-in-Any c = rw c.in-Any.is c.put_nearby.ensures

@@ -7,9 +7,9 @@ use Rattle.graph.specs.Format.{hyper_width, target_width}
 use Rattle.scans.proofs.Scan.{Left}
 use Rattle.scans.proofs.take_hypers.Given as goal
 
-abbrev pub invariant-loop-i : goal.invariant-loop-i
-invariant-loop-i l =
-    Left l.s l.n l.from l.to l.k l.at l.initial.room l.room l.i l.p × ((v : ℕ) → get_or l.room v 0 ≤ infinite) × (l.stride ≡ hyper_width + l.last * target_width)
+abbrev pub invariant-loop-left : goal.invariant-loop-left
+invariant-loop-left g l =
+    Left l.s l.n 0 l.n l.k l.at l.initial.room l.room l.left l.p × ((v : ℕ) → get_or l.room v 0 ≤ infinite) × (l.stride ≡ hyper_width + l.last * target_width)
 
-abbrev pub decreases-loop-i : goal.decreases-loop-i
-decreases-loop-i l = l.i
+abbrev pub decreases-loop-left : goal.decreases-loop-left
+decreases-loop-left g l = l.left

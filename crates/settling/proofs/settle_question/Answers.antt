@@ -1,104 +1,111 @@
 -- `settling::settle_question` meets its contract: the graph is refused, or it is built, and the rounds on it are passed on.
 use Prim.Native.Nat.{ℕ, ◌*◌, ◌-◌, ◌≤◌}
+use mathlib.Core.List.{List}
 use mathlib.Core.Path.{◌≡◌, sym, ap, ◌∙◌}
 use native.Mathlib.Nat.{mul-le-mul}
 use native.Mathlib.Omega.{arith}
 use lib.ListN.{length, take}
 use Rattle.lists.proofs.Tests.{by}
+use Rattle.wire.specs.Read.{Ok}
+use Rattle.wire.proofs.Reading.{passed as handed}
 use Rattle.graph.specs.WellFormed.{WellFormed}
 use Rattle.graph.specs.Write.{write_graph}
 use Rattle.turns.specs.declared.Outcome.{Outcome}
 use Rattle.graph.proofs.Ready.{Written, header_inside, written_ready}
 use Rattle.transitions.proofs.Accepted.{states_few, rows_length}
-use Rattle.questions.specs.Question.{Question, graph_for}
-use Rattle.questions.specs.Asking.{held_question}
+use Rattle.questions.specs.declared.asked.Asked.{Asked}
+use Rattle.questions.specs.Question.{graph_for}
+use Rattle.questions.specs.Asking.{question_of}
+use Rattle.build.specs.Built.{built_room}
 use Rattle.settling.proofs.Settling.{fits_well, WasBuilt, was_built, Shows, shows_as, shows_refused, front, front_inside, values_inside, passed, shows_ran, held_done}
 use Rattle.settling.proofs.settle_question.Goals as goal
-use Rattle.settling.proofs.settle_question.Goals.{After-number_at-covers, After-run, In-Graph, Start}
-
-abbrev question : Start → Question
-question s = held_question s.args.m.now s.args.n s.args.p s.args.t s.args.f.now s.args.k
+use Rattle.settling.proofs.settle_question.Goals.{In_ok-length, After-number_at-covers, After-run}
 
 -- there are rows
-some_row : (s : Start) → 1 ≤ s.args.k
-some_row s = omega (arith, s.requires.holds_rows.well_formed.some_row, rows_length s.args.f.now s.args.k)
+some_row : (asked : Asked) → 1 ≤ asked.formula.rows
+some_row asked = let f = asked.formula in omega (arith, f.holds.well_formed.some_row, rows_length f.bytes.now f.rows)
 
--- the graph was built, and is read back
-built : (c : In-Graph) → let a = c.args in
-    WasBuilt (graph_for (held_question c.args.m.now c.args.n c.args.p c.args.t c.args.f.now c.args.k)) a.bytes.now (length a.values.now) c.in-Graph.long
-built c = was_built _ _ _ (by c.build.ensures.value c.in-Graph.is)
+-- a graph that was built: its message stands at the front of its room, and it is well-formed
+module _ (asked : Asked) {b b' : List ℕ} {n long : ℕ} (built : WasBuilt (graph_for (question_of asked)) b n long) (room : b' ≡ built_room (graph_for (question_of asked)) b n) where
+  message : take long b' ≡ write_graph (graph_for (question_of asked))
+  message = front built room
 
--- and its message stands at the front of its room
-message : (c : In-Graph) → take c.in-Graph.long c.build.new.room ≡ write_graph (graph_for (held_question c.args.m.now c.args.n c.args.p c.args.t c.args.f.now c.args.k))
-message c = front (built c) c.build.ensures.room_after
+  well : WellFormed (graph_for (question_of asked))
+  well = fits_well (question_of asked) asked.model.holds.well_formed asked.formula.holds.well_formed built.fitting
 
-well : (c : In-Graph) → WellFormed (graph_for (held_question c.args.m.now c.args.n c.args.p c.args.t c.args.f.now c.args.k))
-well c = fits_well (held_question c.args.m.now c.args.n c.args.p c.args.t c.args.f.now c.args.k) c.requires.holds_model.well_formed c.requires.holds_rows.well_formed (built c).fitting
-
-header : (c : In-Graph) → 14 ≤ length (take c.in-Graph.long c.build.new.room)
-header c = header_inside _ _ (well c) (message c)
+  header : 14 ≤ length (take long b')
+  header = header_inside _ _ well message
 
 in_header : {k n : ℕ} → k ≤ 14 → 14 ≤ n → k ≤ n
 in_header p q = omega arith
 
+built : (c : In_ok-length) → WasBuilt (graph_for (question_of c.args.asked)) c.args.bytes.now (length c.args.values.now) c.in_ok-length.length
+built c = was_built _ _ _ (by c.build.ensures.value c.in_ok-length.was)
+
 -- the counts are read from it, so the rounds on it are those on the graph
-counted : (c : After-number_at-covers) → Written (take c.in-Graph.long c.build.new.room) (graph_for (held_question c.args.m.now c.args.n c.args.p c.args.t c.args.f.now c.args.k))
-    c.number_at-nodes.result c.number_at-hypers.result c.number_at-covers.result
-counted c =
-    written_ready _ _ (let it : WellFormed (graph_for (held_question c.args.m.now c.args.n c.args.p c.args.t c.args.f.now c.args.k)) = fits_well (held_question c.args.m.now c.args.n c.args.p c.args.t c.args.f.now c.args.k) c.requires.holds_model.well_formed c.requires.holds_rows.well_formed (let it : let a = c.args in
-    WasBuilt (graph_for (held_question c.args.m.now c.args.n c.args.p c.args.t c.args.f.now c.args.k)) a.bytes.now (length a.values.now) c.in-Graph.long = was_built _ _ _ (by c.build.ensures.value c.in-Graph.is) in it).fitting in it) (let it : take c.in-Graph.long c.build.new.room ≡ write_graph (graph_for (held_question c.args.m.now c.args.n c.args.p c.args.t c.args.f.now c.args.k)) = front (let it : let a = c.args in
-    WasBuilt (graph_for (held_question c.args.m.now c.args.n c.args.p c.args.t c.args.f.now c.args.k)) a.bytes.now (length a.values.now) c.in-Graph.long = was_built _ _ _ (by c.build.ensures.value c.in-Graph.is) in it) c.build.ensures.room_after in it) c.number_at-nodes.ensures c.number_at-hypers.ensures c.number_at-covers.ensures
+counted : (c : After-number_at-covers) → WasBuilt (graph_for (question_of c.args.asked)) c.args.bytes.now (length c.args.values.now) c.in_ok-length.length
+    → Written (take c.in_ok-length.length c.build.new.room) (graph_for (question_of c.args.asked)) c.number_at-nodes.result c.number_at-hypers.result c.number_at-covers.result
+counted c was =
+    let room = c.build.ensures.room_after in
+    written_ready _ _ (well c.args.asked was room) (message c.args.asked was room) c.number_at-nodes.ensures c.number_at-hypers.ensures c.number_at-covers.ensures
 
--- what the rounds on it ended in is passed on
-ran : (c : After-run) (r : Outcome) → c.run.result ≡ r → Shows (held_question c.args.m.now c.args.n c.args.p c.args.t c.args.f.now c.args.k) c.args.budget c.args.bytes.now c.args.values.now (passed (held_question c.args.m.now c.args.n c.args.p c.args.t c.args.f.now c.args.k) c.in-Graph.long r)
-    c.build.new.room c.run.new.room
-ran c r e =
-    shows_ran _ _ _ _ (let it : let a = c.args in
-    WasBuilt (graph_for (held_question c.args.m.now c.args.n c.args.p c.args.t c.args.f.now c.args.k)) a.bytes.now (length a.values.now) c.in-Graph.long = was_built _ _ _ (by c.build.ensures.value c.in-Graph.is) in it) (let it : Written (take c.in-Graph.long c.build.new.room) (graph_for (held_question c.args.m.now c.args.n c.args.p c.args.t c.args.f.now c.args.k))
-    c.number_at-nodes.result c.number_at-hypers.result c.number_at-covers.result = written_ready _ _ (let it : WellFormed (graph_for (held_question c.args.m.now c.args.n c.args.p c.args.t c.args.f.now c.args.k)) = fits_well (held_question c.args.m.now c.args.n c.args.p c.args.t c.args.f.now c.args.k) c.requires.holds_model.well_formed c.requires.holds_rows.well_formed (let it : let a = c.args in
-    WasBuilt (graph_for (held_question c.args.m.now c.args.n c.args.p c.args.t c.args.f.now c.args.k)) a.bytes.now (length a.values.now) c.in-Graph.long = was_built _ _ _ (by c.build.ensures.value c.in-Graph.is) in it).fitting in it) (let it : take c.in-Graph.long c.build.new.room ≡ write_graph (graph_for (held_question c.args.m.now c.args.n c.args.p c.args.t c.args.f.now c.args.k)) = front (let it : let a = c.args in
-    WasBuilt (graph_for (held_question c.args.m.now c.args.n c.args.p c.args.t c.args.f.now c.args.k)) a.bytes.now (length a.values.now) c.in-Graph.long = was_built _ _ _ (by c.build.ensures.value c.in-Graph.is) in it) c.build.ensures.room_after in it) c.number_at-nodes.ensures c.number_at-hypers.ensures c.number_at-covers.ensures in it).is c.build.ensures.room_after c.run.ensures.value c.run.ensures.room_after e
-
-pub build-requires : goal.build-requires
-build-requires c = record { holds_model = c.requires.holds_model; holds_rows = c.requires.holds_rows }
-
-pub returns-in-Refused : goal.returns-in-Refused
-returns-in-Refused c = let it = shows_refused _ _ _ _ (by c.build.ensures.value c.in-Refused.is) c.build.ensures.room_after in record { value = it.0; bytes_after = it.1.0; values_after = it.1.1 }
+pub returns-in_err-length : goal.returns-in_err-length
+returns-in_err-length c =
+    let shown = shows_refused _ _ _ _ (by c.build.ensures.value c.in_err-length.was) c.build.ensures.room_after in
+    rw (handed c.from_residual.ensures) (record { value = shown.0; bytes_after = shown.1.0; values_after = shown.1.1 })
 
 pub overflow_sub-first : goal.overflow_sub-first
-overflow_sub-first c = some_row (goal.at.overflow_sub-first c).Start
+overflow_sub-first c = some_row c.args.asked
 
 pub overflow_mul-first : goal.overflow_mul-first
 overflow_mul-first c =
-    let few : c.args.k - 1 ≤ 64 = omega (arith, c.requires.holds_rows.rows_fit) in
-    let small : c.args.n * (c.args.k - 1) ≤ 256 * 64 = mul-le-mul (states_few c.requires.holds_model) few in
+    let asked = c.args.asked in
+    let few : asked.formula.rows - 1 ≤ 64 = omega (arith, asked.formula.holds.rows_fit) in
+    let small : asked.model.states * (asked.formula.rows - 1) ≤ 256 * 64 = mul-le-mul (states_few asked.model.holds) few in
     omega (arith, small)
 
 pub slice_bounds-message-end : goal.slice_bounds-message-end
-slice_bounds-message-end c = front_inside (built c) c.build.ensures.room_after
+slice_bounds-message-end c = front_inside (built (goal.at.slice_bounds-message-end c).In_ok-length) c.build.ensures.room_after
 
 pub slice_bounds-message-end-2 : goal.slice_bounds-message-end-2
-slice_bounds-message-end-2 c = (built c).long_is ∙ ap length (sym (message c))
+slice_bounds-message-end-2 c =
+    let was = built (goal.at.slice_bounds-message-end-2 c).In_ok-length in
+    was.long_is ∙ ap length (sym (message c.args.asked was c.build.ensures.room_after))
 
 pub number_at-nodes-requires : goal.number_at-nodes-requires
-number_at-nodes-requires c = in_header (omega arith) (header c)
+number_at-nodes-requires c = in_header (omega arith) (header c.args.asked (built (goal.at.number_at-nodes-requires c).In_ok-length) c.build.ensures.room_after)
 
 pub number_at-hypers-requires : goal.number_at-hypers-requires
-number_at-hypers-requires c = in_header (omega arith) (header (goal.at.number_at-hypers-requires c).In-Graph)
+number_at-hypers-requires c = in_header (omega arith) (header c.args.asked (built (goal.at.number_at-hypers-requires c).In_ok-length) c.build.ensures.room_after)
 
 pub number_at-covers-requires : goal.number_at-covers-requires
-number_at-covers-requires c = in_header (omega arith) (header (goal.at.number_at-covers-requires c).In-Graph)
+number_at-covers-requires c = in_header (omega arith) (header c.args.asked (built (goal.at.number_at-covers-requires c).In_ok-length) c.build.ensures.room_after)
+
+pub invariant_of-g : goal.invariant_of-g
+invariant_of-g c = let place = goal.at.invariant_of-g c in record { ready = (counted place.After-number_at-covers (built place.In_ok-length)).ready }
 
 pub run-requires : goal.run-requires
-run-requires c = let w = counted (goal.at.run-requires c).After-number_at-covers in
-    record { ready = w.ready; n_in_bounds = rw w.nodes (values_inside (built (goal.at.run-requires c).In-Graph)) }
+run-requires c =
+    let place = goal.at.run-requires c in
+    let was = built place.In_ok-length in
+    rw (counted place.After-number_at-covers was).nodes (values_inside was)
+
+-- what the rounds on it ended in is passed on
+ran : (c : After-run) (r : Outcome) → c.run.result ≡ r → WasBuilt (graph_for (question_of c.args.asked)) c.args.bytes.now (length c.args.values.now) c.in_ok-length.length
+    → Written (take c.in_ok-length.length c.build.new.room) (graph_for (question_of c.args.asked)) c.number_at-nodes.result c.number_at-hypers.result c.number_at-covers.result
+    → Shows (question_of c.args.asked) c.args.budget c.args.bytes.now c.args.values.now (Ok (passed (question_of c.args.asked) c.in_ok-length.length r)) c.build.new.room c.run.new.room
+ran c r e was w = shows_ran _ _ _ _ was w.is c.build.ensures.room_after c.run.ensures.value c.run.ensures.room_after e
 
 pub returns-in-Settled : goal.returns-in-Settled
-returns-in-Settled c = let a = c.args in
-    let it = shows_as _ _ _ _ (held_done a.m.now a.n a.p a.t a.f.now a.k _ _) (ran (goal.at.returns-in-Settled c).After-run _ c.in-Settled.is) in record { value = it.0; bytes_after = it.1.0; values_after = it.1.1 }
+returns-in-Settled c =
+    let place = goal.at.returns-in-Settled c in
+    let was = built place.In_ok-length in
+    let shown = shows_as _ _ _ _ (ap Ok (held_done c.args.asked _ _)) (ran place.After-run _ c.in-Settled.is was (counted place.After-number_at-covers was)) in
+    record { value = shown.0; bytes_after = shown.1.0; values_after = shown.1.1 }
 
 pub returns-in-Spent : goal.returns-in-Spent
-returns-in-Spent c = let it = ran (goal.at.returns-in-Spent c).After-run _ c.in-Spent.is in record { value = it.0; bytes_after = it.1.0; values_after = it.1.1 }
-
-pub returns-in-Refused-run : goal.returns-in-Refused-run
-returns-in-Refused-run c = let it = ran (goal.at.returns-in-Refused-run c).After-run _ c.in-Refused-run.is in record { value = it.0; bytes_after = it.1.0; values_after = it.1.1 }
+returns-in-Spent c =
+    let place = goal.at.returns-in-Spent c in
+    let was = built place.In_ok-length in
+    let shown = ran place.After-run _ c.in-Spent.is was (counted place.After-number_at-covers was) in
+    record { value = shown.0; bytes_after = shown.1.0; values_after = shown.1.1 }

@@ -1,48 +1,51 @@
 -- `sizing::count_untils` meets its contract: those counted, and those to come, make the whole.
+use Prim.Native.Nat.{ℕ, ◌+◌, ◌<◌}
 use mathlib.Core.Bool.{true, false}
+use mathlib.Core.List.{List}
 use mathlib.Core.Path.{◌≡◌, sym, ap, ◌∙◌}
 use native.Mathlib.Omega.{arith}
-use Rattle.syntax.specs.Format.{formula_header}
-use Rattle.syntax.specs.Layouts.{row_at, row_layout}
-use Rattle.reduction.specs.Built.{is_until}
-use Rattle.transitions.specs.Held.{held_rows}
-use Rattle.transitions.proofs.Counting.{passing_le, passing_none, passing_here, passing_there}
+use lib.ListN.{length}
+use Rattle.lists.specs.Making.{keep}
+use Rattle.lists.proofs.Kept.{keep_length, keep_pass, keep_fail}
+use Rattle.syntax.specs.declared.Row.{Row}
+use Rattle.syntax.specs.Format.{place_of}
+use Rattle.syntax.specs.Layouts.{row_at}
+use Rattle.reduction.specs.Built.{is_until, untils}
+use Rattle.transitions.specs.Views.{rows_of}
+use Rattle.transitions.proofs.Accepted.{rows_length, rows_after, rows_first, rows_left, rows_none}
 use Rattle.sizing.proofs.Untils.{not_until}
 use Rattle.sizing.proofs.count_untils.Goals as goal
-use Rattle.sizing.proofs.count_untils.Goals.{In-Until, In_default}
+use Rattle.sizing.proofs.count_untils.Goals.{in-Until, in_default}
 
--- whether the next row is an until
-until : (c : In-Until) → is_until (row_at c.args.f.now c.loop-i.at) ≡ true
-until c = ap is_until (sym c.row_at-row.ensures ∙ c.in-Until.is)
+-- the row at hand is an until, or not
+module _ (f : List ℕ) (k i : ℕ) (below : i < k) (row : Row) (here : row ≡ row_at f (place_of i)) where
+  until : is_until row ≡ true → length (untils (rows_after f k i)) ≡ 1 + length (untils (rows_after f k (i + 1)))
+  until is = rw (rows_left f k i below) (ap length (keep_pass is_until (row_at f (place_of i)) (rows_after f k (i + 1)) (ap is_until (sym here) ∙ is)) ∙ omega arith)
 
-other : (c : In_default) → is_until (row_at c.args.f.now c.loop-i.at) ≡ false
-other c = ap is_until (sym c.row_at-row.ensures) ∙ not_until c.row_at-row.result c.in_default.not-Until
+  other : is_until row ≡ false → length (untils (rows_after f k i)) ≡ length (untils (rows_after f k (i + 1)))
+  other is = rw (rows_left f k i below) (ap length (keep_fail is_until (row_at f (place_of i)) (rows_after f k (i + 1)) (ap is_until (sym here) ∙ is)))
 
 pub loop-i-init : goal.loop-i-init
-loop-i-init c = (omega arith, omega arith)
+loop-i-init c = rw (rows_first c.args.f.bytes.now c.args.f.rows) (omega arith)
 
 pub overflow_add-untils : goal.overflow_add-untils
 overflow_add-untils c =
-    let l = c.loop-i in
-    let f = c.args.f.now in
-    let k = c.args.k in
-    omega (arith, passing_here (row_layout f) is_until l.i l.at (omega arith) (until c), passing_le (row_layout f) is_until k formula_header)
-
-pub loop-i-preserved-in-Until : goal.loop-i-preserved-in-Until
-loop-i-preserved-in-Until c =
-    let l = c.loop-i in
-    let f = c.args.f.now in
-    (omega arith, omega (arith, passing_here (row_layout f) is_until l.i l.at (omega arith) (until c)))
+    let f = c.args.f in
+    let one = until f.bytes.now f.rows c.loop-i.i c.loop-i-test.true c.row.result c.row.ensures (ap is_until c.in-Until.is) in
+    omega (arith, one, keep_length is_until (rows_of f), rows_length f.bytes.now f.rows, f.holds.rows_fit, c.loop-i.invariant)
 
 pub loop-i-preserved : goal.loop-i-preserved
 loop-i-preserved c =
-    let l = c.loop-i in
-    let f = c.args.f.now in
-    (omega arith, omega (arith, passing_there (row_layout f) is_until l.i l.at (omega arith) (other c)))
+    let f = c.args.f in
+    let i = c.loop-i.i in
+    let row = c.row.result in
+    let one = until f.bytes.now f.rows i c.loop-i-test.true row c.row.ensures in
+    let none = other f.bytes.now f.rows i c.loop-i-test.true row c.row.ensures in
+    elim c.match-row.branch [
+      | in-Until w ↦ omega (arith, w.untils-is, one (ap is_until w.in-Until.is), c.loop-i.invariant)
+      | in_default w ↦ omega (arith, w.untils-is, none (not_until row w.in_default.not-Until), c.loop-i.invariant)
+    ]
 
 pub returns : goal.returns
-unfolding held_rows
-returns c =
-    let l = c.loop-i in
-    let f = c.args.f.now in
-    omega (arith, passing_none (row_layout f) is_until l.i l.at (omega arith))
+unfolding keep
+returns c = let none = rw (rows_none c.args.f.bytes.now c.args.f.rows c.loop-i.i c.loop-i-test.false) at c.loop-i.invariant in omega (arith, none)

@@ -2,7 +2,7 @@
 use Prim.Native.Nat.{ℕ, ◌*◌, ◌-◌, ◌≤◌}
 use mathlib.Core.Path.{◌≡◌}
 use Rattle.syntax.specs.declared.Quantifier.TheVariants.{Every}
-use Rattle.transitions.specs.Held.{held_model}
+use Rattle.transitions.specs.Views.{model_of}
 use Rattle.sizing.specs.declared.Size.{Size}
 use Rattle.sizing.specs.Size.{add_size, sizes}
 use Rattle.sizing.proofs.Sums.{next_at}
@@ -13,8 +13,5 @@ sum_of a targets most = record { hypers = a; targets = targets; most = most }
 
 abbrev pub invariant-loop-a : goal.invariant-loop-a
 invariant-loop-a l =
-    let z = next_at (held_model l.m l.n l.p l.t) Every l.action l.bound in
-    (l.a ≤ l.n) × (l.targets ≤ l.a * 65535) × (add_size (sum_of l.a l.targets l.most) (sizes z l.a (l.n - l.a)) ≡ sizes z 0 l.n)
-
-abbrev pub decreases-loop-a : goal.decreases-loop-a
-decreases-loop-a l = l.n - l.a
+    let z = next_at (model_of l.table.model) Every l.action l.bound in
+    (l.targets ≤ l.a * 65535) × (add_size (sum_of l.a l.targets l.most) (sizes z l.a (l.n - l.a)) ≡ sizes z 0 l.n)

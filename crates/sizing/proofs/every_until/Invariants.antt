@@ -2,7 +2,7 @@
 use Prim.Native.Nat.{ℕ, ◌*◌, ◌-◌, ◌≤◌}
 use mathlib.Core.Path.{◌≡◌}
 use Rattle.syntax.specs.declared.Quantifier.TheVariants.{Every}
-use Rattle.transitions.specs.Held.{held_model}
+use Rattle.transitions.specs.Views.{model_of}
 use Rattle.sizing.specs.declared.Size.{Size}
 use Rattle.sizing.specs.Size.{add_size, sizes}
 use Rattle.sizing.proofs.Sums.{step_at}
@@ -13,8 +13,6 @@ sum_of hypers targets most = record { hypers = hypers; targets = targets; most =
 
 abbrev pub invariant-loop-a : goal.invariant-loop-a
 invariant-loop-a l =
-    let z = step_at (held_model l.m l.n l.p l.t) Every in
-    (l.a ≤ l.n) × (l.hypers ≤ l.a * 2) × (l.targets ≤ l.a * 65537) × (add_size (sum_of l.hypers l.targets l.most) (sizes z l.a (l.n - l.a)) ≡ sizes z 0 l.n)
-
-abbrev pub decreases-loop-a : goal.decreases-loop-a
-decreases-loop-a l = l.n - l.a
+    let n = l.table.model.states in
+    let z = step_at (model_of l.table.model) Every in
+    (l.hypers ≤ l.a * 2) × (l.targets ≤ l.a * 65537) × (add_size (sum_of l.hypers l.targets l.most) (sizes z l.a (n - l.a)) ≡ sizes z 0 n)

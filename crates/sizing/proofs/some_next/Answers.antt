@@ -1,17 +1,22 @@
 -- `sizing::some_next` meets its contract: the states' transitions are the model's.
 use mathlib.Core.Path.{refl, ap, sym, ◌∙◌}
-use native.Mathlib.Omega.{arith}
+use Rattle.lists.specs.Making.{keep}
 use Rattle.syntax.specs.declared.Quantifier.TheVariants.{Some}
+use Rattle.reduction.specs.Built.{looks_at}
+use Rattle.model.specs.Model.{Transition}
+use Rattle.transitions.specs.Held.{held_model}
 use Rattle.sizing.specs.Size.{next_size}
 use Rattle.sizing.proofs.Sizes.{same}
 use Rattle.sizing.proofs.Sums.{all_nexts}
+use lib.ListN.{length}
+use mathlib.Core.List.{List}
 use Rattle.sizing.proofs.some_next.Goals as goal
 
-pub near_count-near-requires : goal.near_count-near-requires
-near_count-near-requires c = omega (arith, c.requires.long)
-
 pub returns : goal.returns
+unfolding held_model
 returns c =
-    let count = c.near_count-near.result in
-    same {x = record { hypers = count; targets = count; most = c.any_of.result }} {y = next_size Some count} refl refl c.any_of.ensures
-    ∙ ap (next_size Some) c.near_count-near.ensures ∙ sym (all_nexts c.requires c.args.action c.args.bound)
+    let a = c.args in
+    let all = ap (λ (us : List Transition). next_size Some (length (keep (looks_at a.action a.bound) us))) c.all.ensures in
+    let near = c.count_near-near.result in
+    same {x = record { hypers = near; targets = near; most = c.min.result }} {y = next_size Some near} refl refl c.min.ensures
+    ∙ ap (next_size Some) c.count_near-near.ensures ∙ all ∙ sym (all_nexts a.m.holds a.action a.bound)

@@ -5,8 +5,5 @@ use Rattle.sizing.proofs.Sizes.{same}
 use Rattle.sizing.proofs.Sums.{all_steps}
 use Rattle.sizing.proofs.some_until.Goals as goal
 
-pub overflow_add-result-3 : goal.overflow_add-result-3
-overflow_add-result-3 c = omega (arith, c.any_of.ensures)
-
 pub returns : goal.returns
-returns c = same refl refl (omega (arith, c.any_of.ensures)) ∙ sym (all_steps c.requires)
+returns c = same refl refl (omega (arith, c.min.ensures)) ∙ sym (all_steps c.args.m.holds)

@@ -1,18 +1,11 @@
 -- `sizing::total_size` meets its contract: the sum, and the size of the rows that are left, make the whole.
-use Prim.Native.Nat.{◌+◌, ◌*◌, ◌≤◌}
 use mathlib.Core.Path.{◌≡◌}
-use lib.ListN.{length}
-use Rattle.wire.specs.Layout.{items}
-use Rattle.syntax.specs.Format.{row_width}
-use Rattle.syntax.specs.Layouts.{row_layout}
-use Rattle.transitions.specs.Held.{held_model, held_rows}
+use Rattle.transitions.specs.Views.{model_of, rows_of}
+use Rattle.transitions.proofs.Accepted.{rows_after}
 use Rattle.sizing.specs.Size.{add_size, size_of, rows_edges}
 use Rattle.sizing.proofs.total_size.Given as goal
 
 abbrev pub invariant-loop-i : goal.invariant-loop-i
 invariant-loop-i l =
-    let M = held_model l.m l.n l.p l.t in
-    (l.at + l.i * row_width ≤ length l.f) × (add_size l.sum (size_of (rows_edges M (items (row_layout l.f) l.i l.at))) ≡ size_of (rows_edges M (held_rows l.f l.k)))
-
-abbrev pub decreases-loop-i : goal.decreases-loop-i
-decreases-loop-i l = l.i
+    let M = model_of l.table.model in
+    add_size l.sum (size_of (rows_edges M (rows_after l.f.bytes.now l.f.rows l.i))) ≡ size_of (rows_edges M (rows_of l.f))

@@ -65,4 +65,4 @@ returns-then-d-eq0 c = omega (arith, four (goal.at.returns-then-d-eq0 c).After-b
 
 pub returns : goal.returns
 returns c =
-    c.lesser.ensures ∙ ap₂ min c.lesser-front.ensures c.lesser-back.ensures ∙ sym (four (goal.at.returns c).After-below_infinite-d)
+    c.min.ensures ∙ ap₂ min c.min-front.ensures c.min-back.ensures ∙ sym (four (goal.at.returns c).After-below_infinite-d)

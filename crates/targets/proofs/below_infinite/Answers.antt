@@ -13,7 +13,7 @@ use Rattle.halves.specs.Held.{held}
 use Rattle.targets.specs.Below.{below}
 use Rattle.targets.proofs.Below.{below_one}
 use Rattle.targets.proofs.below_infinite.Goals as goal
-use Rattle.targets.proofs.below_infinite.Goals.{After-number_at-node, After-struct_known-1}
+use Rattle.targets.proofs.below_infinite.Goals.{After-number_at-node}
 
 pub number_at-weight-requires : goal.number_at-weight-requires
 number_at-weight-requires c = omega (arith, c.requires.target_ok.inside)
@@ -38,7 +38,7 @@ pub overflow_sub-below : goal.overflow_sub-below
 overflow_sub-below c = omega (arith, c.type_inv.x c.number_at-node.result)
 
 -- the sum is stored as it is, or infinite where 64 bits don't hold it
-sum : (c : After-struct_known-1) → let a = c.args in
+sum : (c : After-number_at-node) → let a = c.args in
     below (held a.x.now) (items (target_layout a.s.now a.n) 1 a.at)
     ≡ infinite - min (c.number_at-weight.result + get_or a.x.now c.number_at-node.result 0) infinite
 sum c =
@@ -50,7 +50,7 @@ sum c =
     omega (arith, below_one a.s.now a.n (held x) a.at, stored-sum, same, c.number_at-weight.ensures)
 
 pub returns-then-below-weight : goal.returns-then-below-weight
-returns-then-below-weight c = omega (arith, sum (goal.at.returns-then-below-weight c).After-struct_known-1, c.if-below-weight.true, c.type_inv.x c.number_at-node.result)
+returns-then-below-weight c = omega (arith, sum (goal.at.returns-then-below-weight c).After-number_at-node, c.if-below-weight.true, c.type_inv.x c.number_at-node.result)
 
 pub returns : goal.returns
-returns c = omega (arith, sum (goal.at.returns c).After-struct_known-1, c.if-below-weight.false, c.type_inv.x c.number_at-node.result)
+returns c = omega (arith, sum (goal.at.returns c).After-number_at-node, c.if-below-weight.false, c.type_inv.x c.number_at-node.result)

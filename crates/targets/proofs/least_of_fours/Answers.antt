@@ -14,7 +14,7 @@ use Rattle.targets.proofs.least_of_fours.Goals.{After-below_four-four, In-loop-p
 pub loop-p-init : goal.loop-p-init
 loop-p-init c =
     let a = c.args in
-    let (i, e, sound) = c.requires.by_index in (
+    let (i, e, sound) = c.requires.whole_number in (
       i,
       e,
       sound,
@@ -48,13 +48,7 @@ turn c next k e whole =
     let a = c.args in
     let l = c.loop-p in
     let i = l.invariant.0 in
-    let some = ((let it : let a = c.args in let l = c.loop-p in let L = target_layout a.s.now a.n in
-    Sound L 4 l.p × Sound L ((l.invariant.0 - 1) * 4) (l.p + 4 * target_width) × (0 < l.invariant.0) = let a = c.args in
-    let l = c.loop-p in
-    let i = l.invariant.0 in
     let some : 0 < i = omega (arith, c.loop-p-test.true, l.invariant.1) in
-    let parts = sound_parts a.s.now a.n 4 (i * 4) l.p ((i - 1) * 4) (l.p + 4 * target_width) (omega arith) refl l.invariant.2 in
-    (parts.0, parts.1, some) in it)).2 in
     below_turn a.s.now a.n 4 (i * 4) l.p ((i - 1) * 4) (l.p + 4 * target_width) (omega arith) refl (held a.x.now) l.least next _ (l.invariant.4 k whole) (omega (arith, e, c.below_four-four.ensures))
 
 pub returns-then-four-eq0 : goal.returns-then-four-eq0
@@ -72,8 +66,8 @@ loop-p-preserved c =
       l.invariant.0 - 1,
       omega (arith, (here (goal.at.loop-p-preserved c).In-loop-p).2, l.invariant.1),
       (here (goal.at.loop-p-preserved c).In-loop-p).1,
-      omega (arith, c.lesser-least.ensures, l.invariant.3),
-      λ k whole. turn (goal.at.loop-p-preserved c).After-below_four-four _ k c.lesser-least.ensures whole,
+      omega (arith, c.min-least.ensures, l.invariant.3),
+      λ k whole. turn (goal.at.loop-p-preserved c).After-below_four-four _ k c.min-least.ensures whole,
     )
 
 pub returns : goal.returns

@@ -15,7 +15,7 @@ use Rattle.targets.proofs.least_with.Goals.{After-below_infinite-one, In-loop-p}
 pub loop-p-init : goal.loop-p-init
 loop-p-init c =
     let a = c.args in
-    let (i, e, sound) = c.requires.by_index in (
+    let (i, e, sound) = c.requires.whole_number in (
       i,
       e,
       sound,
@@ -46,11 +46,7 @@ turn c next k e whole =
     let a = c.args in
     let l = c.loop-p in
     let i = l.invariant.0 in
-    let some = ((let it : let a = c.args in let l = c.loop-p in
-    TargetOk a.s.now a.n l.p × Sound (target_layout a.s.now a.n) (l.invariant.0 - 1) (l.p + target_width) × (0 < l.invariant.0) = let l = c.loop-p in
-    let some : 0 < l.invariant.0 = omega (arith, c.loop-p-test.true, l.invariant.1) in
-    let parts = sound_more _ some l.invariant.2 in
-    (parts.0, parts.1, some) in it)).2 in
+    let some : 0 < i = omega (arith, c.loop-p-test.true, l.invariant.1) in
     below_turn a.s.now a.n 1 i l.p (i - 1) (l.p + target_width) (omega arith) refl (held a.x.now) l.least next _ (l.invariant.4 k whole) (omega (arith, e, c.below_infinite-one.ensures))
 
 pub returns-then-one-eq0 : goal.returns-then-one-eq0
@@ -68,8 +64,8 @@ loop-p-preserved c =
       l.invariant.0 - 1,
       omega (arith, (here (goal.at.loop-p-preserved c).In-loop-p).2, l.invariant.1),
       (here (goal.at.loop-p-preserved c).In-loop-p).1,
-      omega (arith, c.lesser-least.ensures, l.invariant.3),
-      λ k whole. turn (goal.at.loop-p-preserved c).After-below_infinite-one _ k c.lesser-least.ensures whole,
+      omega (arith, c.min-least.ensures, l.invariant.3),
+      λ k whole. turn (goal.at.loop-p-preserved c).After-below_infinite-one _ k c.min-least.ensures whole,
     )
 
 pub returns : goal.returns

@@ -5,7 +5,5 @@ use Rattle.transitions.proofs.past_state.Given as goal
 
 abbrev pub invariant-loop-i : goal.invariant-loop-i
 invariant-loop-i l =
-    (l.first ≤ l.i) × (l.i ≤ l.t) × (l.i + leading l.a (transitions_from l.m l.n l.i (l.t - l.i)) ≡ l.first + leading l.a (transitions_from l.m l.n l.first (l.t - l.first)))
-
-abbrev pub decreases-loop-i : goal.decreases-loop-i
-decreases-loop-i l = l.t - l.i
+    (l.first ≤ l.i) × (l.i ≤ l.m.transitions)
+    × (l.i + leading l.a (transitions_from l.m.bytes.now l.m.states l.i (l.m.transitions - l.i)) ≡ l.first + leading l.a (transitions_from l.m.bytes.now l.m.states l.first (l.m.transitions - l.first)))

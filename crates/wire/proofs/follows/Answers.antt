@@ -14,7 +14,4 @@ tells source n prev above most fits small wraps =
     (λ unnamed. let high = ltb-false source n unnamed in rw unnamed (le-ltb above (n - prev) (omega arith)))
 
 pub returns : goal.returns
-returns c =
-    let w = c.wrapping_sub_u32-above in
-    let a = c.args in
-    tells a.source a.n a.prev w.result c.requires (omega arith) (omega arith) w.ensures.value
+returns c = let a = c.args in tells a.source a.n a.prev _ c.requires (omega arith) (omega arith) (omega arith)

@@ -1,14 +1,13 @@
 -- `message::put_helpers` meets its contract: the helpers of the rows left make the whole.
+use Prim.Native.Nat.{◌-◌}
 use Rattle.reduction.specs.Built.{untils}
-use Rattle.transitions.specs.Held.{held_model, held_rows}
+use Rattle.syntax.specs.Format.{place_of}
+use Rattle.transitions.specs.Views.{model_of, rows_of}
 use Rattle.records.specs.Bytes.{helpers_bytes}
 use Rattle.build.proofs.Helpers.{RowsLeft}
 use Rattle.build.proofs.message.put_helpers.Given as goal
 
 abbrev pub invariant-loop-i : goal.invariant-loop-i
 invariant-loop-i l =
-    let M = held_model l.m l.n l.p l.t in
-    RowsLeft M l.f l.initial.room l.at (helpers_bytes M l.k (untils (held_rows l.f l.k))) l.room l.next l.row_at l.h l.i
-
-abbrev pub decreases-loop-i : goal.decreases-loop-i
-decreases-loop-i l = l.i
+    let M = model_of l.table.model in
+    RowsLeft M l.f.bytes.now l.initial.room l.at (helpers_bytes M l.f.rows (untils (rows_of l.f))) l.room l.next (place_of l.i) l.h (l.f.rows - l.i)

@@ -1,4 +1,5 @@
 -- `Tally::enter` meets its contract: NAME, then LIMIT, then the entry is counted.
+use Rattle.std.specs.Prelude.{Ok}
 use mathlib.Core.Path.{◌≡◌, sym, ◌∙◌, ap, ap₂}
 use Prim.Native.Nat.{◌<◌}
 use lib.ListN.{length}
@@ -6,7 +7,6 @@ use mathlib.Core.Bool.{true}
 use native.Mathlib.Omega.{arith}
 use Rattle.lists.proofs.Tests.{by}
 use Rattle.tally.specs.declared.Tally.{Tally}
-use Rattle.tally.specs.declared.Answer.TheVariants as Answer
 use Rattle.entries.specs.Entries.{is_entry, rounds_of, count_place}
 use Rattle.tally.specs.Tally.{takes_more, counted_at}
 use Rattle.tally.proofs.Counting.{one_of}
@@ -46,5 +46,5 @@ returns c =
     let a = c.args in
     let same : c.counted-tally.result ≡ counted_at a.self (count_place a.entry) (rounds_of a.entry) =
     c.counted-tally.ensures ∙ ap₂ (counted_at a.self) c.place.ensures c.rounds-rounds.ensures in
-    ap (λ (t : Tally). record { tally = t; answer = Answer.Accepted }) same
+    ap (λ (t : Tally). record { tally = t; answer = Ok tt }) same
     ∙ sym (entry_counted _ _ (is_one (goal.at.returns c).After-is_entry c.if-not-is_entry.false) (by (room (goal.at.returns c).After-takes_more) c.if-not-takes_more.false))

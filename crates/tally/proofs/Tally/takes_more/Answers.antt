@@ -5,10 +5,10 @@ use Rattle.lists.proofs.Tests.{by}
 use Rattle.tally.proofs.Answers.{sum_test, takes_none, takes_sum}
 use Rattle.tally.proofs.Tally.takes_more.Goals as goal
 
-pub returns-then-not-below_most : goal.returns-then-not-below_most
-returns-then-not-below_most c = sym (takes_none _ _ (by c.below_most.ensures c.if-not-below_most.true))
+pub returns-else-below_most : goal.returns-else-below_most
+returns-else-below_most c = let a = c.args in c.if-below_most.false ∙ sym (takes_none a.self a.rounds (by c.below_most.ensures c.if-below_most.false))
 
-pub returns : goal.returns
-returns c =
+pub returns-then-below_most : goal.returns-then-below_most
+returns-then-below_most c =
     let a = c.args in
-    sum_test a.self.sum a.rounds (omega arith) ∙ sym (takes_sum _ _ (by c.below_most.ensures c.if-not-below_most.false))
+    sum_test a.self.sum a.rounds (omega arith) ∙ sym (takes_sum _ _ (by c.below_most.ensures c.if-below_most.true))

@@ -1,7 +1,0 @@
--- `formula::count_use` meets its contract: one use more, and the row's bit is set.
-use mathlib.Core.Path.{refl}
-use Rattle.formula.proofs.Marks.{mark_more}
-use Rattle.formula.proofs.count_use.Goals as goal
-
-pub returns : goal.returns
-returns c = record { total_value = refl; by_index = λ ls m. mark_more c.args.row c.requires.0 m }
