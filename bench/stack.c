@@ -125,8 +125,8 @@ static void formula_check(void)
 
 static void rounds_solve(void)
 {
-    number = otzarvim_rounds_solve(graph, graph_length, 5, room, OTZARVIM_MOST_VALUES, &count, &offset) |
-             otzarvim_rounds_solve(linked, linked_length, UINT32_MAX, room, OTZARVIM_MOST_VALUES, &count, &offset);
+    number = otzarvim_rounds_solve(graph, graph_length, 5, room, OTZARVIM_MOST_VALUES, &count, &offset);
+    number |= otzarvim_rounds_solve(linked, linked_length, UINT32_MAX, room, OTZARVIM_MOST_VALUES, &count, &offset);
 }
 
 static void search(void)
@@ -136,8 +136,8 @@ static void search(void)
 
 static void claims_write(void)
 {
-    number = otzarvim_claims_write(linked, linked_length, claims, sizeof claims, room, sizeof room / sizeof *room, &offset) |
-             otzarvim_claims_write(deep, deep_length, claims, sizeof claims, room, sizeof room / sizeof *room, &offset);
+    number = otzarvim_claims_write(linked, linked_length, claims, sizeof claims, room, sizeof room / sizeof *room, &offset);
+    number |= otzarvim_claims_write(deep, deep_length, claims, sizeof claims, room, sizeof room / sizeof *room, &offset);
 }
 
 /* Of the claims that were just written. */
@@ -165,8 +165,8 @@ static void formula_text(void)
 static void decide(void)
 {
     number = otzarvim_verdict(ring, ring_length, asked, asked_length, 255, 4096, built, sizeof built, room, OTZARVIM_MOST_VALUES, &verdict,
-                              &count, &length, &offset) |
-             otzarvim_verdict(model, model_length, asked, asked_length, 255, 5, built, sizeof built, room, OTZARVIM_MOST_VALUES, &verdict,
+                              &count, &length, &offset);
+    number |= otzarvim_verdict(model, model_length, asked, asked_length, 255, 5, built, sizeof built, room, OTZARVIM_MOST_VALUES, &verdict,
                               &count, &length, &offset);
 }
 
@@ -178,8 +178,8 @@ static void build(void)
 static void settle(void)
 {
     number = otzarvim_settle(ring, ring_length, asked, asked_length, 4096, built, sizeof built, room, OTZARVIM_MOST_VALUES, &count, &length,
-                             states, &offset) |
-             otzarvim_settle(model, model_length, asked, asked_length, 5, built, sizeof built, room, OTZARVIM_MOST_VALUES, &count, &length,
+                             states, &offset);
+    number |= otzarvim_settle(model, model_length, asked, asked_length, 5, built, sizeof built, room, OTZARVIM_MOST_VALUES, &count, &length,
                              states, &offset);
 }
 
