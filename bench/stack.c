@@ -42,6 +42,19 @@ static uint32_t words[1 << 17];
 static uint32_t counts[3], count, states[2];
 static uint8_t number, verdict;
 
+/* A chain of so many nodes, of which the first ones have cover edges that lie on no cycle. */
+static size_t acyclic(uint8_t *message, uint32_t nodes, uint32_t covers)
+{
+    start(message, 1);
+    put(nodes, 2), put(nodes, 4), put(covers, 2);
+    for (uint32_t i = 0; i + 1 < nodes; i++)
+        put(i, 2), put(1, 2), put(i, 4), put(i + 1, 2);
+    put(nodes - 1, 2), put(0, 2);
+    for (uint32_t i = 0; i < covers; i++)
+        put(i, 2), put(i, 4), put(i + 1, 2);
+    return finish(message);
+}
+
 /* A chain of nodes with cover edges, one for the search that ends, one whose cover edges lie on no cycle and a
  * shorter one, small enough to be linked; a model with every count at its limit and a ring of states, whose graph is linked; 64 rows, each an operand of the next, with actions of three digits and bounds of ten, and a formula with untils within an until, EX and AX, whose
  * graph is large; and a tally whose report is the longest. */
@@ -60,22 +73,8 @@ static void inputs(void)
         put(i, 2), put(1, 2), put(0, 4), put(i + 1, 2);
     put(4095, 2), put(0, 2);
     plain_length = finish(plain);
-    start(deep, 1);
-    put(4096, 2), put(4096, 4), put(4095, 2);
-    for (uint32_t i = 0; i < 4095; i++)
-        put(i, 2), put(1, 2), put(i, 4), put(i + 1, 2);
-    put(4095, 2), put(0, 2);
-    for (uint32_t i = 0; i < 4095; i++)
-        put(i, 2), put(i, 4), put(i + 1, 2);
-    deep_length = finish(deep);
-    start(linked, 1);
-    put(3000, 2), put(3000, 4), put(1000, 2);
-    for (uint32_t i = 0; i < 2999; i++)
-        put(i, 2), put(1, 2), put(i, 4), put(i + 1, 2);
-    put(2999, 2), put(0, 2);
-    for (uint32_t i = 0; i < 1000; i++)
-        put(i, 2), put(i, 4), put(i + 1, 2);
-    linked_length = finish(linked);
+    deep_length = acyclic(deep, 4096, 4095);
+    linked_length = acyclic(linked, 3000, 1000);
     start(model, 2);
     put(256, 2), put(32, 1), put(65535, 4);
     for (uint32_t i = 0; i < 256; i++)
