@@ -33,17 +33,30 @@ static size_t touched(void (*f)(void))
     return STACK - low;
 }
 
-static uint8_t graph[1 << 20], plain[1 << 20], deep[1 << 20], model[1 << 20], formula[1024], asked[1024], text[4096];
+static uint8_t graph[1 << 20], plain[1 << 20], deep[1 << 20], linked[1 << 20], model[1 << 20], ring[1 << 13], formula[1024], asked[1024], text[4096];
 static uint8_t built[OTZARVIM_MOST_GRAPH], claims[OTZARVIM_CLAIM * OTZARVIM_MOST_NODES];
-static size_t graph_length, plain_length, deep_length, model_length, formula_length, asked_length, length, offset;
+static size_t graph_length, plain_length, deep_length, linked_length, model_length, ring_length, formula_length, asked_length, length, offset;
 static uint64_t room[8 * OTZARVIM_MOST_NODES], taken;
 static otzarvim_tally tally, longest;
 static uint32_t words[1 << 17];
 static uint32_t counts[3], count, states[2];
 static uint8_t number, verdict;
 
-/* A chain of nodes with cover edges, one for the search that ends, one whose cover edges lie on no cycle, a model with every count at
- * its limit, 64 rows, each an operand of the next, with actions of three digits and bounds of ten, and a formula with untils within an until, EX and AX, whose
+/* A chain of so many nodes, of which the first ones have cover edges that lie on no cycle. */
+static size_t acyclic(uint8_t *message, uint32_t nodes, uint32_t covers)
+{
+    start(message, 1);
+    put(nodes, 2), put(nodes, 4), put(covers, 2);
+    for (uint32_t i = 0; i + 1 < nodes; i++)
+        put(i, 2), put(1, 2), put(i, 4), put(i + 1, 2);
+    put(nodes - 1, 2), put(0, 2);
+    for (uint32_t i = 0; i < covers; i++)
+        put(i, 2), put(i, 4), put(i + 1, 2);
+    return finish(message);
+}
+
+/* A chain of nodes with cover edges, one for the search that ends, one whose cover edges lie on no cycle and a
+ * shorter one, small enough to be linked; a model with every count at its limit and a ring of states, whose graph is linked; 64 rows, each an operand of the next, with actions of three digits and bounds of ten, and a formula with untils within an until, EX and AX, whose
  * graph is large; and a tally whose report is the longest. */
 static void inputs(void)
 {
@@ -60,14 +73,8 @@ static void inputs(void)
         put(i, 2), put(1, 2), put(0, 4), put(i + 1, 2);
     put(4095, 2), put(0, 2);
     plain_length = finish(plain);
-    start(deep, 1);
-    put(4096, 2), put(4096, 4), put(4095, 2);
-    for (uint32_t i = 0; i < 4095; i++)
-        put(i, 2), put(1, 2), put(i, 4), put(i + 1, 2);
-    put(4095, 2), put(0, 2);
-    for (uint32_t i = 0; i < 4095; i++)
-        put(i, 2), put(i, 4), put(i + 1, 2);
-    deep_length = finish(deep);
+    deep_length = acyclic(deep, 4096, 4095);
+    linked_length = acyclic(linked, 3000, 1000);
     start(model, 2);
     put(256, 2), put(32, 1), put(65535, 4);
     for (uint32_t i = 0; i < 256; i++)
@@ -75,6 +82,13 @@ static void inputs(void)
     for (uint32_t i = 0; i < 65535; i++)
         transition(i / 256, i, i % 512, i % 256);
     model_length = finish(model);
+    start(ring, 2);
+    put(256, 2), put(32, 1), put(256, 4);
+    for (uint32_t i = 0; i < 256; i++)
+        put(i, 4);
+    for (uint32_t i = 0; i < 256; i++)
+        transition(i, 1, 7, (i + 1) % 256);
+    ring_length = finish(ring);
     start(formula, 3);
     put(64, 1);
     row(2, 31, 0, 0);
@@ -111,6 +125,7 @@ static void formula_check(void)
 static void rounds_solve(void)
 {
     number = otzarvim_rounds_solve(graph, graph_length, 5, room, OTZARVIM_MOST_VALUES, &count, &offset);
+    number |= otzarvim_rounds_solve(linked, linked_length, UINT32_MAX, room, OTZARVIM_MOST_VALUES, &count, &offset);
 }
 
 static void search(void)
@@ -120,7 +135,8 @@ static void search(void)
 
 static void claims_write(void)
 {
-    number = otzarvim_claims_write(deep, deep_length, claims, sizeof claims, room, sizeof room / sizeof *room, &offset);
+    number = otzarvim_claims_write(linked, linked_length, claims, sizeof claims, room, sizeof room / sizeof *room, &offset);
+    number |= otzarvim_claims_write(deep, deep_length, claims, sizeof claims, room, sizeof room / sizeof *room, &offset);
 }
 
 /* Of the claims that were just written. */
@@ -147,7 +163,9 @@ static void formula_text(void)
 
 static void decide(void)
 {
-    number = otzarvim_verdict(model, model_length, asked, asked_length, 255, 5, built, sizeof built, room, OTZARVIM_MOST_VALUES, &verdict,
+    number = otzarvim_verdict(ring, ring_length, asked, asked_length, 255, 4096, built, sizeof built, room, OTZARVIM_MOST_VALUES, &verdict,
+                              &count, &length, &offset);
+    number |= otzarvim_verdict(model, model_length, asked, asked_length, 255, 5, built, sizeof built, room, OTZARVIM_MOST_VALUES, &verdict,
                               &count, &length, &offset);
 }
 
@@ -158,7 +176,9 @@ static void build(void)
 
 static void settle(void)
 {
-    number = otzarvim_settle(model, model_length, asked, asked_length, 5, built, sizeof built, room, OTZARVIM_MOST_VALUES, &count, &length,
+    number = otzarvim_settle(ring, ring_length, asked, asked_length, 4096, built, sizeof built, room, OTZARVIM_MOST_VALUES, &count, &length,
+                             states, &offset);
+    number |= otzarvim_settle(model, model_length, asked, asked_length, 5, built, sizeof built, room, OTZARVIM_MOST_VALUES, &count, &length,
                              states, &offset);
 }
 

@@ -26,7 +26,7 @@ ENTRIES = {
     "ranks": ("write",),
     "text": ("text",),
     "entries": ("returned",),
-    "lines": ("report", "number"),
+    "lines": ("report",),
     "tally": (),
     "build": (),
     "settling": (),

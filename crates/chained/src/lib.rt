@@ -7,13 +7,13 @@ ghost use Rattle.links.specs.Links.{Fits};
 ghost use Rattle.turns.specs.Turns.{AtRound};
 ghost use Rattle.turns.specs.Outcome.{outcome_count, ended, filled};
 
-use changes::Changed;
 use graph::Records;
 use links::{Lists, Place};
 use turns::Outcome;
 
-// The rounds from 1 and 2 on, in lists that are so long; the nodes that change are listed in two, by turns. Each length has registers of its
-// own: inlined, they shared those of one function, and cover edges took 1.2 of the time.
+// The rounds from 1 and 2 on, in lists that are so long; the nodes that change are listed in two, by turns, and how many they are is handed
+// on by value: beside a list it would be memory that each round waits for. Each length has registers of its own: inlined, they shared those
+// of one function, and cover edges took 1.2 of the time.
 #[inline(never)]
 fn run_in_lists<const M: usize>(g: Records, budget: u32, room: &mut [u64]) -> Outcome
     requires short { M ≤ 65535 }
@@ -28,27 +28,22 @@ fn run_in_lists<const M: usize>(g: Records, budget: u32, room: &mut [u64]) -> Ou
         places: [Place::NONE; M],
     };
     lists.link_all(g.scanned());
-    let mut these = Changed {
-        nodes: [0; M],
-        many: 0,
-    };
-    let mut those = Changed {
-        nodes: [0; M],
-        many: 0,
-    };
-    these.list(g.nodes, room);
+    let mut these = [0; M];
+    let mut those = [0; M];
+    let mut many = changes::list_changed(g.nodes, &mut these, room);
     let mut now = &mut these;
     let mut next = &mut those;
     let mut round: u32 = 1;
     loop {
-        if now.many == 0 {
+        if many == 0 {
             break Outcome::Settled(round);
         }
         if round == budget {
             break Outcome::Spent(round);
         }
-        now.raise(g.nodes, room);
-        chains::take_changed(g.scanned(), &lists, now, next, room);
+        let listed = &now[..many];
+        changes::raise_changed(g.nodes, listed, room);
+        many = chains::take_listed(g.scanned(), &lists.heads, &lists.places, listed, next, room);
         (now, next) = (next, now);
         round += 1;
     }

@@ -5,7 +5,7 @@ use mathlib.Core.List.{List, [], ◌∷◌}
 use mathlib.Core.Bool.{Bool, true, false, cond, ◌||◌, ◌&&◌}
 use mathlib.Core.Logic.{◌⊎◌, inl, inr}
 use mathlib.Core.Path.{◌≡◌, refl, sym, ap, ap₂, subst, ◌∙◌}
-use lib.ListN.{length, get_or, set, length-set}
+use lib.ListN.{length, get_or, set, take, length-set}
 use lib.Dec.{eqb}
 use lib.Seq.{get_or-set_same, get_or-set_other, set-get_or}
 use borrow.Author.Tests.{eq-eqb, ne_eqb, lt-ltb, le-ltb}
@@ -29,7 +29,7 @@ use Rattle.scans.specs.Scan.{lowered, forth, Going, Done}
 use Rattle.scans.proofs.Going.{going_set}
 use Rattle.links.specs.declared.Place.{Place}
 use Rattle.links.specs.Links.{place_at, Reached, RecordAt, hyper, cover, hyper_at, cover_at}
-use Rattle.changes.proofs.Listing.{Lowers}
+use Rattle.changes.proofs.Listing.{Lowers, part_length, part_at}
 use Rattle.chains.specs.Taken.{RecordOk, given_at, RecordIn, Has, Taken, Further, TakenAll}
 use Rattle.links.proofs.Linking.{reached_cases, reached_none, hyper_far}
 
@@ -223,6 +223,15 @@ module _ {s : List ℕ} {n h c middle : ℕ} {nodes heads : List ℕ} {places : 
       go : (k : ℕ) → k < i + 1 → (q : ℕ) → Reached places q (get_or heads (get_or nodes k 0) 0) → Dec (k ≡ i) → Has s n middle f.part (place_at places q).spot
       go k l q r (yes e) = f.has q (rw e at r)
       go k l q r (no e) = f.keeps _ (d.has k (omega arith) q r)
+
+-- those of a list's front, and so those of so many in the list
+pub taken_front : {s : List ℕ} {n h c middle many : ℕ} {nodes part heads : List ℕ} {places : List Place} {b₀ b : List ℕ} → part ≡ take many nodes → many ≤ length nodes
+    → TakenAll s n h c middle (length part) part heads places b₀ b → TakenAll s n h c middle many nodes heads places b₀ b
+taken_front {s = s} {many = many} {nodes = nodes} {part = part} {heads = heads} {places = places} is few d = record {
+  part = d.part;
+  taken = d.taken;
+  has = λ k l q r. d.has k (omega (arith, part_length many nodes part is few)) q (subst (λ (v : ℕ). Reached places q (get_or heads v 0)) (sym (part_at many nodes part is k l)) r);
+}
 
 -- a record gives its source k: the room stays where the source has no more, and else the source gets it
 module _ (s : List ℕ) (n middle at source k : ℕ) (b : List ℕ) (is : source ≡ number 2 s at) (gives : k ≡ given_at s n middle at (half n 0 b)) where

@@ -11,7 +11,7 @@ ghost use Rattle.chains.specs.Taken.{RecordOk, given_at, RecordIn, Taken, Furthe
 
 use changes::Changed;
 use graph::Scanned;
-use links::Lists;
+use links::{Lists, Place};
 use value::{Bound, Value};
 use wire::Width;
 
@@ -69,28 +69,30 @@ fn take_source(
     many + 1
 }
 
-// Takes in the records on the chain of a node, and lists the nodes that they change, behind `many`.
-fn take_linked<const M: usize>(
+// Takes in the records on the chain of a node, and lists the nodes that they change, behind `many`. A link is widened before
+// the step back to its place, which is then part of the address: in 16 bits it is an instruction more, for which each place waits.
+fn take_linked(
     g: Scanned,
-    lists: &Lists<M>,
+    heads: &[u16],
+    places: &[Place],
     v: usize,
     many: usize,
     nodes: &mut [u16],
     room: &mut [u64],
 ) -> usize
     requires both_halves { g.nodes + g.nodes ≤ length room.old }
-    requires index { Index g.bytes.now g.nodes g.hypers g.covers g.middle M lists.now.heads lists.now.places }
-    requires named { (v < g.nodes) × (g.nodes ≤ M) }
+    requires index { Index g.bytes.now g.nodes g.hypers g.covers g.middle (length places.now) heads.now places.now }
+    requires named { (v < g.nodes) × (g.nodes ≤ 65535) }
     requires listed { Listed g.nodes g.nodes many room.old nodes.old }
     ensures listed { Listed g.entry.nodes g.entry.nodes result room.new nodes.new }
     ensures further { (b₀ : List ℕ) (p : rules.Graph) → g.entry.nodes + g.entry.nodes ≤ length b₀
         → Taken g.entry.bytes.now g.entry.nodes g.entry.hypers g.entry.covers g.entry.middle b₀ room.old p
-        → Further g.entry.bytes.now g.entry.nodes g.entry.hypers g.entry.covers g.entry.middle lists.now.places (get_or lists.now.heads v 0) b₀ room.new p }
+        → Further g.entry.bytes.now g.entry.nodes g.entry.hypers g.entry.covers g.entry.middle places.now (get_or heads.now v 0) b₀ room.new p }
 {
     let mut listed = many;
-    let mut link = lists.heads[v];
-    while let Some(i) = link.checked_sub(1) {
-        let place = lists.places[i as usize];
+    let mut link = heads[v] as usize;
+    while 0 < link {
+        let place = places[link - 1];
         listed = take_source(
             g,
             place.spot as usize,
@@ -99,12 +101,41 @@ fn take_linked<const M: usize>(
             nodes,
             room,
         );
-        link = place.link;
+        link = place.link as usize;
     }
     listed
 }
 
-// Takes in the records that have one of the nodes that are listed as a target, and lists the nodes that they change in another list.
+// Takes in the records that have one of the nodes that are listed as a target, and lists the nodes that they change in another list, in
+// which none is listed yet. Gives how many they are. Inlined, always: a round may take in one record, and with a call it took a quarter
+// longer.
+#[inline(always)]
+pub fn take_listed(
+    g: Scanned,
+    heads: &[u16],
+    places: &[Place],
+    now: &[u16],
+    next: &mut [u16],
+    room: &mut [u64],
+) -> usize
+    requires both_halves { g.nodes + g.nodes ≤ length room.old }
+    requires index { Index g.bytes.now g.nodes g.hypers g.covers g.middle (length places.now) heads.now places.now }
+    requires room_for_all { (g.nodes ≤ 65535) × (g.nodes ≤ length next.old) }
+    requires named { (length now.now ≤ g.nodes) × ((k : ℕ) → k < length now.now → get_or now.now k 0 < g.nodes) }
+    requires same { Same g.nodes room.old }
+    ensures listed { Listed g.entry.nodes g.entry.nodes result room.new next.new }
+    ensures taken_all { TakenAll g.entry.bytes.now g.entry.nodes g.entry.hypers g.entry.covers g.entry.middle (length now.now) now.now
+        heads.now places.now room.old room.new }
+{
+    let mut many = 0;
+    for i in 0..now.len() {
+        let v = now[i] as usize;
+        many = take_linked(g, heads, places, v, many, next, room);
+    }
+    many
+}
+
+// The same in lists of one length.
 pub fn take_changed<const M: usize, const K: usize>(
     g: Scanned,
     lists: &Lists<M>,
@@ -121,9 +152,12 @@ pub fn take_changed<const M: usize, const K: usize>(
     ensures taken_all { TakenAll g.entry.bytes.now g.entry.nodes g.entry.hypers g.entry.covers g.entry.middle now.now.many now.now.nodes
         lists.now.heads lists.now.places room.old room.new }
 {
-    let mut many = 0;
-    for node in now.listed() {
-        many = take_linked(g, lists, *node as usize, many, &mut next.nodes, room);
-    }
-    next.many = many;
+    next.many = take_listed(
+        g,
+        &lists.heads,
+        &lists.places,
+        now.listed(),
+        &mut next.nodes,
+        room,
+    );
 }

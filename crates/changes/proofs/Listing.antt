@@ -11,7 +11,7 @@ use native.Mathlib.Decide.{ℕ_discrete}
 use native.Mathlib.Omega.{arith}
 use native.Mathlib.Numerals.{add-one}
 use Rattle.halves.specs.Room.{Same, Raised}
-use Rattle.changes.specs.Listed.{Fallen, changes, Listed}
+use Rattle.changes.specs.Listed.{Fallen, changes, Listed, Names}
 
 -- what a record does to the numbers of the nodes: that of its source may fall in the next round
 pub record Lowers (n source : ℕ) (b b' : List ℕ) : Type 0 where
@@ -117,6 +117,16 @@ module _ (many : ℕ) (nodes part : List ℕ) (is : part ≡ take many nodes) wh
 
   pub part_at : (i : ℕ) → i < many → get_or part i 0 ≡ get_or nodes i 0
   part_at i below = rw is (get_or-take many nodes i 0 below)
+
+-- so that part names every node that changed
+pub listed_names : {n many : ℕ} {b nodes part : List ℕ} → Listed n n many b nodes → part ≡ take many nodes → Names n b part
+listed_names {n} {many} {b} {nodes} {part} d is = record {
+  named = λ k l. let below : k < many = omega (arith, long) in let same = part_at many nodes part is k below in omega (arith, same, d.named k below);
+  reach = λ v l ne. let r = d.reach v l ne in (r.0, omega (arith, long, r.1), part_at many nodes part is r.0 r.1 ∙ r.2);
+}
+  where
+    long : length part ≡ many
+    long = let few = listed_few d in part_length many nodes part is (omega (arith, d.long))
 
 -- a node more in the list
 module _ (many : ℕ) (changed : List ℕ) (w : ℕ) (free : many < length changed) where
@@ -236,14 +246,14 @@ module _ {n i : ℕ} {b₀ b changed : List ℕ} (d : Raising n i b₀ b changed
           away k l (no z) u = out k (omega arith) u
 
   -- all of them: the halves differ nowhere else
-  pub raising_all : Listed n n i b₀ changed → Raised n n b₀ b
-  raising_all listed = record { same_length = d.same_length; done = λ v l. up v l (d.each v l) (ℕ_discrete (get_or b₀ v 0) (get_or b₀ (n + v) 0)); stays = d.stays; past = d.past }
+  pub raising_all : i ≡ length changed → Names n b₀ changed → Raised n n b₀ b
+  raising_all whole names = record { same_length = d.same_length; done = λ v l. up v l (d.each v l) (ℕ_discrete (get_or b₀ v 0) (get_or b₀ (n + v) 0)); stays = d.stays; past = d.past }
     where
       up : (v : ℕ) → v < n → (get_or b v 0 ≡ get_or b₀ (n + v) 0) ⊎ ((get_or b v 0 ≡ get_or b₀ v 0) × ((k : ℕ) → k < i → ¬ (get_or changed k 0 ≡ v))) → Dec (get_or b₀ v 0 ≡ get_or b₀ (n + v) 0)
           → get_or b v 0 ≡ get_or b₀ (n + v) 0
       up v l (inl e) t = e
       up v l (inr (e, out)) (yes q) = e ∙ q
-      up v l (inr (e, out)) (no ne) = let r = listed.reach v l ne in absurd (out r.0 r.1 r.2)
+      up v l (inr (e, out)) (no ne) = let r = names.reach v l ne in absurd (out r.0 (omega (arith, whole, r.1)) r.2)
 
 -- a half that is brought up is the same as the other
 pub raised_same : {n : ℕ} {b₀ b : List ℕ} → Raised n n b₀ b → Same n b

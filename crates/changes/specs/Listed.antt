@@ -17,3 +17,8 @@ pub record Listed (n i many : ℕ) (b nodes : List ℕ) : Type 0 where
   pub few : many ≤ changes n b i
   pub named : (k : ℕ) → k < many → get_or nodes k 0 < n
   pub reach : (v : ℕ) → v < i → ¬ (get_or b v 0 ≡ get_or b (n + v) 0) → (k : ℕ) × (k < many) × (get_or nodes k 0 ≡ v)
+
+-- a list of nodes and of no others, with every one that changed: what stands in front of a list, as many as are listed
+pub record Names (n : ℕ) (b nodes : List ℕ) : Type 0 where
+  pub named : (k : ℕ) → k < length nodes → get_or nodes k 0 < n
+  pub reach : (v : ℕ) → v < n → ¬ (get_or b v 0 ≡ get_or b (n + v) 0) → (k : ℕ) × (k < length nodes) × (get_or nodes k 0 ≡ v)

@@ -7,6 +7,7 @@ ghost use Rattle.lines.specs.Lines.{lines, reported_of, report_room};
 
 use decimals::Writer;
 use refusal::Fault;
+pub use refusal::number;
 
 // Writes numbers in decimal, each ended by a line feed.
 fn put_lines(out: &mut Writer<'_>, numbers: &[u64])

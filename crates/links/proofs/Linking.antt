@@ -43,6 +43,10 @@ pub long_set : {n most : ℕ} {heads : List ℕ} {places : List Place} → Long 
 long_set {n} {most} {heads} {places} d v a q b =
     record { nodes = omega (arith, length-set heads v a, d.nodes); many = length-set places q b ∙ d.many; short = d.short }
 
+-- lists are as long as they are
+pub long_own : {n most : ℕ} {heads : List ℕ} {places : List Place} → Long n most heads places → Long n (length places) heads places
+long_own d = record { nodes = d.nodes; many = refl; short = omega (arith, d.many, d.short) }
+
 -- a chain stays below its head
 pub reached_below : {places : List Place} {q head : ℕ} → ((p : ℕ) → (place_at places p).link ≤ p) → Reached places q head → q < head
 reached_below falls (here e) = omega arith
@@ -232,6 +236,10 @@ module _ {s : List ℕ} {n middle most h j many : ℕ} {heads : List ℕ} {place
       go : (k : ℕ) (t : Target) → Finds heads places t.node (hyper_at s n k) ⊎ ((k + 1 ≡ h) × (t ∈ [])) → Finds heads places t.node (hyper_at s n k)
       go k t (inl f) = f
       go k t (inr q) = absurd (Memᴰ.not-nil q.1)
+
+-- what is linked in lists of a length is linked in lists that are as long as they are
+pub index_own : {s : List ℕ} {n h c middle most : ℕ} {heads : List ℕ} {places : List Place} → Index s n h c middle most heads places → Index s n h c middle (length places) heads places
+index_own {s} {n} {h} {c} {middle} {heads = heads} {places} d = subst (λ (k : ℕ). Index s n h c middle k heads places) (sym d.long.many) d
 
 -- each hyperedge takes its fixed bytes
 module _ (s : List ℕ) (n : ℕ) where

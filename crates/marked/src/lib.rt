@@ -48,7 +48,9 @@ fn take_both(g: Records, m: Marks, longs: Marks, room: &mut [u64]) -> Span
 
 // From a round and the next on, until a round changes nothing or the budget is spent. The next round is worked out in the second half; then
 // the first is brought up to it. Why skipping is exact: a record whose targets stayed in the last round gives what it gave before, which
-// its source has already, since rounds fall; so only records of changed targets are worked out, and only their sources are compared.
+// its source has already, since rounds fall; so only records of changed targets are worked out, and only their sources are compared. The notes
+// have a frame of their own: inlined, they would lie on the stack below the lists of a small graph, which has no notes.
+#[inline(never)]
 fn run_noted(g: Records, round: u32, budget: u32, room: &mut [u64]) -> Outcome
     requires n_in_bounds { g.nodes + g.nodes ≤ length room.old }
     requires at_round { AtRound (decoded_of g) budget round room.old room.old }

@@ -7,7 +7,7 @@ ghost use Rattle.tally.specs.Entered.{enter_of};
 ghost use Rattle.tally.specs.Report.{numbers_of};
 
 pub use entries::Entry;
-pub use lines::report;
+pub use lines::{number, report};
 use refusal::Fault;
 
 // How many entries were yes, no, and each refusal number from 1 to 11; the sum of their rounds, and the largest.

@@ -1,5 +1,5 @@
 -- What accepted messages say of the model and the rows that they hold. Assumes nothing.
-use Rattle.std.proofs.Common.{◌≡◌, ℕ, ◌+◌, ◌-◌, ◌<◌, ◌≤◌, eqb, List, [], ◌∷◌, length, get_or, sym, refl, ap, subst, ◌∙◌, arith}
+use Rattle.std.proofs.Common.{◌≡◌, ℕ, ◌+◌, ◌-◌, ◌^◌, ◌<◌, ◌≤◌, eqb, List, [], ◌∷◌, length, get_or, sym, refl, ap, subst, ◌∙◌, arith}
 use lib.ListN.{length-map}
 use Rattle.model.specs.Model.{Model, Transition}
 use Rattle.lists.specs.Lists.{◌∈◌}
@@ -7,17 +7,19 @@ use Rattle.lists.specs.Making.{keep}
 use Rattle.lists.proofs.Making.{∈-keep}
 use Rattle.value.specs.declared.Bound.{Bound}
 use Rattle.syntax.specs.declared.Action.{Action}
-use Rattle.wire.specs.Bytes.{number}
-use Rattle.wire.specs.Layout.{items}
+use Rattle.wire.specs.Bytes.{number, Bytes}
+use Rattle.wire.specs.Layout.{items, end}
 use Rattle.syntax.specs.declared.Row.{Row}
 use Rattle.syntax.specs.Format.{formula_header, row_width, place_of}
 use Rattle.syntax.specs.Layouts.{row_at, row_layout}
 use Rattle.reduction.specs.Built.{end_of, out, looks_at, near, leaving}
-use Rattle.model.specs.Format.{model_header, label_width, label_at, transition_at}
+use Rattle.model.specs.Format.{model_header, label_width, label_at, weight_at, action_at, transition_at}
 use Rattle.transitions.specs.Held.{label_layout, transition_layout, transitions_from, held_model, held_rows, HoldsModel, Own, Reads, LeadTo, RiseFrom}
 use Rattle.transitions.specs.declared.views.Out.{Out}
 use Rattle.transitions.specs.Views.{list_of}
+use Rattle.wire.proofs.Bytes.{number_below}
 use Rattle.wire.proofs.Layouts.{items_length}
+use Rattle.wire.proofs.Parts.{∈-items}
 use Rattle.wire.proofs.Stride.{items_at, items_left}
 
 -- the transitions of a state, and how many edges they lead to
@@ -31,6 +33,19 @@ out_length M a = length-map (own M a) _
 pub near_length : (M : Model) (A : Action) (b : Bound) (a : ℕ) → length (near M A b a) ≡ length (keep (looks_at A b) (keep (λ u. eqb u.from a) M.transitions))
 unfolding near
 near_length M A b a = length-map (keep (looks_at A b) (own M a)) end_of
+
+-- transitions in any bytes can be read: any 4 bytes are a weight, and any 2 an action
+any_fit : (m : List ℕ) (n first many : ℕ) → Bytes m → {u : Transition} → u ∈ transitions_from m n first many → (u.weight < 2 ^ 32) × (u.action < 2 ^ 16)
+any_fit m n first many bytes {u} i =
+    let L = transition_layout m in
+    let r = ∈-items L many (transition_at n first) i in
+    let at = end L r.0 (transition_at n first) in
+    subst (λ (v : Transition). (v.weight < 2 ^ 32) × (v.action < 2 ^ 16)) (sym r.2)
+    (omega (arith, number_below 4 m (at + weight_at) bytes), omega (arith, number_below 2 m (at + action_at) bytes))
+
+pub any_read : (m : List ℕ) (n first many : ℕ) → Bytes m → transition_at n (first + many) ≤ length m → Reads m n first many
+any_read m n first many bytes long =
+    record { long = long; weights_fit = λ i. (any_fit m n first many bytes i).0; actions_fit = λ i. (any_fit m n first many bytes i).1 }
 
 module _ {m : List ℕ} {n p t : ℕ} (h : HoldsModel m n p t) where
   pub states_few : n ≤ 256

@@ -37,7 +37,7 @@ fn bit(label: u32, i: u32) -> bool
 }
 
 // Where a transition of the model stands.
-fn transition_at(n: u32, first: u32) -> usize
+pub fn transition_at(n: u32, first: u32) -> usize
     ensures { result ≡ transition_at n first }
 {
     model::HEADER + (n as usize) * model::LABEL + (first as usize) * model::TRANSITION
@@ -218,6 +218,19 @@ impl Look {
 }
 
 impl<'a> Out<'a> {
+    // So many from one on, of any bytes that they lie in: any 4 bytes are a weight, and any 2 an action.
+    pub fn of(bytes: &'a [u8], states: u32, first: u32, many: u32) -> Out<'a>
+        requires { transition_at states (first + many) ≤ length bytes.now }
+        ensures { (result.bytes.now ≡ bytes.now) × (result.states ≡ states) × (result.first ≡ first) × (result.many ≡ many) }
+    {
+        Out {
+            bytes,
+            states,
+            first,
+            many,
+        }
+    }
+
     // Where the first of them stands.
     pub fn start(self) -> usize
         ensures { result ≡ transition_at self.entry.states self.entry.first }

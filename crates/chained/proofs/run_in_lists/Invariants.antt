@@ -6,12 +6,13 @@ use Rattle.changes.specs.Listed.{Listed}
 use Rattle.turns.specs.Turns.{AtRound}
 use Rattle.chained.proofs.run_in_lists.Given as goal
 
-abbrev pub invariant-loop-now : goal.invariant-loop-now
-invariant-loop-now g l = record {
+abbrev pub invariant-loop-many : goal.invariant-loop-many
+invariant-loop-many g l = record {
   at_round : AtRound (decoded_of l.g) l.budget l.round l.initial.room l.room;
-  listed : Listed l.g.nodes l.g.nodes l.now.many l.room l.now.nodes;
-  room_for_all : l.g.nodes ≤ length l.next.nodes;
+  listed : Listed l.g.nodes l.g.nodes l.many l.room l.now;
+  few : l.many ≤ l.g.nodes;
+  room_for_all : l.g.nodes ≤ length l.next;
 }
 
-abbrev pub decreases-loop-now : goal.decreases-loop-now
-decreases-loop-now g l = l.budget - l.round
+abbrev pub decreases-loop-many : goal.decreases-loop-many
+decreases-loop-many g l = l.budget - l.round

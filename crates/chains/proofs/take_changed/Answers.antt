@@ -1,34 +1,23 @@
--- `chains::take_changed` meets its contract: each of the nodes that are listed is one, and the records on its chain are taken in.
-use Prim.Native.Nat.{◌<◌}
-use mathlib.Core.Path.{◌≡◌}
+-- `chains::take_changed` meets its contract: what is listed in front of the list is taken in.
 use native.Mathlib.Omega.{arith}
-use lib.ListN.{length}
-use Rattle.changes.proofs.Listing.{listed_level, part_length, part_at}
-use Rattle.chains.proofs.Taking.{taken_none, taken_more}
-use Rattle.chains.proofs.take_changed.Given.{Over}
+use Rattle.changes.proofs.Listing.{part_length, part_at}
+use Rattle.links.proofs.Linking.{index_own}
+use Rattle.chains.proofs.Taking.{taken_front}
 use Rattle.chains.proofs.take_changed.Goals as goal
-use Rattle.chains.proofs.take_changed.Goals.{After-listed-node-items}
 
-pub listed-node-items-requires : goal.listed-node-items-requires
-listed-node-items-requires g c =
-    (omega arith, omega (arith, c.requires.room_for_all, c.requires.named.0))
+pub listed-requires : goal.listed-requires
+listed-requires g c = omega (arith, c.requires.room_for_all, c.requires.named.0)
 
-pub loop-node-init : goal.loop-node-init
-loop-node-init g c = record { taken = taken_none (λ v. omega (arith, c.type_inv.room v)); listed = listed_level (omega (arith, c.requires.room_for_all)) c.requires.same }
+pub take_listed-next-requires-clause-index : goal.take_listed-next-requires-clause-index
+take_listed-next-requires-clause-index g c = index_own c.requires.index
 
--- what the loop runs over is so long as the list tells
-long : (g : Over) (c : After-listed-node-items g) → length c.listed-node-items.result.now ≡ c.args.now.now.many
-long g c = part_length _ _ _ c.listed-node-items.ensures (omega (arith, c.requires.room_for_all, c.requires.named.0))
+pub take_listed-next-requires-clause-room_for_all : goal.take_listed-next-requires-clause-room_for_all
+take_listed-next-requires-clause-room_for_all g c = (omega (arith, c.requires.room_for_all.0, c.requires.index.long.short), omega (arith, c.requires.room_for_all))
 
-pub loop-node-preserved : goal.loop-node-preserved
-loop-node-preserved g c =
-    let i = c.loop-node.node-index in
-    let l = c.loop-node.invariant in
-    let below : i < c.args.now.now.many = omega (arith, long g (goal.at.loop-node-preserved g c).After-listed-node-items) in
-    let is = part_at _ _ _ c.listed-node-items.ensures i below in
-    record { taken = taken_more l.taken (rw is at (c.take_linked-many.ensures.further _ _ c.requires.both_halves l.taken.taken)); listed = c.take_linked-many.ensures.listed }
+pub take_listed-next-requires-clause-named : goal.take_listed-next-requires-clause-named
+take_listed-next-requires-clause-named g c =
+    let few = part_length _ _ _ c.listed.ensures (omega (arith, c.requires.room_for_all, c.requires.named.0)) in
+    (omega (arith, few, c.requires.named.0), λ k l. rw (part_at _ _ _ c.listed.ensures k (omega (arith, few))) (c.requires.named.1 k (omega (arith, few))))
 
 pub returns-clause-taken_all : goal.returns-clause-taken_all
-returns-clause-taken_all g c =
-    let all : c.loop-node.node-index ≡ c.args.now.now.many = omega (arith, long g (goal.at.returns-clause-taken_all g c).After-listed-node-items) in
-    rw all at c.loop-node.invariant.taken
+returns-clause-taken_all g c = taken_front c.listed.ensures (omega (arith, c.requires.room_for_all, c.requires.named.0)) c.take_listed-next.ensures.taken_all

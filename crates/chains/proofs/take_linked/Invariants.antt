@@ -10,15 +10,16 @@ use Rattle.chains.specs.Taken.{Taken}
 use Rattle.chains.proofs.Taking.{Walking}
 use Rattle.chains.proofs.take_linked.Given as goal
 
-abbrev pub invariant-loop-i : goal.invariant-loop-i
-invariant-loop-i g l = record {
-  inside : l.link ≤ length l.lists.places;
+abbrev pub invariant-loop-link : goal.invariant-loop-link
+invariant-loop-link l = record {
+  inside : l.link ≤ length l.places;
   same_length : length l.room ≡ length l.initial.room;
-  records : (q : ℕ) → Reached l.lists.places q l.link → RecordAt l.g.bytes.now l.g.nodes l.g.hypers l.g.covers l.g.middle (place_at l.lists.places q).spot × Told l.g.bytes.now l.lists.places q;
+  as_long : length l.nodes ≡ length l.initial.nodes;
+  records : (q : ℕ) → Reached l.places q l.link → RecordAt l.g.bytes.now l.g.nodes l.g.hypers l.g.covers l.g.middle (place_at l.places q).spot × Told l.g.bytes.now l.places q;
   walking : (b₀ : List ℕ) (p : Graph) → l.g.nodes + l.g.nodes ≤ length b₀ → Taken l.g.bytes.now l.g.nodes l.g.hypers l.g.covers l.g.middle b₀ l.initial.room p
-      → Walking l.g.bytes.now l.g.nodes l.g.hypers l.g.covers l.g.middle l.lists.places (get_or l.lists.heads l.v 0) l.link b₀ l.room p;
+      → Walking l.g.bytes.now l.g.nodes l.g.hypers l.g.covers l.g.middle l.places (get_or l.heads l.v 0) l.link b₀ l.room p;
   listed : Listed l.g.nodes l.g.nodes l.listed l.room l.nodes;
 }
 
-abbrev pub decreases-loop-i : goal.decreases-loop-i
-decreases-loop-i g l = l.link
+abbrev pub decreases-loop-link : goal.decreases-loop-link
+decreases-loop-link l = l.link
