@@ -21,7 +21,7 @@ use Rattle.ordered.proofs.Told.{named_above}
 use Rattle.graph.specs.Format.{most_targets, target_count_at, hyper_width, node_at, target_width}
 use Rattle.graph.specs.Message.{read_hyper, read_targets, targets, hypers, first_target, after_hyper}
 use Rattle.graph.specs.Names.{fours, all_named}
-use Rattle.graph.specs.Near.{greatest, gathered, source_at, count_at, behind, pass, sound}
+use Rattle.graph.specs.Near.{greatest, gathered, source_at, count_at, many, behind, pass, sound}
 use Rattle.graph.specs.declared.Gathered.{Gathered}
 use Rattle.graph.specs.declared.Rest.{Rest}
 use Rattle.graph.specs.declared.Passed.{Passed}
@@ -165,16 +165,16 @@ module _ (s : List ℕ) (n : ℕ) where
       let count = count_at s st.at in
       let first : ℕ = st.at + hyper_width in
       let source = source_at s st.at in
-      let most : Bool = ltb (max p.greatest (greatest s count first)) (n * 65536) in
+      let most : Bool = ltb (max p.most (greatest s count first)) (n * 65536) in
       let a_node : Bool = ltb source n in
       let few_enough : Bool = leb (st.seen + count) most_targets in
       let names : most ≡ true = and_left most (a_node && few_enough) all in
       let more : (a_node && few_enough) ≡ true = and_right most (a_node && few_enough) all in
       let less : source < n = ltb-true source n (and_left a_node few_enough more) in
       let few : st.seen + count ≤ most_targets = leb-true (st.seen + count) most_targets (and_right a_node few_enough more) in
-      let so_far : Bool = ltb p.greatest (n * 65536) in
+      let so_far : Bool = ltb p.most (n * 65536) in
       let here : Bool = all_named s n count first in
-      let both : (so_far && here) ≡ true = sym (greatest_named s n bytes count first p.greatest) ∙ names in
+      let both : (so_far && here) ≡ true = sym (greatest_named s n bytes count first p.most) ∙ names in
       let before : so_far ≡ true = and_left so_far here both in
       let named : here ≡ true = and_right so_far here both in
       let prev = lt-ltb st.prev n (omega arith) in
@@ -199,12 +199,13 @@ module _ (s : List ℕ) (n : ℕ) where
       let one_left : Bool = ltb 0 p.rest.left in
       let fits : Bool = leb end last in
       let follows : Bool = leb st.prev (source_at s st.at) in
-      by_test (one_left && (fits && follows))
+      let not_many : Bool = ltb (count_at s st.at) (many s) in
+      by_test (one_left && (not_many && (fits && follows)))
       (λ t.
-      let more = and_right one_left (fits && follows) t in
+      let more = and_right not_many (fits && follows) (and_right one_left (not_many && (fits && follows)) t) in
       let same : Some next ≡ Some (behind s p) = rw t at e in
       record {
-        left = ltb-true 0 p.rest.left (and_left one_left (fits && follows) t);
+        left = ltb-true 0 p.rest.left (and_left one_left (not_many && (fits && follows)) t);
         inside = leb-true end last (and_left fits follows more);
         rises = leb-true st.prev (source_at s st.at) (and_right fits follows more);
         is = cc;
@@ -218,7 +219,7 @@ module _ (s : List ℕ) (n : ℕ) where
   pub sound_stays : (p : Passed) → sound n p ≡ true → (p.rest.st.prev ≤ n) × (p.rest.st.seen ≤ most_targets)
   unfolding sound
   sound_stays p all =
-      let names : Bool = ltb p.greatest (n * 65536) in
+      let names : Bool = ltb p.most (n * 65536) in
       let a_node : Bool = ltb p.rest.st.prev n in
       let few_enough : Bool = leb p.rest.st.seen most_targets in
       let more : (a_node && few_enough) ≡ true = and_right names (a_node && few_enough) all in

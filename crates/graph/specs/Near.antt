@@ -32,18 +32,22 @@ module _ (s : List ℕ) where
       let st = p.rest.st in
       record {
         rest = record { st = after_hyper st (source_at st.at) (count_at st.at); left = p.rest.left - 1 };
-        greatest = max p.greatest (greatest (count_at st.at) (st.at + hyper_width));
+        most = max p.most (greatest (count_at st.at) (st.at + hyper_width));
       }
 
-  -- it is passed where one is left, it ends at the last place or before, and its source is not below the one before
+  -- from so many targets on a hyperedge is not passed
+  abbrev pub many : ℕ
+  many = 32
+
+  -- it is passed where one is left, it has not many targets, it ends at the last place or before, and its source is not below the one before
   unfoldable pub pass : (last : ℕ) → Passed → Option Passed
   pass last p =
       let st = p.rest.st in
-      cond (ltb 0 p.rest.left && (leb (st.at + hyper_width + count_at st.at * target_width) last && leb st.prev (source_at st.at))) (Some (behind p)) None
+      cond (ltb 0 p.rest.left && (ltb (count_at st.at) many && (leb (st.at + hyper_width + count_at st.at * target_width) last && leb st.prev (source_at st.at)))) (Some (behind p)) None
 
 -- those that were passed name nodes, and their targets are not too many
 unfoldable pub sound : (n : ℕ) → Passed → Bool
-sound n p = ltb p.greatest (n * 65536) && (ltb p.rest.st.prev n && leb p.rest.st.seen most_targets)
+sound n p = ltb p.most (n * 65536) && (ltb p.rest.st.prev n && leb p.rest.st.seen most_targets)
 
 -- hyperedges may be read from here
 abbrev pub MayRead : (s : List ℕ) (n : ℕ) → Rest → Type 0

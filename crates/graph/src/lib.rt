@@ -71,10 +71,13 @@ pub const TARGET: usize = NODE_AT + 2;
 
 const FOUR: usize = 4 * TARGET;
 
-// How far ahead hyperedges are passed together: so much is read twice where one of them is at fault. And fewer than so many are read one by one.
+// How many bytes ahead hyperedges are passed together: at most so much is read twice where one of them is at fault.
 const NEAR: usize = 4096;
 
+// Fewer hyperedges than this are read one by one, and one that has as many targets as this or more is read by itself.
 const FEW: usize = 4;
+
+const MANY: u32 = 32;
 
 // Where the bound and the target of a cover edge stand, and how wide it is.
 pub const COVER_BOUND_AT: usize = 2;
@@ -108,18 +111,18 @@ struct Rest {
     left: usize,
 }
 
-// Targets that are gathered: where those behind them start, and the greatest of what was read of them.
+// Targets that were gathered: where those behind them start, and the greatest of what was read of them.
 #[derive(Clone, Copy)]
 struct Gathered {
     at: usize,
     most: u32,
 }
 
-// Hyperedges that are passed: those behind them, and the greatest of what was read of their targets.
+// Hyperedges that were passed: those behind them, and the greatest of what was read of their targets.
 #[derive(Clone, Copy)]
 struct Passed {
     rest: Rest,
-    greatest: u32,
+    most: u32,
 }
 
 impl<'a> Reading<'a> {
@@ -265,7 +268,7 @@ impl<'a> Reading<'a> {
         front.max(back)
     }
 
-    // All fours of targets that fit are gathered: one jump each, where a test of each target would jump four times.
+    // All fours of targets that fit are gathered. Each takes one jump, where a test of each target takes four: what jumps cost hangs on where they lie.
     fn gather_fours(self, from: Gathered, end: usize) -> Gathered
         requires { (from.at ≤ end) × (end + 2 ≤ length self.bytes.now) }
         ensures { result ≡ gathered self.entry.bytes.now (fours from.at end * 4) from }
@@ -297,7 +300,8 @@ impl<'a> Reading<'a> {
         so_far
     }
 
-    // One hyperedge more is passed, if one is left, it ends at the last place or before, and its source is not below the one before.
+    // One hyperedge more is passed, if one is left, it has not many targets, it ends at the last place or before, and its source is not below the
+    // one before.
     fn pass(self, p: Passed, last: usize) -> Option<Passed>
         requires { (p.rest.st.at ≤ last) × (last + hyper_width ≤ length self.bytes.now) × (p.rest.st.seen ≤ most_targets + p.rest.st.at) }
         ensures { result ≡ pass self.entry.bytes.now last p }
@@ -307,13 +311,13 @@ impl<'a> Reading<'a> {
         let count = wire::number_at(self.bytes, st.at + TARGET_COUNT_AT, Width::Two);
         let first = st.at + HYPER;
         let end = first + (count as usize) * TARGET;
-        if p.rest.left == 0 || last < end || source < st.prev {
+        if p.rest.left == 0 || MANY <= count || last < end || source < st.prev {
             return None;
         }
         let fours = self.gather_fours(
             Gathered {
                 at: first,
-                most: p.greatest,
+                most: p.most,
             },
             end,
         );
@@ -328,7 +332,7 @@ impl<'a> Reading<'a> {
                 st: past,
                 left: p.rest.left - 1,
             },
-            greatest: all.most,
+            most: all.most,
         })
     }
 
@@ -336,13 +340,13 @@ impl<'a> Reading<'a> {
     fn sound(self, p: Passed) -> bool
         ensures { result ≡ sound self.entry.nodes p }
     {
-        (p.greatest as u64) < (self.nodes as u64) * wire::TWO_MORE_LONG
+        (p.most as u64) < (self.nodes as u64) * wire::TWO_MORE_LONG
             && p.rest.st.prev < self.nodes
             && p.rest.st.seen <= MOST_TARGETS
     }
 
-    // Passes hyperedges that are near, so that what is left reads as all do; if one that is near is at fault, all are left. It is not inlined: by
-    // itself it has all registers, and its jumps lie where no caller moves them.
+    // Passes hyperedges that are near, up to the first that can't be passed, so that what is left reads as all do. None is passed where one of them
+    // names no node or has a target too many. It is not inlined: by itself it has all registers, and its jumps lie where no caller moves them.
     #[inline(never)]
     fn near(self, rest: Rest) -> Rest
         requires { MayRead self.bytes.now self.nodes rest }
@@ -354,19 +358,19 @@ impl<'a> Reading<'a> {
             return rest;
         }
         let last = end - HYPER;
-        let mut p = Passed { rest, greatest: 0 };
+        let mut p = Passed { rest, most: 0 };
         while let Some(next) = self.pass(p, last) {
             p = next;
         }
         if self.sound(p) { p.rest } else { rest }
     }
 
-    // The same, unless few are left or this is before the place up to which they are read one by one.
-    fn onward(self, st: State, left: usize, one_by_one: usize) -> Rest
+    // What is left behind those that are near, unless few are left or they are to be read one by one up to a place that was not reached.
+    fn onward(self, st: State, left: usize, alone_until: usize) -> Rest
         requires { (st.at ≤ length self.bytes.now) × (st.seen ≤ most_targets) × (st.prev ≤ self.nodes) }
         ensures { ReadsAs self.entry.bytes.now self.entry.nodes record { st = st; left = left } result }
     {
-        if left < FEW || st.at < one_by_one {
+        if left < FEW || st.at < alone_until {
             Rest { st, left }
         } else {
             self.near(Rest { st, left })
@@ -374,12 +378,12 @@ impl<'a> Reading<'a> {
     }
 
     // k hyperedges: one is read by itself, which finds a fault, and those that are near behind it are passed together. Where none could be passed,
-    // all that are near are read one by one.
+    // as before a fault, those that are near are read one by one.
     fn hypers(self, k: u32, first: State) -> Result<State, Fault>
         requires { (first.at ≤ length self.bytes.now) × (first.seen ≤ most_targets) × (first.prev ≤ self.nodes) }
         ensures { result ≡ run (m.hypers self.entry.bytes.now self.entry.nodes) k first }
     {
-        let mut one_by_one = 0;
+        let mut alone_until = 0;
         let mut rest = Rest {
             st: first,
             left: k as usize,
@@ -387,9 +391,9 @@ impl<'a> Reading<'a> {
         while 0 < rest.left {
             let st = self.hyper(rest.st)?;
             let left = rest.left - 1;
-            rest = self.onward(st, left, one_by_one);
-            if rest.left == left && one_by_one <= st.at {
-                one_by_one = st.at + NEAR;
+            rest = self.onward(st, left, alone_until);
+            if rest.left == left && alone_until <= st.at {
+                alone_until = st.at + NEAR;
             }
         }
         Ok(rest.st)

@@ -1,4 +1,4 @@
--- `graph::Reading::gather_fours` meets its contract: so far it is the greatest of those that were passed.
+-- `graph::Reading::gather_fours` meets its contract: so far it is the greatest of those that were gathered.
 use Prim.Native.Nat.{◌-◌, ◌≤◌}
 use Rattle.graph.proofs.Near.{SoFar}
 use Rattle.graph.proofs.Reading.gather_fours.Given as goal

@@ -16,8 +16,8 @@ onward-rest-requires c =
     let stay = hypers_stay _ _ _ _ (sym c.in_ok-st.ensures) in
     (stay.0, stay.1, omega (arith, stay.2))
 
-pub overflow_add-one_by_one : goal.overflow_add-one_by_one
-overflow_add-one_by_one c = let stay = hypers_stay _ _ _ _ (sym c.in_ok-st.ensures) in let inside = stay.0 in search rules
+pub overflow_add-alone_until : goal.overflow_add-alone_until
+overflow_add-alone_until c = let stay = hypers_stay _ _ _ _ (sym c.in_ok-st.ensures) in let inside = stay.0 in search rules
 
 -- a turn: one was read by itself, and what is left of those behind it is read as they are
 turn : (c : After-onward-rest) → ReadsAs c.args.self.bytes.now c.args.self.nodes (record { st = c.args.first; left = c.args.k }) c.onward-rest.result
@@ -26,8 +26,8 @@ turn c =
     let so_far = c.loop-rest.invariant in
     (on.0, omega (arith, on.1, so_far.1), on.2 ∙ turn_next _ _ _ _ so_far.2 c.loop-rest-test.true c.in_ok-st.ensures)
 
-pub loop-rest-preserved-then-one_by_one-st : goal.loop-rest-preserved-then-one_by_one-st
-loop-rest-preserved-then-one_by_one-st c = turn (goal.at.loop-rest-preserved-then-one_by_one-st c).After-onward-rest
+pub loop-rest-preserved-then-alone_until-st : goal.loop-rest-preserved-then-alone_until-st
+loop-rest-preserved-then-alone_until-st c = turn (goal.at.loop-rest-preserved-then-alone_until-st c).After-onward-rest
 
 pub loop-rest-preserved : goal.loop-rest-preserved
 loop-rest-preserved c = turn (goal.at.loop-rest-preserved c).After-onward-rest

@@ -11,7 +11,7 @@ returns-then-p-self-2 c =
     let p = c.args.p in
     let n = c.args.self.nodes in
     let both = c.if-p-self-2.true in
-    rw (lt-ltb p.greatest (n * 65536) both.0, lt-ltb p.rest.st.prev n both.1) refl
+    rw (lt-ltb p.most (n * 65536) both.0, lt-ltb p.rest.st.prev n both.1) refl
 
 pub returns-else-p-self-2 : goal.returns-else-p-self-2
 unfolding sound
@@ -21,6 +21,6 @@ returns-else-p-self-2 c =
     elim c.if-p-self.branch [
       | then-p-self w ↦
           let no_node = le-ltb p.rest.st.prev n (omega (arith, c.if-p-self-2.either, w.if-p-self.true)) in
-          rw (lt-ltb p.greatest (n * 65536) w.if-p-self.true, no_node) (w.t-4-is ∙ no_node)
-      | else-p-self w ↦ rw (le-ltb p.greatest (n * 65536) w.if-p-self.false) (w.t-4-is ∙ le-ltb p.greatest (n * 65536) w.if-p-self.false)
+          rw (lt-ltb p.most (n * 65536) w.if-p-self.true, no_node) (w.t-4-is ∙ no_node)
+      | else-p-self w ↦ rw (le-ltb p.most (n * 65536) w.if-p-self.false) (w.t-4-is ∙ le-ltb p.most (n * 65536) w.if-p-self.false)
     ]
