@@ -1,6 +1,7 @@
 -- Laws of graph messages.
 --     Good       what a good reading says of the bytes
 --     Names      tests of many records at once: what passes is read without a fault
+--     Near       hyperedges that are passed together: what passes is read without a fault
 --     Accepted   what an accepted message holds, by position
 --     Answered   the reading from an answer
 --     Fused      a record whose fields pass the tests of the reading is what it gives
@@ -14,6 +15,7 @@
 --     One        one answer of each public function
 pub mod Good
 pub mod Names
+pub mod Near
 pub mod Accepted
 pub mod Answered
 pub mod Fused

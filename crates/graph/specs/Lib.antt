@@ -1,5 +1,6 @@
 -- Definitions: what a graph message holds, the messages of graphs, which graphs are well-formed, the answer of the check, what work on an accepted
--- message relies on (and that it has one proof at most), the graph that a value of `view` holds, tests of many records at once, and where a fault can lie.
+-- message relies on (and that it has one proof at most), the graph that a value of `view` holds, tests of many records at once, hyperedges that are passed
+-- together, and where a fault can lie.
 pub mod Stored
 pub mod Format
 pub mod Message
@@ -11,4 +12,5 @@ pub mod Ready
 pub mod Single
 pub mod Viewed
 pub mod Names
+pub mod Near
 pub mod Located

@@ -1,12 +1,13 @@
 // The check of a graph message: the first fault in the paper's order, or the counts of its header.
 #![tactic(auto)]
 
-ghost use Rattle.std.specs.Prelude.{◌≡◌, ◌+◌, ◌*◌, ◌≤◌, length};
-ghost use Rattle.wire.specs.Bytes.{Bytes};
+ghost use Rattle.std.specs.Prelude.{◌≡◌, ◌+◌, ◌-◌, ◌*◌, ◌/◌, ◌≤◌, length};
+ghost use Rattle.wire.specs.Bytes.{Bytes, number};
 ghost use Rattle.wire.specs.Reader.{one, run};
 ghost use Rattle.graph.specs.Message as m;
 ghost use Rattle.graph.specs.Answers.{checked};
-ghost use Rattle.graph.specs.Names.{target_named, all_named, past_fours, four_width, covers_in_order, covers_to_end};
+ghost use Rattle.graph.specs.Names.{target_named, all_named, past_fours, four_width, fours, covers_in_order, covers_to_end};
+ghost use Rattle.graph.specs.Near.{greatest, gathered, pass, sound, MayRead, ReadsAs};
 ghost use Rattle.graph.specs.Format.{nodes_count, most_targets, hyper_width, node_at, target_width};
 
 mod view;
@@ -70,6 +71,14 @@ pub const TARGET: usize = NODE_AT + 2;
 
 const FOUR: usize = 4 * TARGET;
 
+// How many bytes ahead hyperedges are passed together: at most so much is read twice where one of them is at fault.
+const NEAR: usize = 4096;
+
+// Fewer hyperedges than this are read one by one, and one that has as many targets as this or more is read by itself.
+const FEW: usize = 4;
+
+const MANY: u32 = 32;
+
 // Where the bound and the target of a cover edge stand, and how wide it is.
 pub const COVER_BOUND_AT: usize = 2;
 
@@ -93,6 +102,27 @@ struct Reading<'a> {
     nodes: u32,
     ghost few_nodes: { nodes ≤ nodes_count.most },
     ghost are_bytes: { Bytes bytes.now },
+}
+
+// A reading of hyperedges: where it stands, and how many are left.
+#[derive(Clone, Copy)]
+struct Rest {
+    st: State,
+    left: usize,
+}
+
+// Targets that were gathered: where those behind them start, and the greatest of what was read of them.
+#[derive(Clone, Copy)]
+struct Gathered {
+    at: usize,
+    most: u32,
+}
+
+// Hyperedges that were passed: those behind them, and the greatest of what was read of their targets.
+#[derive(Clone, Copy)]
+struct Passed {
+    rest: Rest,
+    most: u32,
 }
 
 impl<'a> Reading<'a> {
@@ -217,12 +247,156 @@ impl<'a> Reading<'a> {
         })
     }
 
-    // k hyperedges.
+    // The node of a target with the two bytes behind it, which is below n * 65536 exactly when the node is below n.
+    fn both(self, at: usize) -> u32
+        requires { at + node_at + 4 ≤ length self.bytes.now }
+        ensures { result ≡ number 4 self.entry.bytes.now (at + node_at) }
+    {
+        wire::number_at(self.bytes, at + NODE_AT, Width::Four)
+    }
+
+    // The greatest of these of four targets. They are compared in pairs, so that none waits for all that were before it.
+    fn greatest_of_four(self, at: usize) -> u32
+        requires { at + four_width + 2 ≤ length self.bytes.now }
+        ensures { result ≡ greatest self.entry.bytes.now 4 at }
+    {
+        let next = at + TARGET;
+        let after = next + TARGET;
+        let last = after + TARGET;
+        let front = self.both(at).max(self.both(next));
+        let back = self.both(after).max(self.both(last));
+        front.max(back)
+    }
+
+    // All fours of targets that fit are gathered. Each takes one jump, where a test of each target takes four: what jumps cost hangs on where they lie.
+    fn gather_fours(self, from: Gathered, end: usize) -> Gathered
+        requires { (from.at ≤ end) × (end + 2 ≤ length self.bytes.now) }
+        ensures { result ≡ gathered self.entry.bytes.now (fours from.at end * 4) from }
+    {
+        let mut so_far = from;
+        while so_far.at + FOUR <= end {
+            let most = so_far.most.max(self.greatest_of_four(so_far.at));
+            so_far = Gathered {
+                at: so_far.at + FOUR,
+                most,
+            };
+        }
+        so_far
+    }
+
+    // Targets are gathered one by one, up to where they end.
+    fn gather(self, from: Gathered, end: usize) -> Gathered
+        requires { (end ≡ from.at + (end - from.at) / target_width * target_width) × (end + 2 ≤ length self.bytes.now) }
+        ensures { result ≡ gathered self.entry.bytes.now ((end - from.at) / target_width) from }
+    {
+        let mut so_far = from;
+        while so_far.at < end {
+            let most = so_far.most.max(self.both(so_far.at));
+            so_far = Gathered {
+                at: so_far.at + TARGET,
+                most,
+            };
+        }
+        so_far
+    }
+
+    // One hyperedge more is passed, if one is left, it has not many targets, it ends at the last place or before, and its source is not below the
+    // one before.
+    fn pass(self, p: Passed, last: usize) -> Option<Passed>
+        requires { (p.rest.st.at ≤ last) × (last + hyper_width ≤ length self.bytes.now) × (p.rest.st.seen ≤ most_targets + p.rest.st.at) }
+        ensures { result ≡ pass self.entry.bytes.now last p }
+    {
+        let st = p.rest.st;
+        let source = wire::number_at(self.bytes, st.at, Width::Two);
+        let count = wire::number_at(self.bytes, st.at + TARGET_COUNT_AT, Width::Two);
+        let first = st.at + HYPER;
+        let end = first + (count as usize) * TARGET;
+        if p.rest.left == 0 || MANY <= count || last < end || source < st.prev {
+            return None;
+        }
+        let fours = self.gather_fours(
+            Gathered {
+                at: first,
+                most: p.most,
+            },
+            end,
+        );
+        let all = self.gather(fours, end);
+        let past = State {
+            at: all.at,
+            seen: st.seen + (count as usize),
+            prev: source,
+        };
+        Some(Passed {
+            rest: Rest {
+                st: past,
+                left: p.rest.left - 1,
+            },
+            most: all.most,
+        })
+    }
+
+    // Whether those that were passed name nodes alone, and their targets are not too many. Sources do not fall, so the last is the greatest.
+    fn sound(self, p: Passed) -> bool
+        ensures { result ≡ sound self.entry.nodes p }
+    {
+        (p.most as u64) < (self.nodes as u64) * wire::TWO_MORE_LONG
+            && p.rest.st.prev < self.nodes
+            && p.rest.st.seen <= MOST_TARGETS
+    }
+
+    // Passes hyperedges that are near, up to the first that can't be passed, so that what is left reads as all do. None is passed where one of them
+    // names no node or has a target too many. It is not inlined: by itself it has all registers, and its jumps lie where no caller moves them.
+    #[inline(never)]
+    fn near(self, rest: Rest) -> Rest
+        requires { MayRead self.bytes.now self.nodes rest }
+        ensures { ReadsAs self.entry.bytes.now self.entry.nodes rest result }
+    {
+        let at = rest.st.at;
+        let end = self.bytes.len().min(at + NEAR + HYPER);
+        if end < at + HYPER {
+            return rest;
+        }
+        let last = end - HYPER;
+        let mut p = Passed { rest, most: 0 };
+        while let Some(next) = self.pass(p, last) {
+            p = next;
+        }
+        if self.sound(p) { p.rest } else { rest }
+    }
+
+    // What is left behind those that are near, unless few are left or they are to be read one by one up to a place that was not reached.
+    fn onward(self, st: State, left: usize, alone_until: usize) -> Rest
+        requires { (st.at ≤ length self.bytes.now) × (st.seen ≤ most_targets) × (st.prev ≤ self.nodes) }
+        ensures { ReadsAs self.entry.bytes.now self.entry.nodes record { st = st; left = left } result }
+    {
+        if left < FEW || st.at < alone_until {
+            Rest { st, left }
+        } else {
+            self.near(Rest { st, left })
+        }
+    }
+
+    // k hyperedges: one is read by itself, which finds a fault, and those that are near behind it are passed together. Where none could be passed,
+    // as before a fault, those that are near are read one by one.
     fn hypers(self, k: u32, first: State) -> Result<State, Fault>
         requires { (first.at ≤ length self.bytes.now) × (first.seen ≤ most_targets) × (first.prev ≤ self.nodes) }
         ensures { result ≡ run (m.hypers self.entry.bytes.now self.entry.nodes) k first }
     {
-        wire::run(k, first, |st| self.hyper(st))
+        let mut alone_until = 0;
+        let mut rest = Rest {
+            st: first,
+            left: k as usize,
+        };
+        while 0 < rest.left {
+            let st = self.hyper(rest.st)?;
+            let left = rest.left - 1;
+            rest = self.onward(st, left, alone_until);
+            if rest.left == left && alone_until <= st.at {
+                alone_until = st.at + NEAR;
+            }
+        }
+        Ok(rest.st)
     }
 
     // One cover edge: its bytes fit, then its source and its target.

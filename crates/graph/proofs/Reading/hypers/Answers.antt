@@ -1,22 +1,36 @@
--- `graph::Reading::hypers` meets its contract: each begins inside, the targets before it are not too many, and the source before it is at most n.
-use Rattle.std.proofs.Common.{◌≡◌, ◌≤◌, length, arith, rules}
-use Rattle.wire.specs.Read.{Ok}
-use Rattle.wire.specs.Reader.{one}
-use Rattle.wire.proofs.Runs.{may_run, runs_are}
-use Rattle.graph.specs.Format.{most_targets}
-use Rattle.graph.specs.Message as m
+-- `graph::Reading::hypers` meets its contract: what is left is read as all are, and one that is read by itself is a turn of that reading.
+use Rattle.std.proofs.Common.{◌∙◌, sym, rules, arith}
+use Rattle.wire.proofs.Reading as reading
+use Rattle.wire.proofs.Turns.{turn_next, turn_refused, turn_none}
 use Rattle.graph.proofs.Good.{hypers_stay}
+use Rattle.graph.specs.Near.{ReadsAs}
 use Rattle.graph.proofs.Reading.hypers.Goals as goal
+use Rattle.graph.proofs.Reading.hypers.Goals.{After-onward-rest}
 
-pub run-requires : goal.run-requires
-run-requires c =
-    let a = c.args in
-    may_run _ _ (λ k st. (st.at ≤ length a.self.bytes.now) × (st.seen ≤ most_targets) × (st.prev ≤ a.self.nodes))
-    (λ k st in_it. let here = in_it.0 in let few = in_it.1 in let most = in_it.2 in search rules)
-    (λ k st next in_it read.
-    let is : one (m.hypers a.self.bytes.now a.self.nodes) st ≡ Ok next = search rules in
-    let stay = hypers_stay _ _ _ _ is in
-    (stay.0, stay.1, omega (arith, stay.2))) a.k a.first c.requires
+pub returns-in_err-st : goal.returns-in_err-st
+returns-in_err-st c =
+    reading.passed c.from_residual.ensures ∙ turn_refused _ _ _ _ c.loop-rest.invariant.2 c.loop-rest-test.true c.in_err-st.ensures
+
+pub onward-rest-requires : goal.onward-rest-requires
+onward-rest-requires c =
+    let stay = hypers_stay _ _ _ _ (sym c.in_ok-st.ensures) in
+    (stay.0, stay.1, omega (arith, stay.2))
+
+pub overflow_add-alone_until : goal.overflow_add-alone_until
+overflow_add-alone_until c = let stay = hypers_stay _ _ _ _ (sym c.in_ok-st.ensures) in let inside = stay.0 in search rules
+
+-- a turn: one was read by itself, and what is left of those behind it is read as they are
+turn : (c : After-onward-rest) → ReadsAs c.args.self.bytes.now c.args.self.nodes (record { st = c.args.first; left = c.args.k }) c.onward-rest.result
+turn c =
+    let on = c.onward-rest.ensures in
+    let so_far = c.loop-rest.invariant in
+    (on.0, omega (arith, on.1, so_far.1), on.2 ∙ turn_next _ _ _ _ so_far.2 c.loop-rest-test.true c.in_ok-st.ensures)
+
+pub loop-rest-preserved-then-alone_until-st : goal.loop-rest-preserved-then-alone_until-st
+loop-rest-preserved-then-alone_until-st c = turn (goal.at.loop-rest-preserved-then-alone_until-st c).After-onward-rest
+
+pub loop-rest-preserved : goal.loop-rest-preserved
+loop-rest-preserved c = turn (goal.at.loop-rest-preserved c).After-onward-rest
 
 pub returns : goal.returns
-returns c = runs_are (m.hypers c.args.self.bytes.now c.args.self.nodes) (λ st r read. search rules) c.run.ensures
+returns c = turn_none _ _ _ _ c.loop-rest.invariant.2 (omega (arith, c.loop-rest-test.false))
